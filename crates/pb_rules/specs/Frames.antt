@@ -1,0 +1,71 @@
+-- The lines of a log over a frame: which constraint stands under which id.
+use Rattle.std.specs.Prelude.{ℕ, Option, Some, None, ◌≡◌, ◌+◌, List, [], ◌∷◌, ◌++◌, length, All, option_and_then, option_map, if◌then◌else◌}
+use Rattle.std.specs.List.{list_all}
+use Rattle.pb_rules.specs.Linear.{Linear, IsNormal}
+use Rattle.pb_rules.specs.Operations.{line_gives, small_number}
+use Rattle.pb_rules.specs.declared.Op.{Op}
+
+-- a line: the operations of a derived one, or the vector of a cover
+pub data Line : Type 0 where
+  derived : List Op → Line
+  cover : List ℕ → Line
+
+-- base constraints, and the block of each cover by its number, from 1, and its vector
+pub record Frame : Type 0 where
+  pub base : List Linear
+  pub block : ℕ → List ℕ → List Linear
+
+-- a block has one constraint more than its vector has numbers, and all constraints are in normal form
+pub record IsFrame (f : Frame) : Type 0 where
+  pub sized : (b : ℕ) (v : List ℕ) → length (f.block b v) ≡ length v + 1
+  pub base_normal : All (λ c. IsNormal c.terms c.degree) f.base
+  pub block_normal : (b : ℕ) (v : List ℕ) → All (λ c. IsNormal c.terms c.degree) (f.block b v)
+
+-- what lines have given so far: the constraints, the first of which has the id 1, and how many covers there were
+pub record Given : Type 0 where
+  pub constraints : List Linear
+  pub covers : ℕ
+
+abbrev pub base_of : Frame → Given
+base_of f = record { constraints = f.base; covers = 0 }
+
+-- one derived constraint more
+abbrev pub with_derived : Given → Linear → Given
+with_derived g c = record { constraints = g.constraints ++ c ∷ []; covers = g.covers }
+
+-- one block more
+abbrev pub with_block : Frame → Given → List ℕ → Given
+with_block f g v = record { constraints = g.constraints ++ f.block (g.covers + 1) v; covers = g.covers + 1 }
+
+-- after one line more, where it is legal
+abbrev pub given_with : Frame → Given → Line → Option Given
+given_with f g (derived ops) = option_map (with_derived g) (line_gives g.constraints ops)
+given_with f g (cover v) = if list_all small_number v then Some (with_block f g v) else None
+
+-- after lines one by one, where each is legal at its place
+abbrev pub given_from : Frame → Given → List Line → Option Given
+given_from f g [] = Some g
+given_from f g (l ∷ ls) = option_and_then (λ h. given_from f h ls) (given_with f g l)
+
+-- what all lines of a log give, where each is legal
+abbrev pub given_by : Frame → List Line → Option Given
+given_by f ls = given_from f (base_of f) ls
+
+-- how many ids a line takes
+abbrev pub ids_of : Line → ℕ
+ids_of (derived ops) = 1
+ids_of (cover v) = length v + 1
+
+-- the clause of a derived line in front of others
+abbrev pub onto_some : Option Linear → (Linear → List Linear) → List Linear
+onto_some None f = []
+onto_some (Some c) f = c ∷ f c
+
+-- the constraints that the derived lines give, in order; the blocks of covers are left out
+abbrev pub derived_from : Frame → Given → List Line → List Linear
+derived_from f g [] = []
+derived_from f g (derived ops ∷ ls) = onto_some (line_gives g.constraints ops) (λ c. derived_from f (with_derived g c) ls)
+derived_from f g (cover v ∷ ls) = derived_from f (with_block f g v) ls
+
+abbrev pub derived_by : Frame → List Line → List Linear
+derived_by f ls = derived_from f (base_of f) ls

@@ -1,0 +1,10 @@
+pub mod Literal
+pub mod Linear
+pub mod Partial
+pub mod CuttingPlanes
+pub mod Clauses
+pub mod Operations
+pub mod Derivations
+pub mod Frames
+pub mod Honest
+pub mod Order
