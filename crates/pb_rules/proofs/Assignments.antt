@@ -48,8 +48,9 @@ flip-false : (p : ℕ → Option Bool) (l : Literal) (ts : List Term) → p l.va
 flip-false p l ts free i d h f =
     let m : Literal = (get_or ts i d).lit in
     elim (cases_eq m.var l.var) [
-        inl e ↦ absurd (let n = falsifies-none (p m.var) m.yes (ap p e ∙ free) in cc)
-      | inr n ↦ flipped-other p l m n ∙ f ]
+      | inl e ↦ absurd (let n = falsifies-none (p m.var) m.yes (ap p e ∙ free) in cc)
+      | inr n ↦ flipped-other p l m n ∙ f
+    ]
 
 -- making a literal of the terms false takes its coefficient
 pub room-flip : (p : ℕ → Option Bool) (l : Literal) (t : Term) (ts : List Term) (k : ℕ) → p l.var ≡ None → t.lit ≡ l → k < length ts → get_or ts k t ≡ t → open_weight (flipped p l) ts + t.coef ≤ open_weight p ts
@@ -93,16 +94,19 @@ closed-takes p a c l f false_too closed = go (a l.var) refl
   where
     t : Term
     t = record { coef = f.coef; lit = l }
+
     same : (b y : Bool) → b ≢ y → b ≡ not y
     same true true n = absurd (n refl)
     same true false n = refl
     same false true n = refl
     same false false n = absurd (n refl)
+
     bool_cases : (b y : Bool) → (b ≡ y) ⊎ (b ≡ not y)
     bool_cases true true = inl refl
     bool_cases true false = inr refl
     bool_cases false true = inr refl
     bool_cases false false = inl refl
+
     go : (o : Option Bool) → a l.var ≡ o → a l.var ≡ Some l.yes
     go None e =
         let P : Term → Type 0 = λ u. a u.lit.var ≡ None → c.degree + u.coef ≤ open_weight a c.terms in
@@ -111,10 +115,12 @@ closed-takes p a c l f false_too closed = go (a l.var) refl
         let b = f.beyond in
         absurd (omega arith)
     go (Some b) e = elim (bool_cases b l.yes) [
-        inl q ↦ e ∙ ap (λ (w : Bool). Some w) q
+      | inl q ↦ e ∙ ap (λ (w : Bool). Some w) q
       | inr q ↦ absurd (closed-conflict (flipped p l) a c (forced-flip p c l f) (λ i d h z.
-            elim (cases_eq (get_or c.terms i d).lit.var l.var) [
-                inl s ↦ (let m : Literal = (get_or c.terms i d).lit in
-                         let v : a m.var ≡ Some (not l.yes) = ap a s ∙ e ∙ ap (λ (w : Bool). Some w) q in
-                         ap (λ (o : Option Bool). falsifies o m.yes) v ∙ sym (flipped-same p l m s) ∙ z)
-              | inr n ↦ false_too i d h (sym (flipped-other p l (get_or c.terms i d).lit n) ∙ z) ]) closed) ]
+          elim (cases_eq (get_or c.terms i d).lit.var l.var) [
+            | inl s ↦ (let m : Literal = (get_or c.terms i d).lit in
+                let v : a m.var ≡ Some (not l.yes) = ap a s ∙ e ∙ ap (λ (w : Bool). Some w) q in
+                ap (λ (o : Option Bool). falsifies o m.yes) v ∙ sym (flipped-same p l m s) ∙ z)
+            | inr n ↦ false_too i d h (sym (flipped-other p l (get_or c.terms i d).lit n) ∙ z)
+          ]) closed)
+    ]

@@ -86,7 +86,6 @@ weakened cs a done (t ∷ ts) k d st b f n =
         let num : d + w - coef_of t.lit.var (done ++ t ∷ ts) ≡ d + open_weight a ts = rw x.1 (omega arith) in
         rw known (ap (λ us. apply_all cs (weakenings a ts) (R us (d + w - coef_of t.lit.var (done ++ t ∷ ts)))) x.0 ∙ ap (λ m. apply_all cs (weakenings a ts) (R (done ++ ts) m)) num ∙ gone)
 
-
 -- from a constraint in conflict to the clause of its false literals
 pub making_gives : (cs : List Linear) (n id : ℕ) (a : ℕ → Option Bool) (c : Linear) (st : List Linear) → 0 < id → slice_get cs (id - 1) ≡ Some c → Terms 0 n c.terms → c.degree < 2 ^ 63 → open_weight a c.terms < c.degree →
     apply_all cs (clause_ops id a c) st ≡ Some (clause_of n (false_signs a c.terms) ∷ st)

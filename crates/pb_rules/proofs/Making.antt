@@ -31,14 +31,15 @@ Terms-tail k n t ts h = record { from = (h.from).1; within = λ i d l. h.within 
 -- a coefficient between 1 and the divisor becomes 1
 pub up-one : (d m : ℕ) → 1 ≤ m → m ≤ d → up d m ≡ 1
 up-one d m l h = elim (cases_eq m d) [
-    inl e ↦ (let a : d / d ≡ 1 = div-eq_of_lt-le d (omega arith) (omega arith) in
-             let b : d % d ≡ 0 = mod_self d in
-             let P : ℕ → Type 0 = λ x. x / d + min 1 (x % d) ≡ 1 in
-             let e' : d ≡ m = sym e in
-             subst P e' (omega arith))
+  | inl e ↦ (let a : d / d ≡ 1 = div-eq_of_lt-le d (omega arith) (omega arith) in
+      let b : d % d ≡ 0 = mod_self d in
+      let P : ℕ → Type 0 = λ x. x / d + min 1 (x % d) ≡ 1 in
+      let e' : d ≡ m = sym e in
+      subst P e' (omega arith))
   | inr n ↦ (let a : m / d ≡ 0 = div-eq_of_lt (omega arith) in
-             let b : m % d ≡ m = mod-eq_of_lt (omega arith) in
-             omega arith) ]
+      let b : m % d ≡ m = mod-eq_of_lt (omega arith) in
+      omega arith)
+]
 
 signs-none : (a : ℕ → Option Bool) (k : ℕ) (ts : List Term) (x : ℕ) → From k ts → x < k → false_signs a ts x ≡ None
 signs-none a k [] x h l = refl
@@ -67,22 +68,24 @@ making (suc n) k d a (t ∷ ts) p h =
     let N : ℕ → Type 0 = λ m. Terms (k + 1) m ts in
     let bound : k + suc n ≡ (k + 1) + n = omega arith in
     elim (cases_eq t.lit.var k) [
-        inl e ↦ (
+      | inl e ↦ (
           let hit : eqb t.lit.var k ≡ true = grind (arith, nat_tests) in
           let r : Terms (k + 1) (k + suc n) ts = record { from = From-weaker (k + 1) (t.lit.var + 1) ts (omega arith) tail.from; within = tail.within; positive = tail.positive } in
           let ih = making n (k + 1) d a ts p (subst N bound r) in
           let rest : clause_row n (k + 1) (false_signs a (t ∷ ts)) ≡ clause_row n (k + 1) (false_signs a ts) =
-              row-agree n (k + 1) (false_signs a (t ∷ ts)) (false_signs a ts) (λ x l m. (let miss : eqb t.lit.var x ≡ false = grind (arith, nat_tests) in rw miss refl)) in
+          row-agree n (k + 1) (false_signs a (t ∷ ts)) (false_signs a ts) (λ x l m. (let miss : eqb t.lit.var x ≡ false = grind (arith, nat_tests) in rw miss refl)) in
           at-head e hit pos (ih ∙ sym rest))
       | inr ne ↦ (
           let l : k + 1 ≤ t.lit.var = omega arith in
           let r : Terms (k + 1) (k + suc n) (t ∷ ts) = record { from = (l, (h.from).1); within = h.within; positive = h.positive } in
           let ih = making n (k + 1) d a (t ∷ ts) p (subst M bound r) in
           let none : false_signs a (t ∷ ts) k ≡ None = signs-none a (k + 1) (t ∷ ts) k (l, (h.from).1) (omega arith) in
-          ih ∙ sym (ap (λ o. with_literal k o (clause_row n (k + 1) (false_signs a (t ∷ ts)))) none)) ]
+          ih ∙ sym (ap (λ o. with_literal k o (clause_row n (k + 1) (false_signs a (t ∷ ts)))) none))
+    ]
   where
     rest : List Term
     rest = clause_row n (k + 1) (false_signs a (t ∷ ts))
+
     at-head : t.lit.var ≡ k → eqb t.lit.var k ≡ true → 0 < t.coef → map (divided d) (cut d (false_terms a ts)) ≡ clause_row n (k + 1) (false_signs a (t ∷ ts)) → map (divided d) (cut d (false_terms a (t ∷ ts))) ≡ with_literal k (cond (eqb t.lit.var k) (cond (is_false a t.lit) (Some t.lit.yes) None) (false_signs a ts k)) (clause_row n (k + 1) (false_signs a (t ∷ ts)))
     at-head e hit pos ih = rw hit (go (is_false a t.lit))
       where

@@ -21,11 +21,13 @@ joined-cancelled t u s = go (same_sign t.lit.yes u.lit.yes) refl
     go : (b : Bool) → same_sign t.lit.yes u.lit.yes ≡ b → (joined t u s).cancelled ≤ s.cancelled + t.coef
     go true e = rw e (omega arith)
     go false e = elim (cases_eq t.coef u.coef) [
-        inl q ↦ (let a : eqb t.coef u.coef ≡ true = grind (arith, nat_tests) in rw (e, a) (omega arith))
+      | inl q ↦ (let a : eqb t.coef u.coef ≡ true = grind (arith, nat_tests) in rw (e, a) (omega arith))
       | inr n ↦ (let a : eqb t.coef u.coef ≡ false = grind (arith, nat_tests) in
-                 elim (cases_lt t.coef u.coef) [
-                     inl l ↦ (let b : ltb t.coef u.coef ≡ true = grind (arith, nat_tests) in rw (e, a, b) (omega arith))
-                   | inr g ↦ (let b : ltb t.coef u.coef ≡ false = grind (arith, nat_tests) in rw (e, a, b) (omega arith)) ]) ]
+          elim (cases_lt t.coef u.coef) [
+            | inl l ↦ (let b : ltb t.coef u.coef ≡ true = grind (arith, nat_tests) in rw (e, a, b) (omega arith))
+            | inr g ↦ (let b : ltb t.coef u.coef ≡ false = grind (arith, nat_tests) in rw (e, a, b) (omega arith))
+          ])
+    ]
 
 one-cancelled : (t : Term) (f : List Term → Sum) (m : ℕ) → ((us : List Term) → (f us).cancelled ≤ m) → (us : List Term) → (merge_one t f us).cancelled ≤ t.coef + m
 one-cancelled t f m h [] = let a = h [] in omega arith

@@ -83,7 +83,8 @@ resolved-onto s row lost bound bound' k b n one l h =
     record {
       terms = elim one as (λ _. cut 1 (record { coef = n; lit = record { var = k; yes = b } } ∷ s.terms) ≡ literal k b ∷ row) [ inl e ↦ subst P (sym e) refl ∙ ap (λ ts. literal k b ∷ ts) h.terms | inr e ↦ subst P (sym e) refl ∙ ap (λ ts. literal k b ∷ ts) h.terms ];
       cancelled = h.cancelled;
-      small = elim one as (λ _. total (record { coef = n; lit = record { var = k; yes = b } } ∷ s.terms) ≤ bound') [ inl e ↦ omega arith | inr e ↦ omega arith ] }
+      small = elim one as (λ _. total (record { coef = n; lit = record { var = k; yes = b } } ∷ s.terms) ≤ bound') [ inl e ↦ omega arith | inr e ↦ omega arith ];
+    }
 
 pub merge_rows : (n k : ℕ) (f g : ℕ → Option Bool) → IsResolved (merge (clause_row n k f) (clause_row n k g)) (clause_row n k (λ x. resolved (f x) (g x))) (clashes n k f g) (n + n)
 merge_rows zero k f g = record { terms = refl; cancelled = refl; small = omega arith }
@@ -105,10 +106,13 @@ merge_rows (suc n) k f g = go (f k) (g k) (clause_row n (k + 1) f) (clause_row n
       where
         Q : ℕ → Bool → Type 0
         Q l b = IsResolved (record { terms = record { coef = 2; lit = record { var = k; yes = b } } ∷ (merge ts us).terms; cancelled = (merge ts us).cancelled }) (literal k b ∷ both) l (suc n + suc n)
+
         twice : (b : Bool) → Q (0 + lost) b
         twice b = let R : ℕ → Type 0 = λ l. Q l b in subst R (omega arith) (resolved-onto (merge ts us) both lost (n + n) (suc n + suc n) k b 2 (inr refl) (omega arith) r)
+
         gone : IsResolved (record { terms = (merge ts us).terms; cancelled = (merge ts us).cancelled + 1 }) both (1 + lost) (suc n + suc n)
         gone = let m = r.small in let e = r.cancelled in record { terms = r.terms; cancelled = omega arith; small = omega arith }
+
         signs : (a b : Bool) → IsResolved (joined (literal k a) (literal k b) (merge ts us)) (with_literal k (resolved (Some a) (Some b)) both) (clash (Some a) (Some b) + lost) (suc n + suc n)
         signs true true = twice true
         signs true false = gone
@@ -138,11 +142,12 @@ clashes-one zero k p f g l m one h = absurd (omega arith)
 clashes-one (suc n) k p f g l m one h =
     let ih : k + 1 ≤ p → clashes n (k + 1) f g ≡ 1 = λ l'. clashes-one n (k + 1) p f g l' (omega arith) one h in
     elim (cases_eq p k) [
-        inl e ↦ (let none = clashes-none n (k + 1) f g (λ x l. h x (omega arith)) in
-                 let P : ℕ → Type 0 = λ x. clash (f x) (g x) ≡ 1 in
-                 let here : clash (f k) (g k) ≡ 1 = subst P e one in omega arith)
+      | inl e ↦ (let none = clashes-none n (k + 1) f g (λ x l. h x (omega arith)) in
+          let P : ℕ → Type 0 = λ x. clash (f x) (g x) ≡ 1 in
+          let here : clash (f k) (g k) ≡ 1 = subst P e one in omega arith)
       | inr ne ↦ (let none : clash (f k) (g k) ≡ 0 = h k (λ q. ne (sym q)) in
-                  let rest = ih (omega arith) in omega arith) ]
+          let rest = ih (omega arith) in omega arith)
+    ]
 
 pub row-agree : (n k : ℕ) (f g : ℕ → Option Bool) → ((x : ℕ) → k ≤ x → x < k + n → f x ≡ g x) → clause_row n k f ≡ clause_row n k g
 row-agree zero k f g h = refl

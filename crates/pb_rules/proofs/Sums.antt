@@ -33,6 +33,7 @@ joined-weight v t u sum e = go (same_sign t.lit.yes u.lit.yes) refl
   where
     G : Sum → Type 0
     G s = true_weight v s.terms + s.cancelled ≡ part v t + (part v u + (true_weight v sum.terms + sum.cancelled))
+
     go : (b : Bool) → same_sign t.lit.yes u.lit.yes ≡ b → G (joined t u sum)
     go true s =
         let y = alike t.lit.yes u.lit.yes s in
@@ -51,14 +52,14 @@ joined-weight v t u sum e = go (same_sign t.lit.yes u.lit.yes) refl
         let w : Bool = v u.lit.var in
         let at-t : part v t ≡ cond (cond t.lit.yes w (not w)) t.coef 0 = ap (λ (x : ℕ). cond (cond t.lit.yes (v x) (not (v x))) t.coef 0) e in
         elim (cases_eq t.coef u.coef) [
-            inl q ↦ (
+          | inl q ↦ (
               let test : eqb t.coef u.coef ≡ true = grind (arith, nat_tests) in
               let j : joined t u sum ≡ record { terms = sum.terms; cancelled = sum.cancelled + t.coef } = rw (s, test) refl in
               subst G (sym j) (elim (opposite w t.lit.yes u.lit.yes s) [ inl o ↦ omega (arith, o.0 t.coef, o.0 u.coef, o.1 t.coef, o.1 u.coef) | inr o ↦ omega (arith, o.0 t.coef, o.0 u.coef, o.1 t.coef, o.1 u.coef) ]))
           | inr n ↦ (
               let test : eqb t.coef u.coef ≡ false = grind (arith, nat_tests) in
               elim (cases_lt t.coef u.coef) [
-                  inl l ↦ (
+                | inl l ↦ (
                     let test2 : ltb t.coef u.coef ≡ true = grind (arith, nat_tests) in
                     let r : Term = record { coef = u.coef - t.coef; lit = u.lit } in
                     let j : joined t u sum ≡ record { terms = r ∷ sum.terms; cancelled = sum.cancelled + t.coef } = rw (s, test, test2) refl in
@@ -73,12 +74,13 @@ joined-weight v t u sum e = go (same_sign t.lit.yes u.lit.yes) refl
                     let m = minus (lit_true v t.lit) t.coef u.coef in
                     let at-r : part v r ≡ cond (cond t.lit.yes w (not w)) (t.coef - u.coef) 0 = ap (λ (x : ℕ). cond (cond t.lit.yes (v x) (not (v x))) (t.coef - u.coef) 0) e in
                     let m' = minus (cond t.lit.yes w (not w)) t.coef u.coef in
-                    subst G (sym j) (elim (opposite w t.lit.yes u.lit.yes s) [ inl o ↦ omega (arith, o.0 t.coef, o.0 u.coef, o.1 t.coef, o.1 u.coef) | inr o ↦ omega (arith, o.0 t.coef, o.0 u.coef, o.1 t.coef, o.1 u.coef) ])) ]) ]
+                    subst G (sym j) (elim (opposite w t.lit.yes u.lit.yes s) [ inl o ↦ omega (arith, o.0 t.coef, o.0 u.coef, o.1 t.coef, o.1 u.coef) | inr o ↦ omega (arith, o.0 t.coef, o.0 u.coef, o.1 t.coef, o.1 u.coef) ]))
+              ])
+        ]
       where
         minus : (b : Bool) (m n : ℕ) → cond b (m - n) 0 ≡ cond b m 0 - cond b n 0
         minus true m n = refl
         minus false m n = refl
-
 
 merge_one-weight : (v : ℕ → Bool) (t : Term) (f : List Term → Sum) (m : ℕ) → ((us : List Term) → true_weight v (f us).terms + (f us).cancelled ≡ m + true_weight v us) → (us : List Term) → true_weight v (merge_one t f us).terms + (merge_one t f us).cancelled ≡ part v t + m + true_weight v us
 merge_one-weight v t f m h [] = let c = true_weight-cons v t (f []).terms in let g = h [] in omega arith
@@ -87,7 +89,7 @@ merge_one-weight v t f m h (u ∷ us) =
     let c = true_weight-cons v u us in
     let G : Sum → Type 0 = λ s. true_weight v s.terms + s.cancelled ≡ part v t + m + true_weight v (u ∷ us) in
     elim (cases_lt t.lit.var u.lit.var) [
-        inl l ↦ (
+      | inl l ↦ (
           let test : ltb t.lit.var u.lit.var ≡ true = grind (arith, nat_tests) in
           let j : merge_one t f (u ∷ us) ≡ onto t (f (u ∷ us)) = rw test refl in
           let d = true_weight-cons v t (f (u ∷ us)).terms in
@@ -96,7 +98,7 @@ merge_one-weight v t f m h (u ∷ us) =
       | inr g ↦ (
           let test : ltb t.lit.var u.lit.var ≡ false = grind (arith, nat_tests) in
           elim (cases_eq t.lit.var u.lit.var) [
-              inl q ↦ (
+            | inl q ↦ (
                 let test2 : eqb t.lit.var u.lit.var ≡ true = grind (arith, nat_tests) in
                 let j : merge_one t f (u ∷ us) ≡ joined t u (f us) = rw (test, test2) refl in
                 let w = joined-weight v t u (f us) q in
@@ -106,7 +108,9 @@ merge_one-weight v t f m h (u ∷ us) =
                 let test2 : eqb t.lit.var u.lit.var ≡ false = grind (arith, nat_tests) in
                 let j : merge_one t f (u ∷ us) ≡ onto u (merge_one t f us) = rw (test, test2) refl in
                 let d = true_weight-cons v u (merge_one t f us).terms in
-                subst G (sym j) (omega arith)) ]) ]
+                subst G (sym j) (omega arith))
+          ])
+    ]
 
 pub merge-weight : (v : ℕ → Bool) (ts us : List Term) → true_weight v (merge ts us).terms + (merge ts us).cancelled ≡ true_weight v ts + true_weight v us
 merge-weight v [] us = omega arith

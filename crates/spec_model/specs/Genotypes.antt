@@ -1,0 +1,46 @@
+-- The order that a genotype gives the designs, and the first valid one in it.
+use Rattle.std.specs.Prelude.{◌≡◌, ◌≢◌, ℕ, ◌<◌, Bool, false, ◌⊎◌, List, length, slice_index_or, replicate}
+use Rattle.spec_model.specs.Spec.{SpecValue, Bits, design_variables}
+use Rattle.spec_model.specs.Rules.{IsValid}
+
+-- how early a variable stands, and which value it has first
+pub record GeneValue : Type 0 where
+  pub priority : ℕ
+  pub phase : Bool
+
+-- the gene of a variable that isn't named
+abbrev pub plain_gene : GeneValue
+plain_gene = record { priority = 0; phase = false }
+
+abbrev pub gene_at : List GeneValue → ℕ → GeneValue
+gene_at genes v = slice_index_or genes v plain_gene
+
+-- the natural genotype of n variables
+abbrev pub natural : ℕ → List GeneValue
+natural n = replicate n plain_gene
+
+-- variable v stands before w: it has the higher priority, or the same one and the lower number
+abbrev pub StandsBefore : List GeneValue → ℕ → ℕ → Type 0
+StandsBefore genes v w =
+    ((gene_at genes w).priority < (gene_at genes v).priority) ⊎ (((gene_at genes v).priority ≡ (gene_at genes w).priority) × (v < w))
+
+-- the design f is before the design g: at the first variable at which they differ f has the phase
+pub record IsBefore (genes : List GeneValue) (f g : Bits) : Type 0 where
+  pub variable : ℕ
+  pub in_range : variable < length genes
+  pub phase : f variable ≡ (gene_at genes variable).phase
+  pub differ : g variable ≢ f variable
+  pub same : (w : ℕ) → w < length genes → StandsBefore genes w variable → f w ≡ g w
+
+-- the same design: equal at each design variable
+abbrev pub IsSameDesign : SpecValue → Bits → Bits → Type 0
+IsSameDesign s f g = (v : ℕ) → v < design_variables s → f v ≡ g v
+
+-- valid, and before each other valid design
+pub record IsFirstValid (s : SpecValue) (genes : List GeneValue) (f : Bits) : Type 0 where
+  pub valid : IsValid s f
+  pub first : (g : Bits) → IsValid s g → IsSameDesign s f g ⊎ IsBefore genes f g
+
+-- no design is valid
+abbrev pub HasNoValid : SpecValue → Type 0
+HasNoValid s = (f : Bits) → ¬ IsValid s f

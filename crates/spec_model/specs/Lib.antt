@@ -1,0 +1,4 @@
+pub mod Spec
+pub mod Rules
+pub mod Vectors
+pub mod Genotypes
