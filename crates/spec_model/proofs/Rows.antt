@@ -3,8 +3,9 @@ use Rattle.std.proofs.Common.{◌≡◌, ℕ, zero, suc, ◌+◌, ◌<◌, ◌�
 use Rattle.std.specs.List.{list_any}
 use Rattle.std.proofs.lemmas.Bool.{false≢true}
 use Rattle.spec_model.specs.Spec.{Message, Arc, Choice, SpecValue, Bits, Name, empty_spec, arc_at, all_variables, design_variables}
-use Rattle.spec_model.specs.Rules.{Uses, IsCrowded, IsStray, WalkBelow, goes_into, arc_bit, uses_into}
+use Rattle.spec_model.specs.Rules.{of_task, Uses, IsCrowded, IsStray, WalkBelow, goes_into, arc_bit, uses_into}
 use Rattle.spec_model.specs.Vectors.{vector_at, vector_of, weights_of, arc_weight}
+use Rattle.spec_model.specs.WellFormed.{size, message_size}
 use Rattle.spec_model.proofs.Decide.{walk_test, walk_test-from}
 
 abbrev pub arc : ℕ → ℕ → ℕ → Arc
@@ -38,6 +39,10 @@ variables_hub = refl
 
 design_hub : design_variables hub ≡ 16
 design_hub = refl
+
+size_hub : size hub ≡ 266
+unfolding size message_size of_task
+size_hub = refl
 
 -- two parallel one-way links from a to b, and one between c and d: a, b, c, d are resources 0 to 3
 abbrev pub parallel : SpecValue

@@ -2,3 +2,4 @@ pub mod Spec
 pub mod Rules
 pub mod Vectors
 pub mod Genotypes
+pub mod WellFormed

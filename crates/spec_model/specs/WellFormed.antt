@@ -1,0 +1,114 @@
+-- What holds of each specification that the readers accept.
+use Rattle.std.specs.Prelude.{◌≡◌, ℕ, zero, suc, ◌+◌, ◌-◌, ◌*◌, ◌<◌, ◌≤◌, ◌^◌, max, List, length, All, Contains, sum_by, slice_index_or}
+use Rattle.spec_model.specs.Spec.{Name, Message, Arc, Choice, Deadline, SpecValue, option_at, name_at, arc_at, message_at, all_variables}
+use Rattle.spec_model.specs.Rules.{options_of}
+use Rattle.spec_model.specs.Vectors.{weight_in}
+
+-- how many options a task has
+abbrev pub option_count : SpecValue → ℕ → ℕ
+option_count s t = length (options_of s t)
+
+-- how many terms of the encoding a message accounts for, at most
+unfoldable pub message_size : SpecValue → Message → ℕ
+message_size s m =
+    length s.resources * (5 * m.limit + 11)
+    + length s.arcs * (4 * m.limit + 10)
+    + 2 * option_count s m.sender
+    + 3 * sum_by (option_count s) m.receivers
+
+-- a bound on the number of terms of the encoding
+unfoldable pub size : SpecValue → ℕ
+size s = 5 * length s.options + length s.resources + length s.links + sum_by (message_size s) s.messages
+
+-- one of the messages goes from one task to another
+pub record Sends (ms : List Message) (a b : ℕ) : Type 0 where
+  pub message : Message
+  pub there : Contains ms message
+  pub from : message.sender ≡ a
+  pub to : Contains message.receivers b
+
+-- a chain of so many messages from task a to task c
+abbrev pub Chain : List Message → ℕ → ℕ → ℕ → Type 0
+Chain ms zero a c = a ≡ c
+Chain ms (suc n) a c = (b : ℕ) × Sends ms a b × Chain ms n b c
+
+-- a chain of at least one message leads from a task to itself
+pub record HasCycle (ms : List Message) : Type 0 where
+  pub task : ℕ
+  pub more : ℕ
+  pub chain : Chain ms (suc more) task task
+
+-- no two places of a list hold the same
+abbrev pub AreDistinct : {A : Type 0} → List A → Type 0
+AreDistinct {A = A} xs = (i j : ℕ) (d : A) → i < j → j < length xs → slice_index_or xs i d ≡ slice_index_or xs j d → ⊥
+
+-- no two options map one task to one resource
+abbrev pub ArePairsDistinct : List Choice → Type 0
+ArePairsDistinct os = (i j : ℕ) (d : Choice) → i < j → j < length os → (slice_index_or os i d).task ≡ (slice_index_or os j d).task → (slice_index_or os i d).resource ≡ (slice_index_or os j d).resource → ⊥
+
+-- the greatest hop limit that makes a difference: one less than the number of resources
+abbrev pub most_hops : SpecValue → ℕ
+most_hops s = max (length s.resources) 1 - 1
+
+-- an arc's link and ends are there, and its ends differ
+pub record IsArcIn (s : SpecValue) (a : Arc) : Type 0 where
+  pub link : a.link < length s.links
+  pub tail : a.tail < length s.resources
+  pub head : a.head < length s.resources
+  pub apart : a.tail ≡ a.head → ⊥
+
+-- an option's task and resource are there
+pub record IsOptionIn (s : SpecValue) (o : Choice) : Type 0 where
+  pub task : o.task < length s.tasks
+  pub resource : o.resource < length s.resources
+  pub time : o.time ≤ 2 ^ 40
+
+pub record IsMessageIn (s : SpecValue) (m : Message) : Type 0 where
+  pub sender : m.sender < length s.tasks
+  pub receivers : All (λ w. w < length s.tasks) m.receivers
+  pub some_receiver : 0 < length m.receivers
+  pub each_once : AreDistinct m.receivers
+  pub limit : m.limit ≤ most_hops s
+  pub delay : m.delay ≤ 2 ^ 40
+  pub quantity : m.quantity ≤ 2 ^ 40
+
+pub record IsDeadlineIn (s : SpecValue) (d : Deadline) : Type 0 where
+  pub task : d.task < length s.tasks
+  pub time : d.time ≤ 2 ^ 40
+
+-- a row of weights: a number of at most 2^40 for each objective
+pub record IsRow (objectives : ℕ) (row : List ℕ) : Type 0 where
+  pub one_each : length row ≡ objectives
+  pub small : All (λ w. w ≤ 2 ^ 40) row
+
+-- rows of weights, as many as there are items
+pub record AreRows (objectives items : ℕ) (rows : List (List ℕ)) : Type 0 where
+  pub one_each : length rows ≡ items
+  pub each : All (IsRow objectives) rows
+
+pub record IsWellFormed (s : SpecValue) : Type 0 where
+  pub few_tasks : length s.tasks ≤ 1024
+  pub few_messages : length s.messages ≤ 2048
+  pub few_resources : length s.resources ≤ 256
+  pub few_links : length s.links ≤ 1024
+  pub few_options : length s.options ≤ 16384
+  pub few_objectives : length s.objectives ≤ 8
+  pub few_variables : all_variables s ≤ 2 ^ 20
+  pub few_terms : size s ≤ 2 ^ 23
+  pub named : length s.message_names ≡ length s.messages
+  pub tasks_distinct : AreDistinct s.tasks
+  pub messages_distinct : AreDistinct s.message_names
+  pub resources_distinct : AreDistinct s.resources
+  pub links_distinct : AreDistinct s.links
+  pub objectives_distinct : AreDistinct s.objectives
+  pub pairs_distinct : ArePairsDistinct s.options
+  pub arcs_in : All (IsArcIn s) s.arcs
+  pub options_in : All (IsOptionIn s) s.options
+  pub messages_in : All (IsMessageIn s) s.messages
+  pub deadlines_in : All (IsDeadlineIn s) s.deadlines
+  pub option_rows : AreRows (length s.objectives) (length s.options) s.option_weights
+  pub resource_rows : AreRows (length s.objectives) (length s.resources) s.resource_weights
+  pub link_rows : AreRows (length s.objectives) (length s.links) s.link_weights
+  pub traffic_rows : AreRows (length s.objectives) (length s.links) s.traffic_weights
+  pub products : (m a j : ℕ) → m < length s.messages → a < length s.arcs → weight_in s.traffic_weights j (arc_at s a).link * (message_at s m).quantity ≤ 2 ^ 40
+  pub no_cycle : HasCycle s.messages → ⊥
