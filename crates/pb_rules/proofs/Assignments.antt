@@ -1,6 +1,5 @@
-use Rattle.std.proofs.Common.{◌≡◌, ◌≢◌, ℕ, ◌+◌, ◌-◌, ◌<◌, ◌≤◌, Bool, true, false, not, cond, eqb, ltb, Option, Some, None, List, [], ◌∷◌, ◌++◌, length, get_or, take, refl, sym, ap, ◌∙◌, subst, arith, inl, inr, ◌⊎◌, zero, suc}
-use Rattle.std.specs.Prelude.{Contains}
-use Rattle.std.proofs.lemmas.Bool.{cases_eq, cases_lt}
+use Rattle.std.proofs.Common.{◌≡◌, ◌≢◌, ℕ, ◌+◌, ◌<◌, ◌≤◌, Bool, true, false, not, cond, eqb, Option, Some, None, List, [], ◌∷◌, length, get_or, refl, sym, ap, ◌∙◌, subst, arith, inl, inr, ◌⊎◌, zero, suc}
+use Rattle.std.proofs.lemmas.Bool.{cases_eq}
 use Rattle.std.proofs.lemmas.Bool.Decides.{nat_tests}
 use Rattle.std.proofs.lemmas.List.Sums.{sum_by-cons}
 use Rattle.pb_rules.specs.declared.Term.{Term}
@@ -9,7 +8,8 @@ use Rattle.pb_rules.specs.Linear.{Linear}
 use Rattle.pb_rules.specs.Partial.{falsifies, is_false, open_weight, Forces, InConflict, IsClosed}
 use Rattle.pb_rules.specs.Partial.{flipped}
 
-open-cons : (a : ℕ → Option Bool) (t : Term) (ts : List Term) → open_weight a (t ∷ ts) ≡ cond (is_false a t.lit) 0 t.coef + open_weight a ts
+-- the room of one term more
+pub open-cons : (a : ℕ → Option Bool) (t : Term) (ts : List Term) → open_weight a (t ∷ ts) ≡ cond (is_false a t.lit) 0 t.coef + open_weight a ts
 open-cons a t ts = sum_by-cons (λ (t : Term). cond (is_false a t.lit) 0 t.coef) t ts
 
 -- each literal of the terms that is false in p is false in q

@@ -1,18 +1,18 @@
-use Rattle.std.proofs.Common.{◌≡◌, ◌≢◌, ℕ, ◌+◌, ◌-◌, ◌<◌, ◌≤◌, ◌^◌, Bool, true, false, not, cond, eqb, ltb, Option, Some, None, List, [], ◌∷◌, ◌++◌, length, refl, sym, ap, ◌∙◌, subst, arith, inl, inr, ◌⊎◌, zero, suc, map}
+use Rattle.std.proofs.Common.{◌≡◌, ℕ, ◌+◌, ◌-◌, ◌<◌, ◌≤◌, ◌^◌, Bool, true, false, cond, eqb, ltb, Option, Some, None, List, [], ◌∷◌, ◌++◌, length, get_or, refl, sym, ap, ◌∙◌, subst, arith, zero, suc}
 use Rattle.std.specs.Prelude.{option_and_then, slice_get}
 use Rattle.std.proofs.lemmas.Bool.Decides.{nat_tests}
-use Rattle.std.proofs.lemmas.List.{append_assoc, append-nil}
-use Rattle.std.proofs.lemmas.List.Sums.{sum_by-cons}
+use Rattle.std.proofs.lemmas.List.{append_assoc}
 use Rattle.pb_rules.specs.declared.Term.{Term}
 use Rattle.pb_rules.specs.Linear.{Linear, total}
 use Rattle.pb_rules.specs.Partial.{is_false, open_weight}
-use Rattle.pb_rules.specs.CuttingPlanes.{add, cut, divided, divide, saturate, coef_of, other_than, weaken, up}
+use Rattle.pb_rules.specs.CuttingPlanes.{add, saturate, coef_of, up}
 use Rattle.pb_rules.specs.Clauses.{clause_of, clause_row, false_terms, false_signs}
-use Rattle.pb_rules.proofs.Rows.{From, From-weaker, clash, clashes, resolved, resolvent}
+use Rattle.pb_rules.proofs.Assignments.{open-cons}
+use Rattle.pb_rules.proofs.Rows.{From, clashes, resolved, resolvent}
 use Rattle.pb_rules.proofs.Making.{Terms, Below, Below-push, weaken-at, making, up-one}
 use Rattle.pb_rules.specs.declared.Op.{Op}
-use Rattle.pb_rules.specs.declared.Op.TheVariants.{Id, Add, Divide, Saturate, Weaken}
-use Rattle.pb_rules.specs.Operations.{fits, mentions, knows, push_some, apply, apply_all, only_one, line_gives}
+use Rattle.pb_rules.specs.declared.Op.TheVariants.{Add, Divide, Saturate, Weaken}
+use Rattle.pb_rules.specs.Operations.{fits, mentions, knows, may_name, small_number, push_some, apply, apply_all}
 use Rattle.pb_rules.specs.Derivations.{weakenings, clause_ops}
 
 -- operations one after another
@@ -24,10 +24,10 @@ apply_all-append cs (o ∷ os) ps st mid h = go (apply cs o st) h (λ st' q. app
     go None h ih = absurd (cc)
     go (Some st') h ih = ih st' h
 
--- each variable of the terms is known
+-- each variable of the terms may be named
 abbrev pub KnowsAll : List Linear → List Term → Type 0
 KnowsAll cs [] = Unit {0}
-KnowsAll cs (t ∷ ts) = (knows cs t.lit.var ≡ true) × KnowsAll cs ts
+KnowsAll cs (t ∷ ts) = (may_name cs t.lit.var ≡ true) × KnowsAll cs ts
 
 mentions-knows : (cs : List Linear) (i : ℕ) (c : Linear) (x : ℕ) → slice_get cs i ≡ Some c → mentions x c.terms ≡ true → knows cs x ≡ true
 mentions-knows [] i c x h m = absurd (cc)
@@ -41,21 +41,22 @@ mentions-knows (d ∷ cs) (suc i) c x h m = go (mentions x d.terms) (mentions-kn
     go true k = refl
     go false k = k
 
-knows-part : (cs : List Linear) (all ts : List Term) → ((x : ℕ) → mentions x ts ≡ true → knows cs x ≡ true) → KnowsAll cs ts
-knows-part cs all [] h = tt
-knows-part cs all (t ∷ ts) h =
+-- a small variable that is known may be named
+pub named : (cs : List Linear) (x : ℕ) → x < 2 ^ 63 → knows cs x ≡ true → may_name cs x ≡ true
+named cs x l k = let s : small_number x ≡ true = grind (arith, nat_tests) in rw s k
+
+knows-part : (cs : List Linear) (ts : List Term) → ((i : ℕ) (d : Term) → i < length ts → (get_or ts i d).lit.var < 2 ^ 63) → ((x : ℕ) → mentions x ts ≡ true → knows cs x ≡ true) → KnowsAll cs ts
+knows-part cs [] w h = tt
+knows-part cs (t ∷ ts) w h =
     let hit : eqb t.lit.var t.lit.var ≡ true = grind (arith, nat_tests) in
-    (h t.lit.var (rw hit refl), knows-part cs all ts (λ x m. h x (go x (eqb t.lit.var x) m)))
+    (named cs t.lit.var (w 0 t (omega arith)) (h t.lit.var (rw hit refl)), knows-part cs ts (λ i d l. w (suc i) d (omega arith)) (λ x m. h x (go x (eqb t.lit.var x) m)))
   where
     go : (x : ℕ) (b : Bool) → mentions x ts ≡ true → cond b true (mentions x ts) ≡ true
     go x true m = refl
     go x false m = m
 
-pub knows-all : (cs : List Linear) (i : ℕ) (c : Linear) → slice_get cs i ≡ Some c → KnowsAll cs c.terms
-knows-all cs i c h = knows-part cs c.terms c.terms (λ x m. mentions-knows cs i c x h m)
-
-open-cons : (a : ℕ → Option Bool) (t : Term) (ts : List Term) → open_weight a (t ∷ ts) ≡ cond (is_false a t.lit) 0 t.coef + open_weight a ts
-open-cons a t ts = sum_by-cons (λ (t : Term). cond (is_false a t.lit) 0 t.coef) t ts
+pub knows-all : (cs : List Linear) (i : ℕ) (c : Linear) → slice_get cs i ≡ Some c → ((j : ℕ) (d : Term) → j < length c.terms → (get_or c.terms j d).lit.var < 2 ^ 63) → KnowsAll cs c.terms
+knows-all cs i c h w = knows-part cs c.terms w (λ x m. mentions-knows cs i c x h m)
 
 Below-weaker : (j k : ℕ) (ts : List Term) → j ≤ k → Below j ts → Below k ts
 Below-weaker j k [] l h = tt
@@ -80,19 +81,20 @@ weakened cs a done (t ∷ ts) k d st b f n =
         let e' : open_weight a ts ≡ w = omega arith in
         subst R e' (ap (λ us. apply_all cs (weakenings a ts) (P us)) (sym (append_assoc done (t ∷ []) ts)) ∙ kept ∙ ap Q (append_assoc done (t ∷ []) (false_terms a ts)))
     go false w e kept gone =
-        let x = weaken-at done ts t k b f.0 f.1 in
+        let x = weaken-at done ts t k b f.0 in
         let known = n.0 in
         let R : List Term → ℕ → List Linear = λ us m. record { terms = us; degree = m } ∷ st in
         let num : d + w - coef_of t.lit.var (done ++ t ∷ ts) ≡ d + open_weight a ts = rw x.1 (omega arith) in
         rw known (ap (λ us. apply_all cs (weakenings a ts) (R us (d + w - coef_of t.lit.var (done ++ t ∷ ts)))) x.0 ∙ ap (λ m. apply_all cs (weakenings a ts) (R (done ++ ts) m)) num ∙ gone)
 
 -- from a constraint in conflict to the clause of its false literals
-pub making_gives : (cs : List Linear) (n id : ℕ) (a : ℕ → Option Bool) (c : Linear) (st : List Linear) → 0 < id → slice_get cs (id - 1) ≡ Some c → Terms 0 n c.terms → c.degree < 2 ^ 63 → open_weight a c.terms < c.degree →
+pub making_gives : (cs : List Linear) (n id : ℕ) (a : ℕ → Option Bool) (c : Linear) (st : List Linear) → 0 < id → id < 2 ^ 63 → n ≤ 2 ^ 63 → slice_get cs (id - 1) ≡ Some c → Terms 0 n c.terms → c.degree < 2 ^ 63 → open_weight a c.terms < c.degree →
     apply_all cs (clause_ops id a c) st ≡ Some (clause_of n (false_signs a c.terms) ∷ st)
-making_gives cs n id a c st pos here terms small conflict =
+making_gives cs n id a c st pos id-small few here terms small conflict =
     let d : ℕ = c.degree - open_weight a c.terms in
     let not-zero : eqb id 0 ≡ false = grind (arith, nat_tests) in
-    let w = weakened cs a [] c.terms 0 d st tt terms.from (knows-all cs (id - 1) c here) in
+    let id-test : small_number id ≡ true = grind (arith, nat_tests) in
+    let w = weakened cs a [] c.terms 0 d st tt terms.from (knows-all cs (id - 1) c here (λ j e l. (let v = terms.within j e l in omega arith))) in
     let split : c.degree ≡ d + open_weight a c.terms = omega arith in
     let P : ℕ → Type 0 = λ m. apply_all cs (weakenings a c.terms) (record { terms = c.terms; degree = m } ∷ st) ≡ Some (record { terms = false_terms a c.terms; degree = d } ∷ st) in
     let w' : apply_all cs (weakenings a c.terms) (c ∷ st) ≡ Some (record { terms = false_terms a c.terms; degree = d } ∷ st) = subst P (sym split) w in
@@ -106,7 +108,7 @@ making_gives cs n id a c st pos here terms small conflict =
     let Q : List Term → ℕ → Option (List Linear) = λ ts k. Some (record { terms = ts; degree = k } ∷ st) in
     let ends : apply_all cs last (record { terms = false_terms a c.terms; degree = d } ∷ st) ≡ Some (clause_of n (false_signs a c.terms) ∷ st) = rw (d-pos, d-small) (ap (λ ts. Q ts (up d d)) m ∙ ap (Q (clause_row n 0 (false_signs a c.terms))) u) in
     let app = apply_all-append cs (weakenings a c.terms) last (c ∷ st) (record { terms = false_terms a c.terms; degree = d } ∷ st) w' in
-    rw (not-zero, here) (app ∙ ends)
+    rw (not-zero, id-test, here) (app ∙ ends)
 
 -- two clauses on the stack that clash in one variable
 pub resolving_gives : (cs : List Linear) (n : ℕ) (f g : ℕ → Option Bool) (st : List Linear) → n < 2 ^ 62 → clashes n 0 f g ≡ 1 →

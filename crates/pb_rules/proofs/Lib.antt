@@ -5,3 +5,8 @@ pub mod Making
 pub mod Merges
 pub mod Exec
 pub mod Assignments
+pub mod Rooms
+pub mod Closed
+pub mod Sound
+pub mod Given
+pub mod Normal

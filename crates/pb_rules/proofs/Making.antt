@@ -1,14 +1,12 @@
-use Rattle.std.proofs.Common.{◌≡◌, ◌≢◌, ℕ, ◌+◌, ◌-◌, ◌*◌, ◌/◌, ◌%◌, ◌<◌, ◌≤◌, Bool, true, false, not, cond, eqb, ltb, Option, Some, None, List, [], ◌∷◌, ◌++◌, refl, sym, ap, ◌∙◌, subst, arith, inl, inr, ◌⊎◌, zero, suc, map, get_or, length, min}
-use Rattle.std.proofs.lemmas.Bool.{cases_eq, cases_lt}
+use Rattle.std.proofs.Common.{◌≡◌, ℕ, ◌+◌, ◌/◌, ◌%◌, ◌<◌, ◌≤◌, Bool, true, false, cond, eqb, ltb, Option, Some, None, List, [], ◌∷◌, ◌++◌, refl, sym, ap, ◌∙◌, subst, arith, inl, inr, zero, suc, map, get_or, length, min}
+use Rattle.std.proofs.lemmas.Bool.{cases_eq}
 use Rattle.std.proofs.lemmas.Bool.Decides.{nat_tests}
-use Rattle.std.proofs.lemmas.List.Sums.{sum_by-cons}
 use Rattle.std.proofs.Math.Nat.{div-eq_of_lt-le, div-eq_of_lt, mod_self, mod-eq_of_lt}
 use Rattle.pb_rules.specs.declared.Term.{Term}
-use Rattle.pb_rules.specs.Literal.{Literal}
-use Rattle.pb_rules.specs.Linear.{Linear, total, IsNormal}
-use Rattle.pb_rules.specs.Partial.{is_false, open_weight}
-use Rattle.pb_rules.specs.CuttingPlanes.{up, divided, divide, cut, saturate, coef_of, other_than, weaken}
-use Rattle.pb_rules.specs.Clauses.{with_literal, clause_row, clause_of, false_terms, false_signs}
+use Rattle.pb_rules.specs.Linear.{IsNormal}
+use Rattle.pb_rules.specs.Partial.{is_false}
+use Rattle.pb_rules.specs.CuttingPlanes.{up, divided, cut, coef_of, without_var}
+use Rattle.pb_rules.specs.Clauses.{with_literal, clause_row, false_terms, false_signs}
 use Rattle.pb_rules.proofs.Rows.{From, From-weaker, row-agree}
 
 -- what a constraint's terms are from a variable on, up to a bound
@@ -17,7 +15,7 @@ pub record Terms (k n : ℕ) (ts : List Term) : Type 0 where
   pub within : (i : ℕ) (d : Term) → i < length ts → (get_or ts i d).lit.var < n
   pub positive : (i : ℕ) (d : Term) → i < length ts → 0 < (get_or ts i d).coef
 
-rising-from : (k : ℕ) (ts : List Term) → ((d : Term) → 0 < length ts → k ≤ (get_or ts 0 d).lit.var) → ((i j : ℕ) (d : Term) → i < j → j < length ts → (get_or ts i d).lit.var < (get_or ts j d).lit.var) → From k ts
+pub rising-from : (k : ℕ) (ts : List Term) → ((d : Term) → 0 < length ts → k ≤ (get_or ts 0 d).lit.var) → ((i j : ℕ) (d : Term) → i < j → j < length ts → (get_or ts i d).lit.var < (get_or ts j d).lit.var) → From k ts
 rising-from k [] b h = tt
 rising-from k (t ∷ ts) b h =
     (b t (omega arith), rising-from (t.lit.var + 1) ts (λ d l. (let r = h 0 1 d (omega arith) (omega arith) in omega arith)) (λ i j d l m. h (suc i) (suc j) d (omega arith) (omega arith)))
@@ -104,20 +102,13 @@ pub Below-push : (j k : ℕ) (ts : List Term) (t : Term) → j ≤ k → t.lit.v
 Below-push j k [] t l m h = (m, tt)
 Below-push j k (u ∷ ts) t l m h = let a = h.0 in (omega arith, Below-push j k ts t l m h.1)
 
-other-none : (k : ℕ) (ts : List Term) (x : ℕ) → From k ts → x < k → other_than x ts ≡ ts
-other-none k [] x h l = refl
-other-none k (t ∷ ts) x h l =
-    let le = h.0 in
-    let ne : eqb t.lit.var x ≡ false = grind (arith, nat_tests) in
-    rw ne (ap (λ us. t ∷ us) (other-none (t.lit.var + 1) ts x h.1 (omega arith)))
-
 -- weakening on the variable of one term takes it out
-pub weaken-at : (done ts : List Term) (t : Term) (k : ℕ) → Below k done → k ≤ t.lit.var → From (t.lit.var + 1) ts → (other_than t.lit.var (done ++ t ∷ ts) ≡ done ++ ts) × (coef_of t.lit.var (done ++ t ∷ ts) ≡ t.coef)
-weaken-at [] ts t k b l f =
+pub weaken-at : (done ts : List Term) (t : Term) (k : ℕ) → Below k done → k ≤ t.lit.var → (without_var t.lit.var (done ++ t ∷ ts) ≡ done ++ ts) × (coef_of t.lit.var (done ++ t ∷ ts) ≡ t.coef)
+weaken-at [] ts t k b l =
     let hit : eqb t.lit.var t.lit.var ≡ true = grind (arith, nat_tests) in
-    (rw hit (other-none (t.lit.var + 1) ts t.lit.var f (omega arith)), rw hit refl)
-weaken-at (u ∷ done) ts t k b l f =
+    (rw hit refl, rw hit refl)
+weaken-at (u ∷ done) ts t k b l =
     let m = b.0 in
     let miss : eqb u.lit.var t.lit.var ≡ false = grind (arith, nat_tests) in
-    let ih = weaken-at done ts t k b.1 l f in
+    let ih = weaken-at done ts t k b.1 l in
     (rw miss (ap (λ us. u ∷ us) ih.0), rw miss ih.1)

@@ -1,13 +1,14 @@
-use Rattle.std.proofs.Common.{◌≡◌, ◌≢◌, ℕ, ◌+◌, ◌-◌, ◌<◌, ◌≤◌, Bool, true, false, not, cond, eqb, ltb, List, [], ◌∷◌, ◌++◌, refl, sym, ap, ◌∙◌, subst, arith, inl, inr, ◌⊎◌, zero, suc, length, get_or, take, drop, min, map}
+use Rattle.std.proofs.Common.{◌≡◌, ◌≢◌, ℕ, ◌+◌, ◌-◌, ◌<◌, ◌≤◌, Bool, true, false, cond, eqb, ltb, List, [], ◌∷◌, ◌++◌, refl, sym, ap, ◌∙◌, subst, arith, inl, inr, ◌⊎◌, zero, suc, length, get_or, take, drop, min, map}
+use Rattle.std.specs.Prelude.{All}
 use Rattle.std.proofs.lemmas.Bool.{cases_eq, cases_lt}
 use Rattle.std.proofs.lemmas.Bool.Decides.{nat_tests}
 use Rattle.std.proofs.lemmas.List.{take_more, append-nil, take_all, append_assoc, length-drop}
-use Rattle.std.proofs.lemmas.List.Sums.{sum_by-cons}
+use Rattle.std.proofs.lemmas.List.Sums.{sum_by-cons, sum_by_more, sum_by_more_le}
 use Rattle.pb_rules.specs.declared.Term.{Term}
 use Rattle.pb_rules.specs.Linear.{total}
-use Rattle.pb_rules.specs.CuttingPlanes.{Sum, same_sign, onto, joined, merge_one, merge, cut, divided}
+use Rattle.pb_rules.specs.CuttingPlanes.{Sum, same_sign, onto, joined, merge_one, merge, cut, without_var, coef_of}
 
-total-cons : (t : Term) (ts : List Term) → total (t ∷ ts) ≡ t.coef + total ts
+pub total-cons : (t : Term) (ts : List Term) → total (t ∷ ts) ≡ t.coef + total ts
 total-cons t ts = sum_by-cons (λ (t : Term). t.coef) t ts
 
 pub coef-le : (ts : List Term) (i : ℕ) (t : Term) → i < length ts → t ≡ get_or ts i t → t.coef ≤ total ts
@@ -81,16 +82,46 @@ cut-hit d t m e p =
 pub cut-miss : (d : ℕ) (t : Term) (m : ℕ) → m ≡ min t.coef d → m ≤ 0 → cut d (t ∷ []) ≡ []
 cut-miss d t m e p = let test : ltb 0 (min t.coef d) ≡ false = grind (arith, nat_tests) in rw test refl
 
-slice-all : (ts : List Term) (i : ℕ) → take (length ts - i) (drop i ts) ≡ drop i ts
+pub slice-all : (ts : List Term) (i : ℕ) → take (length ts - i) (drop i ts) ≡ drop i ts
 slice-all ts i = take_all (length ts - i) (drop i ts) (omega (arith, length-drop i ts))
 
 pub rest-of : (xs ys : List Term) (i j : ℕ) (out first second : List Term) → first ≡ out ++ take (length xs - i) (drop i xs) → second ≡ first ++ take (length ys - j) (drop j ys) → second ≡ out ++ (drop i xs ++ drop j ys)
 rest-of xs ys i j out first second a b =
     b ∙ ap (λ os. first ++ os) (slice-all ys j) ∙ ap (λ os. os ++ drop j ys) (a ∙ ap (λ os. out ++ os) (slice-all xs i)) ∙ append_assoc out (drop i xs) (drop j ys)
 
-pub divided-more : (d : ℕ) (ts : List Term) (i : ℕ) (t : Term) → i < length ts → t ≡ get_or ts i t → map (divided d) (take (i + 1) ts) ≡ map (divided d) (take i ts) ++ divided d t ∷ []
-divided-more d ts i t h e = ap (map (divided d)) (take_more ts i t h ∙ ap (λ (u : Term). take i ts ++ u ∷ []) (sym e)) ∙ push (take i ts)
+-- terms made one by one, with one more
+pub map-more : (g : Term → Term) (ts : List Term) (i : ℕ) (t : Term) → i < length ts → t ≡ get_or ts i t → map g (take (i + 1) ts) ≡ map g (take i ts) ++ g t ∷ []
+map-more g ts i t h e = ap (map g) (take_more ts i t h ∙ ap (λ (u : Term). take i ts ++ u ∷ []) (sym e)) ∙ push (take i ts)
   where
-    push : (us : List Term) → map (divided d) (us ++ t ∷ []) ≡ map (divided d) us ++ divided d t ∷ []
+    push : (us : List Term) → map g (us ++ t ∷ []) ≡ map g us ++ g t ∷ []
     push [] = refl
-    push (u ∷ us) = ap (λ vs. divided d u ∷ vs) (push us)
+    push (u ∷ us) = ap (λ vs. g u ∷ vs) (push us)
+
+-- the sum so far and the next coefficient
+pub total-more : (ts : List Term) (i : ℕ) (t : Term) → i < length ts → t ≡ get_or ts i t → (total (take (i + 1) ts) ≡ total (take i ts) + t.coef) × (total (take i ts) + t.coef ≤ total ts)
+total-more ts i t h e =
+    let c : t.coef ≡ (get_or ts i t).coef = ap (λ (u : Term). u.coef) e in
+    let a = sum_by_more (λ (t : Term). t.coef) ts i t h in
+    let b = sum_by_more_le (λ (t : Term). t.coef) ts i t h in
+    (omega arith, omega arith)
+
+-- the first term of a variable, found at its place
+pub without-at : (x : ℕ) (ts : List Term) (p : ℕ) (d : Term) → p < length ts → ((k : ℕ) (d : Term) → k < p → (get_or ts k d).lit.var ≢ x) → (get_or ts p d).lit.var ≡ x → (without_var x ts ≡ take p ts ++ drop (p + 1) ts) × (coef_of x ts ≡ (get_or ts p d).coef)
+without-at x [] p d l before at = absurd (omega arith)
+without-at x (t ∷ ts) zero d l before at = let hit : eqb t.lit.var x ≡ true = grind (arith, nat_tests) in (rw hit refl, rw hit refl)
+without-at x (t ∷ ts) (suc p) d l before at =
+    let n = before 0 t (omega arith) in
+    let miss : eqb t.lit.var x ≡ false = grind (arith, nat_tests) in
+    let ih = without-at x ts p d (omega arith) (λ k e q. before (suc k) e (omega arith)) at in
+    let q : suc p + 1 ≡ suc (p + 1) = omega arith in
+    let P : ℕ → Type 0 = λ m. t ∷ without_var x ts ≡ t ∷ (take p ts ++ drop m (t ∷ ts)) in
+    (rw miss (subst P (sym q) (ap (λ us. t ∷ us) ih.0)), rw miss ih.1)
+
+-- where no term has the variable, weakening changes nothing
+pub without-none : (x : ℕ) (ts : List Term) → All (λ t. t.lit.var ≢ x) ts → (without_var x ts ≡ ts) × (coef_of x ts ≡ 0)
+without-none x [] h = (refl, refl)
+without-none x (t ∷ ts) h =
+    let n = h 0 t (omega arith) in
+    let miss : eqb t.lit.var x ≡ false = grind (arith, nat_tests) in
+    let ih = without-none x ts (λ k d l. h (suc k) d (omega arith)) in
+    (rw miss (ap (λ us. t ∷ us) ih.0), rw miss ih.1)

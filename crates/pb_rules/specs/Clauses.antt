@@ -1,7 +1,6 @@
 -- Clauses, as the sign of each variable's literal.
-use Rattle.std.specs.Prelude.{◌≡◌, All, ℕ, Bool, true, false, not, Option, Some, None, ◌+◌, ◌==◌, List, [], ◌∷◌, if◌then◌else◌, zero, suc}
+use Rattle.std.specs.Prelude.{◌≡◌, All, ℕ, Bool, Option, Some, None, ◌+◌, ◌==◌, List, [], ◌∷◌, if◌then◌else◌, zero, suc}
 use Rattle.pb_rules.specs.declared.Term.{Term}
-use Rattle.pb_rules.specs.Literal.{Literal}
 use Rattle.pb_rules.specs.Linear.{Linear, IsNormal}
 use Rattle.pb_rules.specs.Partial.{is_false}
 

@@ -1,8 +1,13 @@
 -- The rules of cutting planes on constraints, without a bound on their numbers (Cook, Coullard and Turán).
-use Rattle.std.specs.Prelude.{ℕ, Bool, true, false, not, ◌+◌, ◌-◌, ◌*◌, ◌/◌, ◌<◌, ◌^◌, ◌==◌, nat_lt, min, List, [], ◌∷◌, map, filter, if◌then◌else◌}
+use Rattle.std.specs.Prelude.{ℕ, Bool, true, false, not, ◌+◌, ◌-◌, ◌*◌, ◌==◌, nat_lt, min, List, [], ◌∷◌, map, if◌then◌else◌}
 use Rattle.std.specs.Int.{div_ceil}
 use Rattle.pb_rules.specs.declared.Term.{Term}
+use Rattle.pb_rules.specs.Literal.{Literal}
 use Rattle.pb_rules.specs.Linear.{Linear}
+
+-- the axiom of a literal, `l >= 0`
+abbrev pub axiom_of : Literal → Linear
+axiom_of l = record { terms = record { coef = 1; lit = l } ∷ []; degree = 0 }
 
 -- terms, and what was cancelled on the way
 pub record Sum : Type 0 where
@@ -77,11 +82,11 @@ abbrev pub coef_of : ℕ → List Term → ℕ
 coef_of x [] = 0
 coef_of x (t ∷ ts) = if t.lit.var == x then t.coef else coef_of x ts
 
--- the terms of all other variables
-abbrev pub other_than : ℕ → List Term → List Term
-other_than x [] = []
-other_than x (t ∷ ts) = if t.lit.var == x then other_than x ts else t ∷ other_than x ts
+-- the terms but that of a variable
+abbrev pub without_var : ℕ → List Term → List Term
+without_var x [] = []
+without_var x (t ∷ ts) = if t.lit.var == x then ts else t ∷ without_var x ts
 
 -- weakening: a variable's term removed, its coefficient taken from the degree
 abbrev pub weaken : ℕ → Linear → Linear
-weaken x a = record { terms = other_than x a.terms; degree = a.degree - coef_of x a.terms }
+weaken x a = record { terms = without_var x a.terms; degree = a.degree - coef_of x a.terms }

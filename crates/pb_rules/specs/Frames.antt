@@ -1,5 +1,5 @@
 -- The lines of a log over a frame: which constraint stands under which id.
-use Rattle.std.specs.Prelude.{ℕ, Option, Some, None, ◌≡◌, ◌+◌, List, [], ◌∷◌, ◌++◌, length, All, option_and_then, option_map, if◌then◌else◌}
+use Rattle.std.specs.Prelude.{ℕ, Bool, true, false, Option, Some, None, ◌≡◌, ◌+◌, ◌-◌, ◌<◌, ◌^◌, slice_get, List, [], ◌∷◌, ◌++◌, length, All, option_and_then, option_map, sum_by, count_by, if◌then◌else◌}
 use Rattle.std.specs.List.{list_all}
 use Rattle.pb_rules.specs.Linear.{Linear, IsNormal}
 use Rattle.pb_rules.specs.Operations.{line_gives, small_number}
@@ -21,11 +21,22 @@ pub record IsFrame (f : Frame) : Type 0 where
   pub base_normal : All (λ c. IsNormal c.terms c.degree) f.base
   pub block_normal : (b : ℕ) (v : List ℕ) → All (λ c. IsNormal c.terms c.degree) (f.block b v)
 
+-- a frame fits a log whose first id this is: the ids below it are those of the base
+abbrev pub FitsFrom : Frame → ℕ → Type 0
+FitsFrom f first = length f.base + 1 ≡ first
+
 -- what lines have given so far: the constraints, the first of which has the id 1, and how many covers there were
 pub record Given : Type 0 where
   pub constraints : List Linear
   pub covers : ℕ
 
+-- a constraint stands under an id, which a line can name
+pub record StandsUnder (cs : List Linear) (id : ℕ) (c : Linear) : Type 0 where
+  pub from_one : 0 < id
+  pub small : id < 2 ^ 63
+  pub there : slice_get cs (id - 1) ≡ Some c
+
+-- before the first line
 abbrev pub base_of : Frame → Given
 base_of f = record { constraints = f.base; covers = 0 }
 
@@ -51,12 +62,35 @@ given_from f g (l ∷ ls) = option_and_then (λ h. given_from f h ls) (given_wit
 abbrev pub given_by : Frame → List Line → Option Given
 given_by f ls = given_from f (base_of f) ls
 
+-- the blocks of covers, after so many covers
+abbrev pub blocks_from : Frame → ℕ → List Line → List Linear
+blocks_from f b [] = []
+blocks_from f b (derived ops ∷ ls) = blocks_from f b ls
+blocks_from f b (cover v ∷ ls) = f.block (b + 1) v ++ blocks_from f (b + 1) ls
+
+-- the blocks of all covers of a log, in order
+abbrev pub blocks_by : Frame → List Line → List Linear
+blocks_by f ls = blocks_from f 0 ls
+
 -- how many ids a line takes
 abbrev pub ids_of : Line → ℕ
 ids_of (derived ops) = 1
 ids_of (cover v) = length v + 1
 
--- the clause of a derived line in front of others
+-- how many ids lines take
+abbrev pub ids_in : List Line → ℕ
+ids_in ls = sum_by ids_of ls
+
+-- whether a line is a derived one
+abbrev pub is_derived : Line → Bool
+is_derived (derived ops) = true
+is_derived (cover v) = false
+
+-- how many derived lines there are
+abbrev pub derived_count : List Line → ℕ
+derived_count ls = count_by is_derived ls
+
+-- the constraint of a derived line in front of others
 abbrev pub onto_some : Option Linear → (Linear → List Linear) → List Linear
 onto_some None f = []
 onto_some (Some c) f = c ∷ f c
@@ -67,5 +101,6 @@ derived_from f g [] = []
 derived_from f g (derived ops ∷ ls) = onto_some (line_gives g.constraints ops) (λ c. derived_from f (with_derived g c) ls)
 derived_from f g (cover v ∷ ls) = derived_from f (with_block f g v) ls
 
+-- the constraints that all derived lines of a log give, in order
 abbrev pub derived_by : Frame → List Line → List Linear
 derived_by f ls = derived_from f (base_of f) ls

@@ -3,7 +3,7 @@ use Rattle.std.specs.Prelude.{ℕ, Bool, Option, None, true, ◌≡◌, ◌≢�
 use Rattle.pb_rules.specs.declared.Term.{Term}
 use Rattle.pb_rules.specs.Linear.{Linear}
 use Rattle.pb_rules.specs.Partial.{is_false, IsClosedFor}
-use Rattle.pb_rules.specs.Clauses.{IsClause, contradiction}
+use Rattle.pb_rules.specs.Clauses.{IsClause}
 
 -- all literals of a clause are false but one, which is unassigned
 pub record LeavesOne (p : ℕ → Option Bool) (c : Linear) : Type 0 where

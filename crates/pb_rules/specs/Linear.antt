@@ -1,8 +1,7 @@
 -- Pseudo-Boolean constraints and their models.
-use Rattle.std.specs.Prelude.{ℕ, Bool, ◌+◌, ◌*◌, ◌<◌, ◌≤◌, ◌^◌, false, List, All, map, sum_by, slice_index_or, length, if◌then◌else◌}
-use Rattle.std.specs.List.{AllAdjacentBelow}
+use Rattle.std.specs.Prelude.{ℕ, Bool, ◌<◌, ◌≤◌, ◌^◌, false, List, All, Contains, sum_by, slice_index_or, length, if◌then◌else◌}
 use Rattle.pb_rules.specs.declared.Term.{Term}
-use Rattle.pb_rules.specs.Literal.{Literal, lit_true}
+use Rattle.pb_rules.specs.Literal.{lit_true}
 
 -- a constraint: the sum of the coefficients of its true literals is at least its degree
 pub record Linear : Type 0 where
@@ -27,6 +26,10 @@ IsModel cs v = All (Holds v) cs
 -- no assignment is a model
 abbrev pub HasNoModel : List Linear → Type 0
 HasNoModel cs = (v : ℕ → Bool) → IsModel cs v → ⊥
+
+-- each constraint of one list stands in another
+abbrev pub AreAmong : List Linear → List Linear → Type 0
+AreAmong cs ds = (c : Linear) → Contains cs c → Contains ds c
 
 -- the assignment that a list of values gives, false past its end
 abbrev pub assignment : List Bool → ℕ → Bool

@@ -2,13 +2,22 @@
 use Rattle.std.specs.Prelude.{ℕ, Bool, true, false, Option, Some, None, ◌-◌, ◌^◌, ◌==◌, nat_lt, List, [], ◌∷◌, if◌then◌else◌, slice_get, option_and_then}
 use Rattle.pb_rules.specs.declared.Term.{Term}
 use Rattle.pb_rules.specs.Linear.{Linear, total}
-use Rattle.pb_rules.specs.CuttingPlanes.{add, times, divide, saturate, weaken}
+use Rattle.pb_rules.specs.CuttingPlanes.{axiom_of, add, times, divide, saturate, weaken}
 use Rattle.pb_rules.specs.declared.Op.{Op}
 use Rattle.pb_rules.specs.declared.Op.TheVariants.{Id, Axiom, Add, Times, Divide, Saturate, Weaken}
 
+-- the number that is too large for a proof: a coefficient sum of 2^63 or more, or else such a degree
+abbrev pub excess : Linear → Option ℕ
+excess a = if nat_lt (total a.terms) (2 ^ 63) then (if nat_lt a.degree (2 ^ 63) then None else Some a.degree) else Some (total a.terms)
+
+-- a result, where no number of it is too large
+abbrev pub unless_too_large : Option ℕ → Linear → Option Linear
+unless_too_large None a = Some a
+unless_too_large (Some n) a = None
+
 -- a result that a proof may have: coefficient sum and degree below 2^63
 abbrev pub fits : Linear → Option Linear
-fits a = if nat_lt (total a.terms) (2 ^ 63) then (if nat_lt a.degree (2 ^ 63) then Some a else None) else None
+fits a = unless_too_large (excess a) a
 
 -- a term has the variable
 abbrev pub mentions : ℕ → List Term → Bool
@@ -25,14 +34,18 @@ abbrev pub push_some : Option Linear → List Linear → Option (List Linear)
 push_some None st = None
 push_some (Some a) st = Some (a ∷ st)
 
--- a number that a line may have in it
+-- a number that a line may have in it: an id, a variable, a factor, a divisor or a number of a cover
 abbrev pub small_number : ℕ → Bool
 small_number n = nat_lt n (2 ^ 63)
 
+-- a variable that an operation may name: a small number, and a constraint that was given has it
+abbrev pub may_name : List Linear → ℕ → Bool
+may_name cs x = if small_number x then knows cs x else false
+
 -- one operation over the constraints given so far and a stack, its top first
 abbrev pub apply : List Linear → Op → List Linear → Option (List Linear)
-apply cs (Id i) st = if i == 0 then None else push_some (slice_get cs (i - 1)) st
-apply cs (Axiom l) st = if knows cs l.var then Some (record { terms = record { coef = 1; lit = l } ∷ []; degree = 0 } ∷ st) else None
+apply cs (Id i) st = if i == 0 then None else (if small_number i then push_some (slice_get cs (i - 1)) st else None)
+apply cs (Axiom l) st = if may_name cs l.var then Some (axiom_of l ∷ st) else None
 apply cs Add [] = None
 apply cs Add (a ∷ []) = None
 apply cs Add (b ∷ a ∷ st) = push_some (fits (add a b)) st
@@ -43,7 +56,7 @@ apply cs (Divide n) (a ∷ st) = if n == 0 then None else (if small_number n the
 apply cs Saturate [] = None
 apply cs Saturate (a ∷ st) = Some (saturate a ∷ st)
 apply cs (Weaken x) [] = None
-apply cs (Weaken x) (a ∷ st) = if knows cs x then Some (weaken x a ∷ st) else None
+apply cs (Weaken x) (a ∷ st) = if may_name cs x then Some (weaken x a ∷ st) else None
 
 -- operations one after another
 abbrev pub apply_all : List Linear → List Op → List Linear → Option (List Linear)

@@ -1,5 +1,5 @@
 -- Partial assignments: conflict, forced literals, closed assignments.
-use Rattle.std.specs.Prelude.{ℕ, Bool, Option, Some, None, not, true, false, ◌≡◌, ◌==◌, ◌+◌, ◌<◌, ◌≤◌, List, [], ◌∷◌, All, Contains, sum_by, if◌then◌else◌}
+use Rattle.std.specs.Prelude.{ℕ, Bool, Option, Some, None, not, true, false, ◌≡◌, ◌==◌, ◌+◌, ◌<◌, ◌≤◌, List, All, Contains, sum_by, if◌then◌else◌}
 use Rattle.pb_rules.specs.declared.Term.{Term}
 use Rattle.pb_rules.specs.Literal.{Literal}
 use Rattle.pb_rules.specs.Linear.{Linear}

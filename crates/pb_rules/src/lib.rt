@@ -5,6 +5,8 @@
 ghost use Rattle.std.specs.Prelude.{◌≡◌, ◌<◌, ◌^◌, true, false};
 ghost use Rattle.pb_rules.specs.Literal.{Literal, opposite_of};
 
+pub mod laws;
+
 use std::marker::Model;
 
 /// A variable or its opposite. Variables count from 0 and are below 2^62.
