@@ -4,3 +4,12 @@ pub mod Back
 pub mod Decide
 pub mod Numbers
 pub mod Rows
+pub mod Pieces
+pub mod VariableWeights
+pub mod InRange
+pub mod Counts
+pub mod Joined
+pub mod Tests
+pub mod Along
+pub mod Sums
+pub mod Chains

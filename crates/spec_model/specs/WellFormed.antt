@@ -32,6 +32,22 @@ abbrev pub Chain : List Message → ℕ → ℕ → ℕ → Type 0
 Chain ms zero a c = a ≡ c
 Chain ms (suc n) a c = (b : ℕ) × Sends ms a b × Chain ms n b c
 
+-- a chain leads from the one task to the other
+pub record Reaches (ms : List Message) (a c : ℕ) : Type 0 where
+  pub hops : ℕ
+  pub chain : Chain ms hops a c
+
+-- a chain leads from one of some tasks to the task
+pub record Leads (ms : List Message) (ws : List ℕ) (c : ℕ) : Type 0 where
+  pub start : ℕ
+  pub among : Contains ws start
+  pub reaches : Reaches ms start c
+
+-- a chain of at least one message leads from the one task to the other
+pub record Follows (ms : List Message) (a c : ℕ) : Type 0 where
+  pub more : ℕ
+  pub chain : Chain ms (suc more) a c
+
 -- a chain of at least one message leads from a task to itself
 pub record HasCycle (ms : List Message) : Type 0 where
   pub task : ℕ
@@ -45,6 +61,10 @@ AreDistinct {A = A} xs = (i j : ℕ) (d : A) → i < j → j < length xs → sli
 -- no two options map one task to one resource
 abbrev pub ArePairsDistinct : List Choice → Type 0
 ArePairsDistinct os = (i j : ℕ) (d : Choice) → i < j → j < length os → (slice_index_or os i d).task ≡ (slice_index_or os j d).task → (slice_index_or os i d).resource ≡ (slice_index_or os j d).resource → ⊥
+
+-- no two arcs of one link leave one resource
+abbrev pub AreArcsDistinct : List Arc → Type 0
+AreArcsDistinct arcs = (i j : ℕ) (d : Arc) → i < j → j < length arcs → (slice_index_or arcs i d).link ≡ (slice_index_or arcs j d).link → (slice_index_or arcs i d).tail ≡ (slice_index_or arcs j d).tail → ⊥
 
 -- the greatest hop limit that makes a difference: one less than the number of resources
 abbrev pub most_hops : SpecValue → ℕ
@@ -91,6 +111,7 @@ pub record IsWellFormed (s : SpecValue) : Type 0 where
   pub few_messages : length s.messages ≤ 2048
   pub few_resources : length s.resources ≤ 256
   pub few_links : length s.links ≤ 1024
+  pub few_arcs : length s.arcs ≤ 2 * length s.links
   pub few_options : length s.options ≤ 16384
   pub few_objectives : length s.objectives ≤ 8
   pub few_variables : all_variables s ≤ 2 ^ 20
@@ -102,6 +123,7 @@ pub record IsWellFormed (s : SpecValue) : Type 0 where
   pub links_distinct : AreDistinct s.links
   pub objectives_distinct : AreDistinct s.objectives
   pub pairs_distinct : ArePairsDistinct s.options
+  pub arcs_distinct : AreArcsDistinct s.arcs
   pub arcs_in : All (IsArcIn s) s.arcs
   pub options_in : All (IsOptionIn s) s.options
   pub messages_in : All (IsMessageIn s) s.messages
