@@ -1,0 +1,4 @@
+pub mod Hub
+pub mod Weights
+pub mod Rising
+pub mod Terms
