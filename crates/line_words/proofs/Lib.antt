@@ -1,0 +1,14 @@
+pub mod Whys
+pub mod Runs
+pub mod Spans
+pub mod Ascii
+pub mod FirstLine
+pub mod Passing
+pub mod Digits
+pub mod Plain
+pub mod Exact
+pub mod Least
+pub mod Unique
+pub mod Steps
+pub mod Answering
+pub mod Collected

@@ -1,0 +1,11 @@
+pub mod Text
+pub mod Word
+pub mod Numbers
+pub mod Decimal
+pub mod Numeral
+pub mod Refused
+pub mod Rules
+pub mod Front
+pub mod Left
+pub mod Run
+pub mod Reads
