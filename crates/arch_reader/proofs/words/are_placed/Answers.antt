@@ -1,0 +1,7 @@
+use Rattle.std.proofs.Common.{ℕ, List, sym, ◌∙◌, Bor}
+use Rattle.std.proofs.lemmas.List.Folds.{list_all-map}
+use Rattle.arch_reader.specs.Words.{is_placed}
+use Rattle.arch_reader.proofs.words.are_placed.Goals as goal
+
+pub returns : goal.returns
+returns c = c.all_placed.ensures ∙ sym (list_all-map is_placed (λ (w : Bor (List ℕ)). w.now) c.args.words.now)

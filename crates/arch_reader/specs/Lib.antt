@@ -1,0 +1,7 @@
+pub mod Words
+pub mod Numbers
+pub mod Shapes
+pub mod Seen
+pub mod Tests
+pub mod Arch
+pub mod Taking

@@ -1,0 +1,287 @@
+-- What a statement is refused for, after what the statements before it declare: one test for each cause.
+use Rattle.std.specs.Prelude.{ℕ, ℤ, List, [], ◌∷◌, ◌++◌, length, Bool, true, false, ◌||◌, ◌&&◌, not, nat_lt, nat_le, Option, Some, None, is_some, find, is_none}
+use Rattle.std.specs.List.{list_any}
+use Rattle.std.specs.Option.{option_map_or}
+use Rattle.std.specs.Str.{bytes_eq}
+use Rattle.line_words.specs.Rules.{Test}
+use Rattle.line_words.specs.declared.refusals.Why.TheVariants.{BadStatement, BadNumber, UnknownName, RepeatedName, SelfLink, NotWhole, TooBig, Limit}
+use Rattle.line_words.specs.declared.refusals.What.TheVariants.{NameBytes, Objectives, Resources, Links}
+use Rattle.arch_reader.specs.Words.{is_arrow, is_reserved, is_table_key}
+use Rattle.arch_reader.specs.Numbers.{is_negative, at_scale, fraction_at, greatest}
+use Rattle.arch_reader.specs.Seen.{scale_or_0}
+use Rattle.arch_reader.specs.declared.statement.KeyAmount.{KeyAmount}
+use Rattle.arch_reader.specs.declared.statement.KeyColumn.{KeyColumn}
+use Rattle.arch_reader.specs.declared.statement.Statement.{Statement}
+use Rattle.arch_reader.specs.declared.statement.Statement.TheVariants.{Objective, Clock, Resource, Link, Traffic, Task, Message, Merge, Map, Table, Quantity, Delay, Deadline}
+use Rattle.arch_reader.specs.declared.seen.Objective.{Objective as Declared}
+use Rattle.arch_reader.specs.declared.seen.Seen.{Seen}
+use Rattle.arch_reader.specs.declared.form.Form.{Form}
+
+-- ---- the parts of a statement
+
+-- the name that a statement declares
+abbrev pub declared_name : Statement → Option (List ℕ)
+declared_name (Objective name scale floor) = Some name
+declared_name (Resource name weights) = Some name
+declared_name (Link name a b two_way weights) = Some name
+declared_name (Task name) = Some name
+declared_name (Message name sender receivers) = Some name
+declared_name (Merge name messages) = Some name
+declared_name s = None
+
+-- its words `OBJ=D`
+abbrev pub weights_of : Statement → List KeyAmount
+weights_of (Resource name weights) = weights
+weights_of (Link name a b two_way weights) = weights
+weights_of (Traffic link weights) = weights
+weights_of (Map task resource time weights) = weights
+weights_of s = []
+
+-- a `table` line's words `KEY=N`
+abbrev pub keys_of : Statement → List KeyColumn
+keys_of (Table name index resource keys weights_at) = keys
+keys_of s = []
+
+-- a `table` line's words `OBJ@N`
+abbrev pub weights_at_of : Statement → List KeyColumn
+weights_at_of (Table name index resource keys weights_at) = weights_at
+weights_at_of s = []
+
+-- its time, delay or deadline, all at the clock's scale
+abbrev pub time_of : Statement → Option ℤ
+time_of (Map task resource time weights) = time
+time_of (Delay message amount) = Some amount
+time_of (Deadline task at) = Some at
+time_of s = None
+
+-- its quantity
+abbrev pub quantity_of : Statement → Option ℤ
+quantity_of (Quantity message amount) = Some amount
+quantity_of s = None
+
+-- its scale
+abbrev pub scale_of : Statement → Option ℕ
+scale_of (Objective name scale floor) = scale
+scale_of (Clock scale floor) = scale
+scale_of s = None
+
+-- ---- shapes
+
+-- a declared name is a mark of the grammar
+abbrev pub has_arrow_name : Statement → Bool
+has_arrow_name s = option_map_or is_arrow (declared_name s) false
+
+-- an objective's name is reserved
+abbrev pub has_reserved_name : Statement → Bool
+has_reserved_name (Objective name scale floor) = is_reserved name
+has_reserved_name s = false
+
+-- a clock after a statement with times
+abbrev pub is_late_clock : Seen → Statement → Bool
+is_late_clock seen (Clock scale floor) = seen.is_timed
+is_late_clock seen s = false
+
+-- ---- numbers below zero
+
+abbrev pub is_negative_weight : KeyAmount → Bool
+is_negative_weight w = is_negative w.amount
+
+abbrev pub has_negative_weight : Statement → Bool
+has_negative_weight s = list_any is_negative_weight (weights_of s)
+
+abbrev pub has_negative_time : Statement → Bool
+has_negative_time s = option_map_or is_negative (time_of s) false
+
+abbrev pub has_negative_quantity : Statement → Bool
+has_negative_quantity s = option_map_or is_negative (quantity_of s) false
+
+-- ---- names
+
+-- a name is among those that are declared
+abbrev pub is_declared : List (List ℕ) → List ℕ → Bool
+is_declared names name = list_any (λ n. bytes_eq n name) names
+
+-- an objective has the name
+abbrev pub is_called : List ℕ → Declared → Bool
+is_called name o = bytes_eq o.name name
+
+-- the objective with a name
+abbrev pub objective_called : List Declared → List ℕ → Option Declared
+objective_called objectives name = find (is_called name) objectives
+
+-- a name that is no objective's
+abbrev pub is_unknown : List Declared → List ℕ → Bool
+is_unknown objectives name = is_none (objective_called objectives name)
+
+abbrev pub is_unknown_weight : List Declared → KeyAmount → Bool
+is_unknown_weight objectives w = is_unknown objectives w.key
+
+abbrev pub is_unknown_key : List Declared → KeyColumn → Bool
+is_unknown_key objectives k = not (is_table_key k.key) && is_unknown objectives k.key
+
+abbrev pub is_unknown_place : List Declared → KeyColumn → Bool
+is_unknown_place objectives k = is_unknown objectives k.key
+
+abbrev pub has_unknown_weight : Seen → Statement → Bool
+has_unknown_weight seen s = list_any (is_unknown_weight seen.objectives) (weights_of s)
+
+abbrev pub has_unknown_key : Seen → Statement → Bool
+has_unknown_key seen s = list_any (is_unknown_key seen.objectives) (keys_of s)
+
+abbrev pub has_unknown_place : Seen → Statement → Bool
+has_unknown_place seen s = list_any (is_unknown_place seen.objectives) (weights_at_of s)
+
+-- a resource or a link that it names isn't declared
+abbrev pub has_unknown_resource : Seen → Statement → Bool
+has_unknown_resource seen (Link name a b two_way weights) = not (is_declared seen.resources a) || not (is_declared seen.resources b)
+has_unknown_resource seen (Map task resource time weights) = not (is_declared seen.resources resource)
+has_unknown_resource seen (Table name index resource keys weights_at) = not (is_declared seen.resources resource)
+has_unknown_resource seen s = false
+
+abbrev pub has_unknown_link : Seen → Statement → Bool
+has_unknown_link seen (Traffic link weights) = not (is_declared seen.links link)
+has_unknown_link seen s = false
+
+-- an objective, a resource or a link is declared a second time
+abbrev pub is_declared_again : Seen → Statement → Bool
+is_declared_again seen (Objective name scale floor) = not (is_unknown seen.objectives name)
+is_declared_again seen (Resource name weights) = is_declared seen.resources name
+is_declared_again seen (Link name a b two_way weights) = is_declared seen.links name
+is_declared_again seen s = false
+
+abbrev pub is_second_clock : Seen → Statement → Bool
+is_second_clock seen (Clock scale floor) = is_some seen.clock
+is_second_clock seen s = false
+
+-- a word has a key
+abbrev pub has_key : {X : Type 0} → (X → List ℕ) → List ℕ → X → Bool
+has_key key name word = bytes_eq (key word) name
+
+-- two words have one key
+abbrev pub has_repeat : {X : Type 0} → (X → List ℕ) → List X → Bool
+has_repeat key [] = false
+has_repeat key (word ∷ words) = list_any (has_key key (key word)) words || has_repeat key words
+
+abbrev pub amount_key : KeyAmount → List ℕ
+amount_key w = w.key
+
+abbrev pub column_key : KeyColumn → List ℕ
+column_key k = k.key
+
+-- A key stands twice among the words with `=`, or among those with `@`. A second `time=` of a `map` line names no
+-- objective, so it is refused for that already.
+abbrev pub has_repeated_weight : Statement → Bool
+has_repeated_weight s = has_repeat amount_key (weights_of s)
+
+abbrev pub has_repeated_key : Statement → Bool
+has_repeated_key s = has_repeat column_key (keys_of s)
+
+abbrev pub has_repeated_place : Statement → Bool
+has_repeated_place s = has_repeat column_key (weights_at_of s)
+
+-- a link from a resource to itself
+abbrev pub is_self_link : Statement → Bool
+is_self_link (Link name a b two_way weights) = bytes_eq a b
+is_self_link s = false
+
+-- ---- values at their scale
+
+-- a weight has a fraction where its objective allows none
+abbrev pub has_fraction_for : ℤ → Declared → Bool
+has_fraction_for amount o = not o.floor && nat_lt 0 (fraction_at o.scale amount)
+
+abbrev pub is_fraction : List Declared → KeyAmount → Bool
+is_fraction objectives w = option_map_or (has_fraction_for w.amount) (objective_called objectives w.key) false
+
+abbrev pub has_fraction : Seen → Statement → Bool
+has_fraction seen s = list_any (is_fraction seen.objectives) (weights_of s)
+
+-- an amount at a scale is above what may stand there
+abbrev pub is_above : ℕ → ℤ → Bool
+is_above scale amount = nat_lt greatest (at_scale scale amount)
+
+abbrev pub is_above_for : ℤ → Declared → Bool
+is_above_for amount o = is_above o.scale amount
+
+abbrev pub is_big_weight : List Declared → KeyAmount → Bool
+is_big_weight objectives w = option_map_or (is_above_for w.amount) (objective_called objectives w.key) false
+
+abbrev pub has_big_weight : Seen → Statement → Bool
+has_big_weight seen s = list_any (is_big_weight seen.objectives) (weights_of s)
+
+abbrev pub has_big_time : Seen → Statement → Bool
+has_big_time seen s = option_map_or (is_above (scale_or_0 seen.clock)) (time_of s) false
+
+abbrev pub has_big_quantity : Statement → Bool
+has_big_quantity s = option_map_or (is_above 0) (quantity_of s) false
+
+abbrev pub has_big_scale : Statement → Bool
+has_big_scale s = nat_lt 12 (scale_or_0 (scale_of s))
+
+-- ---- limits
+
+abbrev pub is_long_name : List ℕ → Bool
+is_long_name name = nat_lt 64 (length name)
+
+abbrev pub has_long_name : Statement → Bool
+has_long_name s = option_map_or is_long_name (declared_name s) false
+
+-- one more objective, resource or link is too many
+abbrev pub is_past_resources : Seen → Statement → Bool
+is_past_resources seen (Resource name weights) = nat_le 256 (length seen.resources)
+is_past_resources seen s = false
+
+abbrev pub is_past_links : Seen → Statement → Bool
+is_past_links seen (Link name a b two_way weights) = nat_le 1024 (length seen.links)
+is_past_links seen s = false
+
+abbrev pub is_past_objectives : Seen → Statement → Bool
+is_past_objectives seen (Objective name scale floor) = nat_le 8 (length seen.objectives)
+is_past_objectives seen s = false
+
+-- ---- all tests, in the order of the refusals' numbers
+
+abbrev pub shape_tests : Seen → Form → List Test
+shape_tests seen f =
+    (BadStatement, has_arrow_name f.statement)
+    ∷ (BadStatement, has_reserved_name f.statement)
+    ∷ (BadStatement, is_late_clock seen f.statement)
+    ∷ (BadNumber, f.misread.bad)
+    ∷ (BadNumber, has_negative_weight f.statement)
+    ∷ (BadNumber, has_negative_time f.statement)
+    ∷ (BadNumber, has_negative_quantity f.statement)
+    ∷ []
+
+abbrev pub name_tests : Seen → Form → List Test
+name_tests seen f =
+    (UnknownName, has_unknown_weight seen f.statement)
+    ∷ (UnknownName, has_unknown_key seen f.statement)
+    ∷ (UnknownName, has_unknown_place seen f.statement)
+    ∷ (UnknownName, has_unknown_resource seen f.statement)
+    ∷ (UnknownName, has_unknown_link seen f.statement)
+    ∷ (RepeatedName, is_declared_again seen f.statement)
+    ∷ (RepeatedName, is_second_clock seen f.statement)
+    ∷ (RepeatedName, has_repeated_weight f.statement)
+    ∷ (RepeatedName, has_repeated_key f.statement)
+    ∷ (RepeatedName, has_repeated_place f.statement)
+    ∷ (SelfLink, is_self_link f.statement)
+    ∷ []
+
+abbrev pub value_tests : Seen → Form → List Test
+value_tests seen f =
+    (NotWhole, has_fraction seen f.statement)
+    ∷ (TooBig, f.misread.big)
+    ∷ (TooBig, has_big_scale f.statement)
+    ∷ (TooBig, has_big_weight seen f.statement)
+    ∷ (TooBig, has_big_time seen f.statement)
+    ∷ (TooBig, has_big_quantity f.statement)
+    ∷ (Limit NameBytes, has_long_name f.statement)
+    ∷ (Limit Resources, is_past_resources seen f.statement)
+    ∷ (Limit Links, is_past_links seen f.statement)
+    ∷ (Limit Objectives, is_past_objectives seen f.statement)
+    ∷ []
+
+-- a line of no form is refused; one that has a form is tried
+abbrev pub tests : Seen → Option Form → List Test
+tests seen None = (BadStatement, true) ∷ []
+tests seen (Some f) = shape_tests seen f ++ (name_tests seen f ++ value_tests seen f)

@@ -1,0 +1,85 @@
+//! What the statements so far declare.
+
+ghost use Rattle.std.specs.Prelude.{◌≡◌, [], OnOk};
+ghost use Rattle.arch_reader.specs.Seen.{scale_or_0, seen, after};
+
+use crate::lists::{Items, Name};
+use crate::numbers::name_of;
+use crate::statement::Statement;
+use std::alloc::{AllocError, Global};
+
+/// An objective: its scale, and whether the fractions of its weights are cut off.
+#[derive(Debug, Drop)]
+pub struct Objective {
+    pub name: Name,
+    pub scale: u64,
+    pub floor: bool,
+}
+
+/// What statements declare: their objectives, resources and links, the scale of their clock, and
+/// whether one of them has times, so that no clock may follow.
+#[derive(Debug, Drop)]
+pub struct Seen {
+    pub objectives: Items<Objective>,
+    pub resources: Items<Name>,
+    pub links: Items<Name>,
+    pub clock: Option<u64>,
+    pub is_timed: bool,
+}
+
+/// A scale that isn't written is 0.
+pub(crate) fn scale_or_0(scale: Option<u64>) -> u64
+    ensures { result ≡ scale_or_0 scale }
+{
+    match scale {
+        Some(scale) => scale,
+        None => 0,
+    }
+}
+
+impl Seen {
+    /// What no statement declares.
+    pub(crate) fn none(alloc: Global) -> Seen
+        ensures { result ≡ seen [] }
+    {
+        Seen {
+            objectives: Items::of(Vec::new(alloc)),
+            resources: Items::of(Vec::new(alloc)),
+            links: Items::of(Vec::new(alloc)),
+            clock: None,
+            is_timed: false,
+        }
+    }
+
+    /// Adds what one more statement declares.
+    pub(crate) fn add(&mut self, alloc: Global, statement: &Statement) -> Result<(), AllocError>
+        ensures { OnOk result (self.new ≡ after self.old statement.now) }
+    {
+        match statement {
+            Statement::Objective { name, scale, floor } => {
+                let objective = Objective {
+                    name: name_of(alloc, name.list())?,
+                    scale: scale_or_0(*scale),
+                    floor: *floor,
+                };
+                self.objectives.push(objective)
+            }
+            Statement::Resource { name, .. } => self.resources.push(name_of(alloc, name.list())?),
+            Statement::Link { name, .. } => self.links.push(name_of(alloc, name.list())?),
+            Statement::Clock { scale, .. } => {
+                if self.clock.is_none() {
+                    self.clock = Some(scale_or_0(*scale));
+                }
+                Ok(())
+            }
+            Statement::Map { .. }
+            | Statement::Table { .. }
+            | Statement::Delay { .. }
+            | Statement::Deadline { .. } => {
+                self.is_timed = true;
+                Ok(())
+            }
+            _ => Ok(()),
+        }
+    }
+}
