@@ -1,0 +1,6 @@
+mod Reading
+mod Growing
+mod Adding
+mod Walking
+mod Mapped
+mod Finishing

@@ -1,0 +1,26 @@
+-- The lists of a specification, as the code's types hold them.
+use Rattle.std.specs.Prelude.{ℕ, List, map}
+use Rattle.spec_model.specs.Spec.{Message, Arc as ArcValue, Choice as ChoiceValue}
+use Rattle.spec_graph.specs.declared.numbers.TaskNo.{TaskNo}
+use Rattle.spec_graph.specs.declared.numbers.Arc.{Arc}
+use Rattle.spec_graph.specs.declared.numbers.Choice.{Choice}
+
+-- the number of a task
+abbrev pub task_number : TaskNo → ℕ
+task_number t = t.0
+
+abbrev pub arc_value : Arc → ArcValue
+arc_value a = record { link = a.link.0; tail = a.tail.0; head = a.head.0 }
+
+abbrev pub choice_value : Choice → ChoiceValue
+choice_value c = record { task = c.task.0; resource = c.resource.0; time = c.time }
+
+-- a message between tasks with these numbers
+abbrev pub message_of : TaskNo → List TaskNo → ℕ → ℕ → ℕ → Message
+message_of sender receivers hops delay quantity = record {
+  sender = sender.0;
+  receivers = map task_number receivers;
+  limit = hops;
+  delay = delay;
+  quantity = quantity;
+}

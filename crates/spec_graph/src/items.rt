@@ -1,0 +1,177 @@
+//! The calls of a builder that add objectives, tasks, resources, options and deadlines.
+
+ghost use Rattle.std.specs.Prelude.{◌≡◌, ◌<◌, ◌++◌, ◌∷◌, [], ◌↔◌, IsTrue, length, map, Any, IfOk, OnOk, IfErr, OnErr};
+ghost use Rattle.spec_graph.specs.Lists.{choice_value};
+ghost use Rattle.spec_graph.specs.Refusals.{IsBig, IsOfPair, IsObjectiveRefused, IsObjectiveAccepted, IsTaskRefused, IsTaskAccepted, IsResourceRefused, IsResourceAccepted, IsOptionRefused, IsOptionAccepted, IsDeadlineRefused};
+
+use crate::builder::SpecBuilder;
+use crate::faults::BuildFault;
+use crate::numbers::{Choice, OptNo, ResNo, TaskNo};
+use crate::rows::{Deadline, MAX_NUMBER, Weights, has_big};
+use line_words::What;
+
+const MAX_OBJECTIVES: usize = 8;
+
+const MAX_TASKS: usize = 1024;
+
+const MAX_RESOURCES: usize = 256;
+
+const MAX_OPTIONS: usize = 16384;
+
+/// Whether an option is of the task on the resource.
+fn is_of_pair(option: &Choice, task: TaskNo, resource: ResNo) -> bool
+    ensures { IsTrue result ↔ IsOfPair task.0 resource.0 (choice_value option.now) }
+{
+    if option.task.0 != task.0 {
+        return false;
+    }
+    option.resource.0 == resource.0
+}
+
+/// Whether the task is mapped to the resource.
+fn is_mapped(options: &[Choice], task: TaskNo, resource: ResNo) -> bool
+    ensures { IsTrue result ↔ Any (IsOfPair task.0 resource.0) (map choice_value options.now) }
+{
+    for option in options {
+        if is_of_pair(option, task, resource) {
+            return true;
+        }
+    }
+    false
+}
+
+impl SpecBuilder {
+    /// Adds a task.
+    ///
+    /// Refused as `Repeated` where its name is declared, and as `Limit` where there are 1,024 tasks.
+    pub fn task(&mut self, name: &str) -> Result<TaskNo, BuildFault>
+        ensures number { IfOk result (λ t. t.0 ≡ length self.old.tasks) }
+        ensures added { OnOk result (self.new ≡ record self.old { tasks = self.old.tasks ++ name.now ∷ [] }) }
+        ensures accepted { OnOk result (IsTaskAccepted self.old name.now) }
+        ensures refused { IfErr result (IsTaskRefused self.old name.now) }
+        ensures unchanged { OnErr result (self.new ≡ self.old) }
+    {
+        if self.tasks.contains(name) {
+            return Err(BuildFault::Repeated);
+        }
+        let number = self.tasks.len();
+        if number >= MAX_TASKS {
+            return Err(BuildFault::Limit(What::Tasks));
+        }
+        self.order.make_room(self.alloc, number + 1)?;
+        let number = self.tasks.add(self.alloc, name)?;
+        Ok(TaskNo(number as u32))
+    }
+
+    /// Adds a resource with its weights, one for each objective.
+    ///
+    /// Refused as `Repeated` where its name is declared, as `TooBig` where a weight is above 2^40, and as `Limit` where
+    /// there are 256 resources.
+    pub fn resource(&mut self, name: &str, weights: &[u64]) -> Result<ResNo, BuildFault>
+        requires { length weights.now ≡ length self.old.objectives }
+        ensures number { IfOk result (λ r. r.0 ≡ length self.old.resources) }
+        ensures added { OnOk result (self.new ≡ record self.old { resources = self.old.resources ++ name.now ∷ []; resource_weights = self.old.resource_weights ++ weights.now ∷ [] }) }
+        ensures accepted { OnOk result (IsResourceAccepted self.old name.now weights.now) }
+        ensures refused { IfErr result (IsResourceRefused self.old name.now weights.now) }
+        ensures unchanged { OnErr result (self.new ≡ self.old) }
+    {
+        if self.resources.contains(name) {
+            return Err(BuildFault::Repeated);
+        }
+        if has_big(weights) {
+            return Err(BuildFault::TooBig);
+        }
+        if self.resources.len() >= MAX_RESOURCES {
+            return Err(BuildFault::Limit(What::Resources));
+        }
+        let weights = Weights::of(self.alloc, weights)?;
+        self.resource_weights.reserve(1)?;
+        let number = self.resources.add(self.alloc, name)?;
+        self.resource_weights.push_reserved(weights);
+        Ok(ResNo(number as u32))
+    }
+
+    /// Adds an option of a task on a resource, with the time that the task takes there and its weights, one for each
+    /// objective.
+    ///
+    /// Refused as `Repeated` where the task is mapped to the resource already, as `TooBig` where the time or a weight
+    /// is above 2^40, and as `Limit` where there are 16,384 options.
+    pub fn option(
+        &mut self,
+        task: TaskNo,
+        resource: ResNo,
+        time: u64,
+        weights: &[u64],
+    ) -> Result<OptNo, BuildFault>
+        requires task_there { task.0 < length self.old.tasks }
+        requires resource_there { resource.0 < length self.old.resources }
+        requires one_each { length weights.now ≡ length self.old.objectives }
+        ensures number { IfOk result (λ o. o.0 ≡ length self.old.options) }
+        ensures added { OnOk result (self.new ≡ record self.old { options = self.old.options ++ record { task = task.0; resource = resource.0; time = time } ∷ []; option_weights = self.old.option_weights ++ weights.now ∷ [] }) }
+        ensures accepted { OnOk result (IsOptionAccepted self.old (record { task = task.0; resource = resource.0; time = time }) weights.now) }
+        ensures refused { IfErr result (IsOptionRefused self.old (record { task = task.0; resource = resource.0; time = time }) weights.now) }
+        ensures unchanged { OnErr result (self.new ≡ self.old) }
+    {
+        if is_mapped(&self.options, task, resource) {
+            return Err(BuildFault::Repeated);
+        }
+        if time > MAX_NUMBER {
+            return Err(BuildFault::TooBig);
+        }
+        if has_big(weights) {
+            return Err(BuildFault::TooBig);
+        }
+        let number = self.options.len();
+        if number >= MAX_OPTIONS {
+            return Err(BuildFault::Limit(What::Options));
+        }
+        let weights = Weights::of(self.alloc, weights)?;
+        self.option_weights.reserve(1)?;
+        self.options.push(Choice {
+            task,
+            resource,
+            time,
+        })?;
+        self.option_weights.push_reserved(weights);
+        Ok(OptNo(number as u32))
+    }
+
+    /// Adds an objective. Objectives stand before all that has weights.
+    ///
+    /// Refused as `Repeated` where its name is declared, and as `Limit` where there are 8 objectives.
+    pub fn objective(&mut self, name: &str) -> Result<(), BuildFault>
+        requires no_resource { length self.old.resources ≡ 0 }
+        requires no_link { length self.old.links ≡ 0 }
+        requires no_option { length self.old.options ≡ 0 }
+        ensures added { OnOk result (self.new ≡ record self.old { objectives = self.old.objectives ++ name.now ∷ [] }) }
+        ensures accepted { OnOk result (IsObjectiveAccepted self.old name.now) }
+        ensures refused { IfErr result (IsObjectiveRefused self.old name.now) }
+        ensures unchanged { OnErr result (self.new ≡ self.old) }
+    {
+        if self.objectives.contains(name) {
+            return Err(BuildFault::Repeated);
+        }
+        if self.objectives.len() >= MAX_OBJECTIVES {
+            return Err(BuildFault::Limit(What::Objectives));
+        }
+        self.objectives.add(self.alloc, name)?;
+        Ok(())
+    }
+
+    /// Adds a deadline: the task is to be done by this time.
+    ///
+    /// Refused as `TooBig` where the time is above 2^40.
+    pub fn deadline(&mut self, task: TaskNo, at: u64) -> Result<(), BuildFault>
+        requires { task.0 < length self.old.tasks }
+        ensures added { OnOk result (self.new ≡ record self.old { deadlines = self.old.deadlines ++ record { task = task.0; time = at } ∷ [] }) }
+        ensures accepted { OnOk result (¬ IsBig at) }
+        ensures refused { IfErr result (IsDeadlineRefused at) }
+        ensures unchanged { OnErr result (self.new ≡ self.old) }
+    {
+        if at > MAX_NUMBER {
+            return Err(BuildFault::TooBig);
+        }
+        self.deadlines.push(Deadline { task, time: at })?;
+        Ok(())
+    }
+}

@@ -1,0 +1,22 @@
+//! A specification as lists of tasks, messages, resources, links and options, and the builder that makes one.
+#![tactic(auto)]
+
+mod builder;
+mod faults;
+mod finish;
+mod items;
+mod links;
+mod lookups;
+mod messages;
+mod numbers;
+mod products;
+mod rows;
+mod sending;
+mod spec;
+mod sums;
+
+pub use builder::SpecBuilder;
+pub use faults::BuildFault;
+pub use line_words::What;
+pub use numbers::{Arc, ArcNo, Choice, LinkNo, MsgNo, OptNo, ResNo, TaskNo};
+pub use spec::Spec;

@@ -1,0 +1,384 @@
+//! A whole specification, and what can be read of it.
+
+ghost use Rattle.std.specs.Prelude.{◌≡◌, ◌<◌, ◌≤◌, ◌+◌, ◌*◌, ◌^◌, length, map, Contains, MatchOption};
+ghost use Rattle.spec_model.specs.Spec.{name_at, message_at, arc_at, option_at, deadline_at, arc_var, resource_var, link_var, design_variables, all_variables};
+ghost use Rattle.spec_model.specs.WellFormed.{IsWellFormed, size};
+ghost use Rattle.spec_model.specs.Vectors.{weight, arc_weight};
+ghost use Rattle.names.specs.Names.{IsNumberOf};
+ghost use Rattle.spec_graph.specs.Lists.{task_number};
+
+use crate::messages::Message;
+use crate::numbers::{Arc, ArcNo, Choice, LinkNo, MsgNo, OptNo, ResNo, TaskNo};
+use crate::rows::{Deadline, Weights, weight_in};
+use names::Names;
+use std::marker::Model;
+
+/// A specification, in which each number names an item that is there and each count is within its limit. No reader
+/// takes memory.
+#[derive(Drop)]
+pub struct Spec {
+    pub(crate) tasks: Names,
+    pub(crate) message_names: Names,
+    pub(crate) messages: Vec<Message>,
+    pub(crate) resources: Names,
+    pub(crate) links: Names,
+    pub(crate) arcs: Vec<Arc>,
+    pub(crate) options: Vec<Choice>,
+    pub(crate) deadlines: Vec<Deadline>,
+    pub(crate) objectives: Names,
+    pub(crate) option_weights: Vec<Weights>,
+    pub(crate) resource_weights: Vec<Weights>,
+    pub(crate) link_weights: Vec<Weights>,
+    pub(crate) traffic_weights: Vec<Weights>,
+    pub(crate) variables: u64,
+    pub(crate) terms: u64,
+}
+
+impl Model for Spec {
+    ghost use Rattle.spec_model.specs.Spec.{SpecValue};
+
+    ghost Value = { SpecValue };
+
+    ghost use Rattle.spec_graph.specs.Finished.{spec_of, HoldsSpec};
+
+    ghost view = { spec_of };
+
+    ghost invariant = { HoldsSpec };
+}
+
+impl Spec {
+    /// What holds of each specification.
+    pub fn facts(&self)
+        ensures { IsWellFormed self.now }
+    {
+        let _ = &self.tasks;
+    }
+
+    /// How many tasks there are.
+    pub fn tasks(&self) -> usize
+        ensures count { result ≡ length self.now.tasks }
+        ensures few { result ≤ 1024 }
+    {
+        self.tasks.len()
+    }
+
+    /// How many messages there are.
+    pub fn messages(&self) -> usize
+        ensures count { result ≡ length self.now.messages }
+        ensures few { result ≤ 2048 }
+    {
+        self.messages.len()
+    }
+
+    /// How many resources there are.
+    pub fn resources(&self) -> usize
+        ensures count { result ≡ length self.now.resources }
+        ensures few { result ≤ 256 }
+    {
+        self.resources.len()
+    }
+
+    /// How many links there are.
+    pub fn links(&self) -> usize
+        ensures count { result ≡ length self.now.links }
+        ensures few { result ≤ 1024 }
+    {
+        self.links.len()
+    }
+
+    /// How many arcs there are.
+    pub fn arcs(&self) -> usize
+        ensures count { result ≡ length self.now.arcs }
+        ensures few { result ≤ 2048 }
+    {
+        self.arcs.len()
+    }
+
+    /// How many options there are.
+    pub fn options(&self) -> usize
+        ensures count { result ≡ length self.now.options }
+        ensures few { result ≤ 16384 }
+    {
+        self.options.len()
+    }
+
+    /// How many objectives there are.
+    pub fn objectives(&self) -> usize
+        ensures count { result ≡ length self.now.objectives }
+        ensures few { result ≤ 8 }
+    {
+        self.objectives.len()
+    }
+
+    /// How many deadlines there are.
+    pub fn deadlines(&self) -> usize
+        ensures { result ≡ length self.now.deadlines }
+    {
+        self.deadlines.len()
+    }
+
+    /// How many variables a design has.
+    pub fn design_variables(&self) -> u64
+        ensures count { result ≡ design_variables self.now }
+        ensures few { result ≤ 2 ^ 20 }
+    {
+        self.facts();
+        let uses = self.messages() as u64 * self.arcs() as u64;
+        self.options() as u64 + uses + self.resources() as u64 + self.links() as u64
+    }
+
+    /// How many variables the encoding has.
+    pub fn all_variables(&self) -> u64
+        ensures count { result ≡ all_variables self.now }
+        ensures few { result ≤ 2 ^ 20 }
+    {
+        self.variables
+    }
+
+    /// A bound on the number of terms of the encoding.
+    pub fn size(&self) -> u64
+        ensures count { result ≡ size self.now }
+        ensures few { result ≤ 2 ^ 23 }
+    {
+        self.terms
+    }
+
+    /// The name of a task.
+    pub fn task_name(&self, t: TaskNo) -> &str
+        requires { t.0 < length self.now.tasks }
+        ensures { result.now ≡ name_at self.now.tasks t.0 }
+    {
+        self.tasks.at(t.0 as usize)
+    }
+
+    /// The name of a message.
+    pub fn message_name(&self, m: MsgNo) -> &str
+        requires { m.0 < length self.now.messages }
+        ensures { result.now ≡ name_at self.now.message_names m.0 }
+    {
+        self.message_names.at(m.0 as usize)
+    }
+
+    /// The name of a resource.
+    pub fn resource_name(&self, r: ResNo) -> &str
+        requires { r.0 < length self.now.resources }
+        ensures { result.now ≡ name_at self.now.resources r.0 }
+    {
+        self.resources.at(r.0 as usize)
+    }
+
+    /// The name of a link.
+    pub fn link_name(&self, l: LinkNo) -> &str
+        requires { l.0 < length self.now.links }
+        ensures { result.now ≡ name_at self.now.links l.0 }
+    {
+        self.links.at(l.0 as usize)
+    }
+
+    /// The name of an objective.
+    pub fn objective_name(&self, j: usize) -> &str
+        requires { j < length self.now.objectives }
+        ensures { result.now ≡ name_at self.now.objectives j }
+    {
+        self.objectives.at(j)
+    }
+
+    /// The task of a name.
+    pub fn find_task(&self, name: &str) -> Option<TaskNo>
+        ensures { MatchOption result (Contains self.now.tasks name.now → ⊥) (λ t. IsNumberOf self.now.tasks name.now t.0) }
+    {
+        match self.tasks.find(name) {
+            Some(i) => Some(TaskNo(i as u32)),
+            None => None,
+        }
+    }
+
+    /// The message of a name.
+    pub fn find_message(&self, name: &str) -> Option<MsgNo>
+        ensures { MatchOption result (Contains self.now.message_names name.now → ⊥) (λ m. IsNumberOf self.now.message_names name.now m.0) }
+    {
+        match self.message_names.find(name) {
+            Some(i) => Some(MsgNo(i as u32)),
+            None => None,
+        }
+    }
+
+    /// The resource of a name.
+    pub fn find_resource(&self, name: &str) -> Option<ResNo>
+        ensures { MatchOption result (Contains self.now.resources name.now → ⊥) (λ r. IsNumberOf self.now.resources name.now r.0) }
+    {
+        match self.resources.find(name) {
+            Some(i) => Some(ResNo(i as u32)),
+            None => None,
+        }
+    }
+
+    /// The link of a name.
+    pub fn find_link(&self, name: &str) -> Option<LinkNo>
+        ensures { MatchOption result (Contains self.now.links name.now → ⊥) (λ l. IsNumberOf self.now.links name.now l.0) }
+    {
+        match self.links.find(name) {
+            Some(i) => Some(LinkNo(i as u32)),
+            None => None,
+        }
+    }
+
+    /// The task that sends a message.
+    pub fn sender(&self, m: MsgNo) -> TaskNo
+        requires { m.0 < length self.now.messages }
+        ensures sender { result.0 ≡ (message_at self.now m.0).sender }
+        ensures there { result.0 < length self.now.tasks }
+    {
+        let message = &self.messages[m.0 as usize];
+        message.sender
+    }
+
+    /// The tasks that receive a message, in the order in which they are listed.
+    pub fn receivers(&self, m: MsgNo) -> &[TaskNo]
+        requires { m.0 < length self.now.messages }
+        ensures { map task_number result.now ≡ (message_at self.now m.0).receivers }
+    {
+        let message = &self.messages[m.0 as usize];
+        message.receivers.as_slice()
+    }
+
+    /// The greatest number of hops of a message's route: the stated limit, or one less than the number of resources
+    /// where that is less.
+    pub fn hop_limit(&self, m: MsgNo) -> u64
+        requires { m.0 < length self.now.messages }
+        ensures limit { result ≡ (message_at self.now m.0).limit }
+        ensures small { result < 256 }
+    {
+        let message = &self.messages[m.0 as usize];
+        message.hops
+    }
+
+    /// The time that a message takes for a hop.
+    pub fn delay(&self, m: MsgNo) -> u64
+        requires { m.0 < length self.now.messages }
+        ensures delay { result ≡ (message_at self.now m.0).delay }
+        ensures small { result ≤ 2 ^ 40 }
+    {
+        let message = &self.messages[m.0 as usize];
+        message.delay
+    }
+
+    /// How much a message carries.
+    pub fn quantity(&self, m: MsgNo) -> u64
+        requires { m.0 < length self.now.messages }
+        ensures quantity { result ≡ (message_at self.now m.0).quantity }
+        ensures small { result ≤ 2 ^ 40 }
+    {
+        let message = &self.messages[m.0 as usize];
+        message.quantity
+    }
+
+    /// An arc, with its link, its tail and its head.
+    pub fn arc(&self, a: ArcNo) -> Arc
+        requires { a.0 < length self.now.arcs }
+        ensures link { result.link.0 ≡ (arc_at self.now a.0).link }
+        ensures tail { result.tail.0 ≡ (arc_at self.now a.0).tail }
+        ensures head { result.head.0 ≡ (arc_at self.now a.0).head }
+        ensures link_there { result.link.0 < length self.now.links }
+        ensures tail_there { result.tail.0 < length self.now.resources }
+        ensures head_there { result.head.0 < length self.now.resources }
+    {
+        self.arcs[a.0 as usize]
+    }
+
+    /// An option, with its task, its resource and its time.
+    pub fn option(&self, o: OptNo) -> Choice
+        requires { o.0 < length self.now.options }
+        ensures task { result.task.0 ≡ (option_at self.now o.0).task }
+        ensures resource { result.resource.0 ≡ (option_at self.now o.0).resource }
+        ensures time { result.time ≡ (option_at self.now o.0).time }
+        ensures task_there { result.task.0 < length self.now.tasks }
+        ensures resource_there { result.resource.0 < length self.now.resources }
+        ensures small { result.time ≤ 2 ^ 40 }
+    {
+        self.options[o.0 as usize]
+    }
+
+    /// A deadline: its task and its time.
+    pub fn deadline(&self, i: usize) -> (TaskNo, u64)
+        requires { i < length self.now.deadlines }
+        ensures task { result.0.0 ≡ (deadline_at self.now i).task }
+        ensures time { result.1 ≡ (deadline_at self.now i).time }
+        ensures there { result.0.0 < length self.now.tasks }
+        ensures small { result.1 ≤ 2 ^ 40 }
+    {
+        let deadline = self.deadlines[i];
+        (deadline.task, deadline.time)
+    }
+
+    /// The variable of an arc for a message.
+    pub fn arc_variable(&self, m: MsgNo, a: ArcNo) -> u64
+        requires message_there { m.0 < length self.now.messages }
+        requires arc_there { a.0 < length self.now.arcs }
+        ensures variable { result ≡ arc_var self.now m.0 a.0 }
+        ensures there { result < design_variables self.now }
+    {
+        self.options() as u64 + m.0 as u64 * self.arcs() as u64 + a.0 as u64
+    }
+
+    /// The variable of a resource.
+    pub fn resource_variable(&self, r: ResNo) -> u64
+        requires { r.0 < length self.now.resources }
+        ensures variable { result ≡ resource_var self.now r.0 }
+        ensures there { result < design_variables self.now }
+    {
+        let uses = self.messages() as u64 * self.arcs() as u64;
+        self.options() as u64 + uses + r.0 as u64
+    }
+
+    /// The variable of a link.
+    pub fn link_variable(&self, l: LinkNo) -> u64
+        requires { l.0 < length self.now.links }
+        ensures variable { result ≡ link_var self.now l.0 }
+        ensures there { result < design_variables self.now }
+    {
+        let uses = self.messages() as u64 * self.arcs() as u64;
+        self.options() as u64 + uses + self.resources() as u64 + l.0 as u64
+    }
+
+    /// The weight that an objective gives an arc for a message: the traffic weight of its link times what the message
+    /// carries.
+    fn arc_weight(&self, j: usize, m: MsgNo, a: ArcNo) -> u64
+        requires message_there { m.0 < length self.now.messages }
+        requires arc_there { a.0 < length self.now.arcs }
+        ensures weight { result ≡ arc_weight self.now j m.0 a.0 }
+        ensures small { result ≤ 2 ^ 40 }
+    {
+        let link = self.arc(a).link;
+        weight_in(&self.traffic_weights, j, link.0 as usize) * self.quantity(m)
+    }
+
+    /// The weight that an objective gives a design variable.
+    pub fn weight(&self, j: usize, variable: u64) -> u64
+        requires objective_there { j < length self.now.objectives }
+        requires variable_there { variable < design_variables self.now }
+        ensures weight { result ≡ weight self.now j variable }
+        ensures small { result ≤ 2 ^ 40 }
+    {
+        let options = self.options() as u64;
+        if variable < options {
+            return weight_in(&self.option_weights, j, variable as usize);
+        }
+        let after = variable - options;
+        let arcs = self.arcs() as u64;
+        let uses = self.messages() as u64 * arcs;
+        if after < uses {
+            return self.arc_weight(
+                j,
+                MsgNo((after / arcs) as u32),
+                ArcNo((after % arcs) as u32),
+            );
+        }
+        let after = after - uses;
+        let resources = self.resources() as u64;
+        if after < resources {
+            return weight_in(&self.resource_weights, j, after as usize);
+        }
+        weight_in(&self.link_weights, j, (after - resources) as usize)
+    }
+}
