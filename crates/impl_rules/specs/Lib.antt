@@ -1,0 +1,5 @@
+pub mod Bytes
+pub mod Least
+pub mod Routes
+pub mod Allocation
+pub mod Broken
