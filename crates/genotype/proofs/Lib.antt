@@ -1,0 +1,7 @@
+pub mod Placing
+pub mod Stating
+pub mod Going
+pub mod Spelling
+pub mod Indexed
+pub mod Firsts
+pub mod Written

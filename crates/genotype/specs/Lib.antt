@@ -1,0 +1,5 @@
+pub mod Genes
+pub mod Order
+pub mod Placing
+pub mod Statements
+pub mod Spelling
