@@ -1,0 +1,4 @@
+pub mod SignedSums
+pub mod NormalForm
+pub mod Groups
+pub mod Sets

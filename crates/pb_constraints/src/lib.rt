@@ -1,11 +1,24 @@
-//! Pseudo-Boolean constraints in normal form.
+//! Pseudo-Boolean constraints in normal form: the value that the encoding writes and that the solver and the
+//! checker read.
+//!
+//! A constraint asks that the coefficients of its true literals come to at least its degree. [`Constraint`] keeps
+//! normal form in its type: positive coefficients, one term per variable in rising order, coefficient sum and degree
+//! below 2^63. [`normalise`] makes one of any signed sum, and [`Set`] is a list of them over numbered variables.
+//! What a constraint means is defined in `pb_rules`, in whole numbers from zero; only `normalise` needs signed ones.
 #![tactic(auto)]
 
-ghost use Rattle.std.specs.Prelude.{◌≡◌, ◌<◌, ◌≤◌, ◌^◌, ◌↔◌, IsTrue, not, length, true, false, IfOk, List};
-ghost use Rattle.pb_rules.specs.Literal.{Literal, opposite_of};
+ghost use Rattle.std.specs.Prelude.{◌≡◌, ◌↔◌, IsTrue, length, IfOk};
 ghost use Rattle.pb_rules.specs.Linear.{Linear, Holds, assignment, VarsBelow, IsNormal};
 
+mod groups;
+mod normal;
+mod parts;
+mod set;
+
+pub use normal::{NormalFault, normalise};
+pub use parts::Part;
 pub use pb_rules::{Lit, Term};
+pub use set::Set;
 use std::alloc::{AllocError, Global};
 use std::marker::Model;
 
@@ -31,6 +44,7 @@ impl Model for Constraint {
 }
 
 impl Constraint {
+    /// The terms, by rising variables.
     pub fn terms(&self) -> &[Term]
         ensures value { result.now ≡ self.now.terms }
         ensures normal { IsNormal self.now.terms self.now.degree }
@@ -38,6 +52,7 @@ impl Constraint {
         self.terms.as_slice()
     }
 
+    /// What the coefficients of the true literals have to come to.
     pub fn degree(&self) -> u64
         ensures value { result ≡ self.now.degree }
         ensures normal { IsNormal self.now.terms self.now.degree }
@@ -45,7 +60,7 @@ impl Constraint {
         self.degree
     }
 
-    /// The constraint of these terms.
+    /// The constraint of terms and a degree that are in normal form already.
     pub fn of_normal(terms: Vec<Term>, degree: u64) -> Constraint
         requires { IsNormal terms.items degree }
         ensures value { result ≡ record { terms = terms.items; degree = degree } }
@@ -53,7 +68,7 @@ impl Constraint {
         Constraint { terms, degree }
     }
 
-    /// A copy.
+    /// A copy. It is refused only for want of memory.
     pub fn copy(&self, alloc: Global) -> Result<Constraint, AllocError>
         ensures { IfOk result (λ c. c ≡ self.now) }
     {
@@ -65,7 +80,7 @@ impl Constraint {
     }
 }
 
-/// Whether the sum of the coefficients of the true literals reaches the degree.
+/// Whether a constraint holds under an assignment, which has the value of each of its variables.
 pub fn holds_under(c: &Constraint, values: &[bool]) -> bool
     requires { VarsBelow (length values.now) c.now.terms }
     ensures { IsTrue result ↔ Holds (assignment values.now) c.now }
@@ -78,4 +93,99 @@ pub fn holds_under(c: &Constraint, values: &[bool]) -> bool
         }
     }
     sum >= c.degree()
+}
+
+#[cfg(test)]
+mod tests {
+    use super::*;
+    use std::process::Abort;
+    use std::test::Fail;
+
+    fn part(coef: i64, lit: Lit) -> Part {
+        Part { coef, lit }
+    }
+
+    fn term(coef: u64, lit: Lit) -> Term {
+        Term { coef, lit }
+    }
+
+    /// The normal form is that of these terms and degree, or there is none for its size.
+    fn gives(
+        rt: &impl Abort,
+        alloc: Global,
+        parts: &[Part],
+        degree: i64,
+        want: Option<(&[Term], u64)>,
+    ) {
+        match (normalise(alloc, parts, degree), want) {
+            (Ok(c), Some((terms, degree))) => {
+                assert_eq!(rt; c.terms(), terms);
+                assert_eq!(rt; c.degree(), degree);
+            }
+            (Err(fault), None) => assert_eq!(rt; fault, NormalFault::TooLarge),
+            _ => panic!(rt; "the other answer"),
+        }
+    }
+
+    #[test]
+    fn normal_forms(rt: HostRuntime) {
+        let alloc = rt.alloc();
+        let (x0, x1) = (Lit::yes(0), Lit::yes(1));
+        let most = i64::MAX;
+        let most_kept = 9_223_372_036_854_775_807u64;
+        let rows = [part(-2, x0), part(3, x1)];
+        gives(
+            &rt,
+            alloc,
+            &rows,
+            1,
+            Some((&[term(2, x0.opposite()), term(3, x1)], 3)),
+        );
+        let partly = [part(1, x1), part(2, x0), part(3, x0.opposite())];
+        gives(
+            &rt,
+            alloc,
+            &partly,
+            2,
+            Some((&[term(1, x0.opposite()), term(1, x1)], 0)),
+        );
+        let wholly = [part(2, x0.opposite()), part(2, x0)];
+        gives(&rt, alloc, &wholly, 5, Some((&[], 3)));
+        gives(&rt, alloc, &wholly, 1, Some((&[], 0)));
+        gives(
+            &rt,
+            alloc,
+            &[part(most, x0)],
+            0,
+            Some((&[term(most_kept, x0)], 0)),
+        );
+        gives(&rt, alloc, &[part(most, x0), part(1, x1)], 0, None);
+        let one = [part(-1, x0)];
+        gives(
+            &rt,
+            alloc,
+            &one,
+            most - 1,
+            Some((&[term(1, x0.opposite())], most_kept)),
+        );
+        gives(&rt, alloc, &one, most, None);
+    }
+
+    #[test]
+    fn sets(rt: HostRuntime) -> Result<(), Fail> {
+        let alloc = rt.alloc();
+        let mut set = Set::new(alloc, 2);
+        let c = normalise(alloc, &[part(-2, Lit::yes(0)), part(3, Lit::yes(1))], 1)?;
+        assert!(rt; c.terms().iter().all(|t| t.lit.var() < 2));
+        set.add(c.copy(alloc)?)?;
+        assert_eq!(rt; set.constraints().len(), 1);
+        for (values, want) in [
+            ([false, false], false),
+            ([true, true], true),
+            ([false, true], true),
+        ] {
+            assert_eq!(rt; holds_under(&set.constraints()[0], &values), want);
+        }
+        Ok(())
+    }
 }

@@ -1,0 +1,6 @@
+use Rattle.std.proofs.Common.{◌≡◌, take, sum_by}
+use Rattle.pb_constraints.specs.Groups.{magnitude}
+use Rattle.pb_constraints.proofs.groups.coefficients.Given as goal
+
+abbrev pub invariant-loop-g : goal.invariant-loop-g
+invariant-loop-g l = l.sum ≡ sum_by magnitude (take l.g-index l.groups)
