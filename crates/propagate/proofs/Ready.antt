@@ -1,0 +1,122 @@
+-- The conditions of `attach` and `run` are kept by each of the calls on propagator, store and trail.
+use Rattle.std.proofs.Common.{◌≡◌, ◌≢◌, ℕ, Bool, true, cond, eqb, Option, Some, None, List, [], ◌∷◌, ◌++◌, get_or, zero, suc, refl, sym, ap, ◌∙◌, subst, inl, inr, ◌⊎◌, IsTrue}
+use Rattle.std.proofs.lemmas.Bool.{cases_eq}
+use Rattle.pb_constraints.specs.declared.ConId.{ConId}
+use Rattle.pb_rules.specs.Linear.{Linear}
+use Rattle.constraint_store.specs.Live.{Live, is_live, constraint_of, without, content, Content, new_id, IsOneToOne, IsRenaming}
+use Rattle.constraint_store.proofs.Laws.{is_live_added, live_at_added, live_at_removed, live_at_renamed}
+use Rattle.trail_state.specs.Trail.{TrailView}
+use Rattle.propagate.specs.declared.attached.Attached.{Attached}
+use Rattle.propagate.specs.Attached.{attached_at, ChangesOnly, IsMoved}
+use Rattle.propagate.specs.Propagator.{PropagatorView, IsCounted, IsReady}
+use Rattle.propagate.proofs.Attaching.{same_id}
+
+abbrev other_number : (c d : ConId) → d.0 ≢ c.0 → d ≢ c
+other_number c d n z = n (ap (λ (b : ConId). b.0) z)
+
+same-constraint : (j k : Linear) → Some j ≡ Some k → j ≡ k
+same-constraint j k e = cc
+
+-- a new propagator fits every store and every trail of its variables
+pub ready-new : (store : List Live) (t : TrailView) → IsReady (record { variables = t.variables; attached = []; counted = [] }) store t
+ready-new store t = record { variables = refl; live = λ c k h. absurd (cc); stored = λ c k h. absurd (cc); counted = refl }
+
+-- after attaching a constraint of the store
+pub ready-attach : (p q : PropagatorView) (store : List Live) (t : TrailView) (c : ConId) → IsReady p store t → IsTrue (is_live store c) → ChangesOnly p.attached q.attached c (Some (constraint_of store c)) → q.variables ≡ p.variables → IsCounted q t → IsReady q store t
+ready-attach p q store t c r live change variables counted = record {
+  variables = variables ∙ r.variables;
+  live = λ d k h. elim (cases_eq d.0 c.0) [
+    | inl e ↦ (let P : ConId → Type 0 = λ b. IsTrue (is_live store b) in subst P (sym (same_id d c e)) live)
+    | inr n ↦ r.live d k (sym (change.others d (other_number c d n)) ∙ h)
+  ];
+  stored = λ d k h. elim (cases_eq d.0 c.0) [
+    | inl e ↦ (let a : attached_at q.attached d ≡ Some (constraint_of store c) = ap (attached_at q.attached) (same_id d c e) ∙ change.here in
+        ap (constraint_of store) (same_id d c e) ∙ same-constraint (constraint_of store c) k (sym a ∙ h))
+    | inr n ↦ r.stored d k (sym (change.others d (other_number c d n)) ∙ h)
+  ];
+  counted = counted;
+}
+
+-- over another trail of as many variables that goes on from the counted literals, as after `run` or `back`
+pub ready-trail : (p q : PropagatorView) (store : List Live) (t u : TrailView) → IsReady p store t → q.attached ≡ p.attached → q.variables ≡ p.variables → u.variables ≡ t.variables → IsCounted q u → IsReady q store u
+ready-trail p q store t u r attached variables same counted = record {
+  variables = variables ∙ r.variables ∙ sym same;
+  live = λ c k h. r.live c k (ap (λ (held : List Attached). attached_at held c) (sym attached) ∙ h);
+  stored = λ c k h. r.stored c k (ap (λ (held : List Attached). attached_at held c) (sym attached) ∙ h);
+  counted = counted;
+}
+
+-- after one more constraint in the store
+pub ready-add : (p : PropagatorView) (store : List Live) (t : TrailView) (e : Live) → IsReady p store t → IsReady p (store ++ e ∷ []) t
+ready-add p store t e r = record {
+  variables = r.variables;
+  live = λ c k h. is_live_added store e c ∙ ap (λ (b : Bool). cond b true (eqb e.id.0 c.0)) (r.live c k h);
+  stored = λ c k h. ap (λ (x : Live). x.constraint) (live_at_added store e c (r.live c k h)) ∙ r.stored c k h;
+  counted = r.counted;
+}
+
+-- after a constraint was detached and then removed from the store
+pub ready-remove : (p q : PropagatorView) (store : List Live) (t : TrailView) (c : ConId) → IsReady p store t → ChangesOnly p.attached q.attached c None → q.variables ≡ p.variables → IsCounted q t → IsReady q (without c store) t
+ready-remove p q store t c r change variables counted = record {
+  variables = variables ∙ r.variables;
+  live = λ d k h. elim (cases_eq d.0 c.0) [
+    | inl e ↦ absurd (gone d k h e)
+    | inr n ↦ (live_at_removed store c d n).0 ∙ r.live d k (before d k h n)
+  ];
+  stored = λ d k h. elim (cases_eq d.0 c.0) [
+    | inl e ↦ absurd (gone d k h e)
+    | inr n ↦ ap (λ (x : Live). x.constraint) (live_at_removed store c d n).1 ∙ r.stored d k (before d k h n)
+  ];
+  counted = counted;
+}
+  where
+    gone : (d : ConId) (k : Linear) → attached_at q.attached d ≡ Some k → d.0 ≡ c.0 → ⊥
+    gone d k h e = (let none : attached_at q.attached d ≡ None = ap (attached_at q.attached) (same_id d c e) ∙ change.here in absurd (cc))
+
+    before : (d : ConId) (k : Linear) → attached_at q.attached d ≡ Some k → d.0 ≢ c.0 → attached_at p.attached d ≡ Some k
+    before d k h n = sym (change.others d (other_number c d n)) ∙ h
+
+-- an id that one goes to, or that none goes to
+reached : (ids : List (Option ConId)) (d : ConId) → ((n : ℕ) × (get_or ids n None ≡ Some d)) ⊎ ((n : ℕ) → get_or ids n None ≢ Some d)
+reached [] d = inr (λ n h. cc)
+reached (None ∷ ids) d = later (reached ids d)
+  where
+    none : ((n : ℕ) → get_or ids n None ≢ Some d) → (n : ℕ) → get_or (None ∷ ids) n None ≢ Some d
+    none r zero = λ h. cc
+    none r (suc n) = r n
+
+    later : ((n : ℕ) × (get_or ids n None ≡ Some d)) ⊎ ((n : ℕ) → get_or ids n None ≢ Some d) → ((n : ℕ) × (get_or (None ∷ ids) n None ≡ Some d)) ⊎ ((n : ℕ) → get_or (None ∷ ids) n None ≢ Some d)
+    later (inl r) = inl (suc r.0, r.1)
+    later (inr r) = inr (none r)
+reached (Some e ∷ ids) d = elim (cases_eq e.0 d.0) [
+  | inl q ↦ inl (0, ap (λ (c : ConId). Some c) (same_id e d q))
+  | inr q ↦ later q (reached ids d)
+]
+  where
+    same : (x y : ConId) → Some x ≡ Some y → x ≡ y
+    same x y h = cc
+
+    none : e.0 ≢ d.0 → ((n : ℕ) → get_or ids n None ≢ Some d) → (n : ℕ) → get_or (Some e ∷ ids) n None ≢ Some d
+    none q r zero = λ h. q (ap (λ (c : ConId). c.0) (same e d h))
+    none q r (suc n) = r n
+
+    later : e.0 ≢ d.0 → ((n : ℕ) × (get_or ids n None ≡ Some d)) ⊎ ((n : ℕ) → get_or ids n None ≢ Some d) → ((n : ℕ) × (get_or (Some e ∷ ids) n None ≡ Some d)) ⊎ ((n : ℕ) → get_or (Some e ∷ ids) n None ≢ Some d)
+    later q (inl r) = inl (suc r.0, r.1)
+    later q (inr r) = inr (none q r)
+
+-- after the store gave other ids and the propagator took them
+pub ready-remap : (p q : PropagatorView) (old new : List Live) (ids : List (Option ConId)) (t : TrailView) → IsReady p old t → IsRenaming old new ids → IsOneToOne ids → IsMoved (new_id ids) p.attached q.attached → q.variables ≡ p.variables → IsCounted q t → IsReady q new t
+ready-remap p q old new ids t r renaming one moved variables counted = record {
+  variables = variables ∙ r.variables;
+  live = λ d k h. (let w = from d k h in (live_at_renamed old new ids w.0 d renaming one w.1).0);
+  stored = λ d k h.
+      (let w = from d k h in
+      ap (λ (x : Content). x.constraint) (live_at_renamed old new ids w.0 d renaming one w.1).1 ∙ r.stored w.0 k (sym (moved.there w.0 d w.1) ∙ h));
+  counted = counted;
+}
+  where
+    from : (d : ConId) (k : Linear) → attached_at q.attached d ≡ Some k → (c : ConId) × (new_id ids c ≡ Some d)
+    from d k h = elim (reached ids d) [
+      | inl w ↦ (record { 0 = w.0 }, w.1)
+      | inr w ↦ absurd (let none : attached_at q.attached d ≡ None = moved.others d (λ c. w c.0) in absurd (cc))
+    ]
