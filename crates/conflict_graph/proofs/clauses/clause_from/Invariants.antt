@@ -1,0 +1,7 @@
+use Rattle.std.proofs.Common.{◌≡◌}
+use Rattle.pb_rules.specs.Clauses.{clause_row}
+use Rattle.conflict_graph.specs.Learning.{signs}
+use Rattle.conflict_graph.proofs.clauses.clause_from.Given as goal
+
+abbrev pub invariant-loop-x : goal.invariant-loop-x
+invariant-loop-x l = l.terms.items ≡ clause_row l.x 0 (signs l.clause)

@@ -1,0 +1,4 @@
+pub mod Conditions
+pub mod Derives
+pub mod Learned
+pub mod Learning
