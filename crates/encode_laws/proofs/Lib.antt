@@ -1,0 +1,10 @@
+pub mod Families
+pub mod Equations
+pub mod Routes
+pub mod Walked
+pub mod Allocated
+pub mod Routed
+pub mod ModelBits
+pub mod Places
+pub mod Laws
+pub mod Hub
