@@ -1,0 +1,8 @@
+use Rattle.std.specs.List.{flat_map}
+use Rattle.spec_model.specs.Spec.{below}
+use Rattle.encode_model.specs.Encoding.{arcs_allocate}
+use Rattle.route_encode.specs.Adding.{Adds}
+use Rattle.route_encode.proofs.allocation.add_arcs.Given as goal
+
+abbrev pub invariant-loop-m : goal.invariant-loop-m
+invariant-loop-m l = Adds l.initial.out l.out (flat_map (arcs_allocate l.index) (below l.m))
