@@ -1,0 +1,4 @@
+pub mod Search
+pub mod Text
+pub mod SmallForm
+pub mod Run
