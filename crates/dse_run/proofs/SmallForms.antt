@@ -12,6 +12,7 @@ use Rattle.std.proofs.lemmas.List.Quantifiers.{position-Some}
 use Rattle.dse_run.specs.SmallForm.{is_name_byte, is_name, is_dash_word, with_line, with_words, with_task, with_resource, with_option, with_map, is_declared, place_of, is_of_pair, nows}
 use Rattle.std.specs.Str.{bytes_eq}
 use Rattle.spec_model.specs.Spec.{SpecValue, Name, Choice, empty_spec}
+use Rattle.names.specs.Names.{IsName, is_name_byte as is_byte}
 
 and_left : (a b : Bool) → (a && b) ≡ true → a ≡ true
 and_left true b = λ e. refl
@@ -20,6 +21,10 @@ and_left false b = λ e. e
 and_right : (a b : Bool) → (a && b) ≡ true → b ≡ true
 and_right true b = λ e. e
 and_right false b = λ e. cc
+
+both : (a b : Bool) → a ≡ true → b ≡ true → (a && b) ≡ true
+both true b = λ e f. f
+both false b = λ e f. absurd (false≢true e)
 
 ascii : (w : List ℕ) → list_all is_name_byte w ≡ true → (i : ℕ) → get_or w i 0 < 128
 ascii [] = λ e i. omega arith
@@ -33,6 +38,21 @@ ascii (x ∷ w) = λ e. elim [
 
 pub name_is_text : (w : List ℕ) → is_name w ≡ true → IsUtf8 w
 name_is_text w e = IsUtf8-from_ascii w (ascii w (and_left (list_all is_name_byte w) (nat_le 1 (length w) && nat_le (length w) 64 && not (is_dash_word w)) e))
+
+named_bytes : (w : List ℕ) → list_all is_name_byte w ≡ true → list_all is_byte w ≡ true
+named_bytes [] = λ e. refl
+named_bytes (x ∷ w) = λ e. both (is_byte x) (list_all is_byte w) (and_left (is_byte x) (not (x == 35)) (and_left (is_name_byte x) (list_all is_name_byte w) e)) (named_bytes w (and_right (is_name_byte x) (list_all is_name_byte w) e))
+
+name_is_name : (w : List ℕ) → is_name w ≡ true → IsName w
+name_is_name w e =
+    let rest = and_right (list_all is_name_byte w) (nat_le 1 (length w) && nat_le (length w) 64 && not (is_dash_word w)) e in
+    let lengths = and_left (nat_le 1 (length w) && nat_le (length w) 64) (not (is_dash_word w)) rest in
+    let some = leb-true 1 (length w) (and_left (nat_le 1 (length w)) (nat_le (length w) 64) lengths) in
+    record { some = omega (arith, some); bytes = named_bytes w (and_left (list_all is_name_byte w) (nat_le 1 (length w) && nat_le (length w) 64 && not (is_dash_word w)) e) }
+
+-- a text that is the word
+pub name_is_named : (w t : List ℕ) → is_name w ≡ true → t ≡ w → IsName t
+name_is_named w t e same = subst IsName (sym same) (name_is_name w e)
 
 pub fold_none : (xs : List (List ℕ)) → fold with_line None xs ≡ None
 fold_none [] = refl

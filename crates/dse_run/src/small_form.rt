@@ -4,6 +4,7 @@
 ghost use Rattle.std.specs.Prelude.{◌≡◌, ◌≢◌, ◌==◌, ◌<◌, ◌≤◌, length, None, Some, fold, true, false, IfOk, IfSome, MatchOption, MatchBool};
 ghost use Rattle.std.specs.List.{slice_split, list_all};
 ghost use Rattle.spec_model.specs.Spec.{empty_spec};
+ghost use Rattle.names.specs.Names.{IsName};
 ghost use Rattle.dse_run.specs.Search.{IsBare};
 ghost use Rattle.dse_run.specs.SmallForm.{is_name_byte, is_dash_word, is_name, with_task, with_resource, with_option, with_map, with_words, with_line, read_small, nows};
 
@@ -41,7 +42,7 @@ fn is_name(word: &[u8]) -> bool
 }
 
 /// The word as text, where it is a name.
-fn as_name(word: &[u8]) -> Option<&str>
+fn as_text(word: &[u8]) -> Option<&str>
     ensures { MatchOption result (is_name word.now ≡ false) (λ text. (is_name word.now ≡ true) × (text.now ≡ word.now)) }
 {
     if !is_name(word) {
@@ -51,6 +52,15 @@ fn as_name(word: &[u8]) -> Option<&str>
         Ok(text) => Some(text),
         Err(_) => unreachable!(),
     }
+}
+
+/// The word as text that the builder takes, where it is a name.
+#[tactic(auto, using(crate::proofs::SmallForms::name_is_named))]
+fn as_name(word: &[u8]) -> Option<&str>
+    ensures text { MatchOption result (is_name word.now ≡ false) (λ text. (is_name word.now ≡ true) × (text.now ≡ word.now)) }
+    ensures named { IfSome result (λ text. IsName text.now) }
+{
+    as_text(word)
 }
 
 /// The pieces between the bytes that are `between`.

@@ -1,28 +1,31 @@
 //! Names in the order in which they were declared, each with the number of its place.
 #![tactic(auto)]
 
-ghost use Rattle.std.specs.Prelude.{◌≡◌, ◌<◌, ◌↔◌, ◌++◌, ◌∷◌, [], IsTrue, length, Contains, MatchOption, IfOk, OnOk, OnErr};
+ghost use Rattle.std.specs.Prelude.{◌≡◌, ◌<◌, ◌↔◌, ◌++◌, ◌∷◌, [], IsTrue, length, Contains, MatchOption, All, IfOk, OnOk, OnErr};
 ghost use Rattle.spec_model.specs.Spec.{name_at};
-ghost use Rattle.names.specs.Names.{IsNumberOf};
+ghost use Rattle.names.specs.Names.{IsName, IsNumberOf};
 
 use indexmap::IndexSet;
 use std::alloc::{AllocError, Global};
 use std::marker::Model;
 
-/// Names in the order in which they were declared, seen as the list of their bytes.
+/// Names in the order in which they were declared, seen as the list of their bytes. Each is one word of a text.
 #[derive(Drop)]
 pub struct Names {
     set: IndexSet<String>,
 }
 
 impl Model for Names {
-    ghost use Rattle.std.specs.Prelude.{List, map};
+    ghost use Rattle.std.specs.Prelude.{List, map, All};
     ghost use Rattle.std.specs.String.{string_bytes};
     ghost use Rattle.spec_model.specs.Spec.{Name};
+    ghost use Rattle.names.specs.Names.{IsName};
 
     ghost Value = { List Name };
 
     ghost view = { λ n. map string_bytes n.set.keys };
+
+    ghost invariant = { λ n. All IsName (map string_bytes n.set.keys) };
 }
 
 impl Names {
@@ -33,6 +36,13 @@ impl Names {
         Names {
             set: IndexSet::new(alloc),
         }
+    }
+
+    /// What holds of each name.
+    pub fn facts(&self)
+        ensures { All IsName self.now }
+    {
+        let _ = &self.set;
     }
 
     /// How many names there are.
@@ -69,7 +79,8 @@ impl Names {
 
     /// Adds a name that isn't there yet, behind the others, and gives its number.
     pub fn add(&mut self, alloc: Global, name: &str) -> Result<usize, AllocError>
-        requires { Contains self.old name.now → ⊥ }
+        requires named { IsName name.now }
+        requires new { Contains self.old name.now → ⊥ }
         ensures number { IfOk result (λ n. n ≡ length self.old) }
         ensures added { OnOk result (self.new ≡ self.old ++ name.now ∷ []) }
         ensures unchanged { OnErr result (self.new ≡ self.old) }

@@ -1,6 +1,7 @@
 //! The calls of a builder that add objectives, tasks, resources, options and deadlines.
 
 ghost use Rattle.std.specs.Prelude.{◌≡◌, ◌<◌, ◌++◌, ◌∷◌, [], ◌↔◌, IsTrue, length, map, Any, IfOk, OnOk, IfErr, OnErr};
+ghost use Rattle.names.specs.Names.{IsName};
 ghost use Rattle.spec_graph.specs.Lists.{choice_value};
 ghost use Rattle.spec_graph.specs.Refusals.{IsBig, IsOfPair, IsObjectiveRefused, IsObjectiveAccepted, IsTaskRefused, IsTaskAccepted, IsResourceRefused, IsResourceAccepted, IsOptionRefused, IsOptionAccepted, IsDeadlineRefused};
 
@@ -45,6 +46,7 @@ impl SpecBuilder {
     ///
     /// Refused as `Repeated` where its name is declared, and as `Limit` where there are 1,024 tasks.
     pub fn task(&mut self, name: &str) -> Result<TaskNo, BuildFault>
+        requires { IsName name.now }
         ensures number { IfOk result (λ t. t.0 ≡ length self.old.tasks) }
         ensures added { OnOk result (self.new ≡ record self.old { tasks = self.old.tasks ++ name.now ∷ [] }) }
         ensures accepted { OnOk result (IsTaskAccepted self.old name.now) }
@@ -68,7 +70,8 @@ impl SpecBuilder {
     /// Refused as `Repeated` where its name is declared, as `TooBig` where a weight is above 2^40, and as `Limit` where
     /// there are 256 resources.
     pub fn resource(&mut self, name: &str, weights: &[u64]) -> Result<ResNo, BuildFault>
-        requires { length weights.now ≡ length self.old.objectives }
+        requires named { IsName name.now }
+        requires one_each { length weights.now ≡ length self.old.objectives }
         ensures number { IfOk result (λ r. r.0 ≡ length self.old.resources) }
         ensures added { OnOk result (self.new ≡ record self.old { resources = self.old.resources ++ name.now ∷ []; resource_weights = self.old.resource_weights ++ weights.now ∷ [] }) }
         ensures accepted { OnOk result (IsResourceAccepted self.old name.now weights.now) }
@@ -140,6 +143,7 @@ impl SpecBuilder {
     ///
     /// Refused as `Repeated` where its name is declared, and as `Limit` where there are 8 objectives.
     pub fn objective(&mut self, name: &str) -> Result<(), BuildFault>
+        requires named { IsName name.now }
         requires no_resource { length self.old.resources ≡ 0 }
         requires no_link { length self.old.links ≡ 0 }
         requires no_option { length self.old.options ≡ 0 }

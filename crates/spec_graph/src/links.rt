@@ -2,6 +2,7 @@
 
 ghost use Rattle.std.specs.Prelude.{◌≡◌, ◌<◌, ◌≤◌, ◌+◌, ◌++◌, length, map, IfOk, OnOk, IfErr, OnErr};
 ghost use Rattle.std.specs.Vec.{vec_len, vec_capacity};
+ghost use Rattle.names.specs.Names.{IsName};
 ghost use Rattle.spec_graph.specs.Lists.{arc_value};
 ghost use Rattle.spec_graph.specs.Plan.{arcs_of_link, with_link};
 ghost use Rattle.spec_graph.specs.Refusals.{IsLinkRefused, IsLinkAccepted};
@@ -48,6 +49,7 @@ impl SpecBuilder {
         weights: &[u64],
         traffic: &[u64],
     ) -> Result<LinkNo, BuildFault>
+        requires named { IsName name.now }
         requires a_there { a.0 < length self.old.resources }
         requires b_there { b.0 < length self.old.resources }
         requires one_each { length weights.now ≡ length self.old.objectives }

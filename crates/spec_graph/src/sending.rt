@@ -2,6 +2,7 @@
 
 ghost use Rattle.std.specs.Prelude.{◌≡◌, ◌<◌, ◌↔◌, ◌⊎◌, IsTrue, List, All, length, map, IfOk, OnOk, IfErr, OnErr};
 ghost use Rattle.spec_model.specs.Spec.{Message as MessageValue};
+ghost use Rattle.names.specs.Names.{IsName};
 ghost use Rattle.task_order.specs.Order.{IsOrderOf, IsLed};
 ghost use Rattle.spec_graph.specs.Lists.{task_number, message_of};
 ghost use Rattle.spec_graph.specs.Plan.{with_message};
@@ -72,6 +73,7 @@ impl SpecBuilder {
         delay: u64,
         quantity: u64,
     ) -> Result<MsgNo, BuildFault>
+        requires named { IsName name.now }
         requires sender_there { sender.0 < length self.old.tasks }
         requires receivers_there { All (λ w. w.0 < length self.old.tasks) receivers.now }
         requires some_receiver { 0 < length receivers.now }

@@ -1,10 +1,10 @@
 //! A whole specification, and what can be read of it.
 
-ghost use Rattle.std.specs.Prelude.{◌≡◌, ◌<◌, ◌≤◌, ◌+◌, ◌*◌, ◌^◌, length, map, Contains, MatchOption};
+ghost use Rattle.std.specs.Prelude.{◌≡◌, ◌<◌, ◌≤◌, ◌+◌, ◌*◌, ◌^◌, length, map, All, Contains, MatchOption};
 ghost use Rattle.spec_model.specs.Spec.{name_at, message_at, arc_at, option_at, deadline_at, arc_var, resource_var, link_var, design_variables, all_variables};
 ghost use Rattle.spec_model.specs.WellFormed.{IsWellFormed, size};
 ghost use Rattle.spec_model.specs.Vectors.{weight, arc_weight};
-ghost use Rattle.names.specs.Names.{IsNumberOf};
+ghost use Rattle.names.specs.Names.{IsName, IsNumberOf};
 ghost use Rattle.spec_graph.specs.Lists.{task_number};
 
 use crate::messages::Message;
@@ -52,6 +52,21 @@ impl Spec {
         ensures { IsWellFormed self.now }
     {
         let _ = &self.tasks;
+    }
+
+    /// What holds of each name.
+    pub fn facts_of_names(&self)
+        ensures tasks { All IsName self.now.tasks }
+        ensures messages { All IsName self.now.message_names }
+        ensures resources { All IsName self.now.resources }
+        ensures links { All IsName self.now.links }
+        ensures objectives { All IsName self.now.objectives }
+    {
+        self.tasks.facts();
+        self.message_names.facts();
+        self.resources.facts();
+        self.links.facts();
+        self.objectives.facts();
     }
 
     /// How many tasks there are.

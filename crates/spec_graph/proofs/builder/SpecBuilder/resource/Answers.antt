@@ -12,4 +12,4 @@ invariant_of-self-2 c =
     let small : ¬ HasBig c.args.weights.now = search rules in
     let room : length c.self.inside.resources < 256 = omega arith in
     let rows = row_added c.self.inside.resource_weights.items c.reserve.new.self.items c.push_reserved.new.self.items c.in_ok-weights.weights c.args.weights.now c.reserve.ensures.items c.push_reserved.ensures.items c.in_ok-weights.ensures in
-    record { plan = plan_resource_at (plan_of c.self.inside) c.args.name.now c.args.weights.now _ _ c.in_ok-number.ensures.added rows c.self.invariant.plan new (c.requires ∙ sym objectives) small room; order = c.self.invariant.order; room = c.self.invariant.room }
+    record { plan = plan_resource_at (plan_of c.self.inside) c.args.name.now c.args.weights.now _ _ c.in_ok-number.ensures.added rows c.self.invariant.plan new (c.requires.one_each ∙ sym objectives) small room; order = c.self.invariant.order; room = c.self.invariant.room }
