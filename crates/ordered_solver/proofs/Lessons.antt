@@ -1,0 +1,191 @@
+-- A search goes on by a lesson: the trail, the clauses and the lines stay as they have to be.
+use Rattle.std.proofs.Common.{◌≡◌, ℕ, ◌+◌, ◌-◌, ◌<◌, ◌^◌, Bool, true, false, cond, eqb, Option, Some, List, [], ◌∷◌, ◌++◌, length, get_or, take, refl, sym, ap, ◌∙◌, subst, arith, inl, inr, IsTrue, append_assoc}
+use Rattle.std.specs.Prelude.{All}
+use Rattle.std.proofs.lemmas.Bool.{cases_lt, cases_eq, false≢true}
+use Rattle.std.proofs.lemmas.Bool.Decides.{nat_tests}
+use Rattle.std.proofs.lemmas.List.{take_all, take-append-le, get_or_append_left, get_or_push, length_push, map-append}
+use Rattle.std.proofs.lemmas.List.Elements.{All-push, All-append, All-cons, All-nil, All-map}
+use Rattle.pb_constraints.specs.declared.ConId.{ConId}
+use Rattle.pb_rules.specs.declared.Op.{Op}
+use Rattle.pb_rules.specs.Literal.{Literal}
+use Rattle.pb_rules.specs.Linear.{Linear, Holds, IsModel}
+use Rattle.pb_rules.specs.Partial.{IsClosed, IsClosedFor, Forces}
+use Rattle.pb_rules.specs.Clauses.{IsClause}
+use Rattle.pb_rules.specs.Honest.{IsUnabsorbed, AreHonest}
+use Rattle.pb_rules.specs.Operations.{line_gives}
+use Rattle.pb_rules.specs.Frames.{Line, derived, Frame, IsFrame, FitsFrom, Given, base_of, given_by, given_from, derived_from, with_derived, is_derived, StandsUnder}
+use Rattle.pb_rules.proofs.Closed.{propagated-follows, honest-push}
+use Rattle.pb_rules.proofs.Given.{given-append, given-push, given-ids, given-stays, derived-push, derived-stands}
+use Rattle.proof_log.specs.Log.{LogValue, next_id}
+use Rattle.proof_log.specs.HonestLog.{AreHonestLines}
+use Rattle.constraint_store.specs.Live.{Live, is_live, live_at, constraint_of, proof_id_of}
+use Rattle.constraint_store.proofs.Laws.{is_live_added, live_at_added, live_at_new}
+use Rattle.trail_state.specs.Trail.{Entry, value_in, level_of, upto_level}
+use Rattle.propagate.specs.declared.attached.Attached.{Attached}
+use Rattle.propagate.specs.Attached.{attached_at, ChangesOnly}
+use Rattle.propagate.specs.Forced.{IsForcedAt, AllClosed}
+use Rattle.propagate.proofs.Attaching.{same_id}
+use Rattle.conflict_graph.specs.Derives.{HasUnder}
+use Rattle.conflict_graph.specs.Learned.{constraints_in}
+use Rattle.ordered_solver.specs.Trails.{IsOrdered}
+use Rattle.ordered_solver.specs.Engines.{IsAttached, HasAdded, id_of}
+use Rattle.ordered_solver.specs.Lessons.{Learns, IsShown, HasLearned}
+use Rattle.ordered_solver.proofs.Steps.{IsWider, ordered-jump}
+use Rattle.ordered_solver.proofs.Asserting.{back-below, leaves-one, quiet-below}
+
+-- each attached constraint is live
+abbrev pub AreLive : List Live → List Attached → Type 0
+AreLive live held = (c : ConId) (k : Linear) → attached_at held c ≡ Some k → IsTrue (is_live live c)
+
+some-same : (j k : Linear) → Some j ≡ Some k → j ≡ k
+some-same j k e = cc
+
+-- what is attached goes on being so when a new id is
+pub attached-wider : (live : List Live) (held bs : List Attached) (id : ConId) (o : Option Linear) → AreLive live held → is_live live id ≡ false → ChangesOnly held bs id o → IsWider held bs
+attached-wider live held bs id o on fresh change c k h = change.others c (λ q. false≢true (sym fresh ∙ ap (is_live live) (sym q) ∙ on c k h)) ∙ h
+
+-- the trail after a lesson
+pub ordered-learns : (live after : List Live) (held bs : List Attached) (order : List Literal) (es now : List Entry) (log log_after : LogValue) (id : ConId) → AreLive live held → 0 < level_of es → IsOrdered held order es → Learns live after held bs es now log log_after id → IsOrdered bs order now
+ordered-learns live after held bs order es now log log_after id on h o l =
+    let c : Linear = l.clause.constraint in
+    let below = back-below es c.terms l.back l.level_below h in
+    let kept : List Entry = upto_level l.back es in
+    let e : Entry = record { lit = l.lit; reason = Some l.clause.id } in
+    let wider : IsWider held bs = attached-wider live held bs l.clause.id (Some c) on l.fresh l.attached in
+    let closed : (m : ℕ) → m < l.back → AllClosed bs (upto_level m es) = λ m lt d k at. elim (cases_eq d.0 l.clause.id.0) [
+      | inl q ↦ (let is : c ≡ k = some-same c k (sym l.attached.here ∙ ap (attached_at bs) (sym (same_id d l.clause.id q)) ∙ at) in
+          let P : Linear → Type 0 = λ x. IsClosed (value_in (upto_level m es)) x in
+          subst P is (quiet-below live es c l.back m l.learned l.level_below h lt))
+      | inr n ↦ o.closed_below m (omega arith) d k (sym (l.attached.others d (λ z. n (ap (λ (b : ConId). b.0) z))) ∙ at)
+    ] in
+    let all : take (length kept) kept ≡ kept = take_all (length kept) kept (omega arith) in
+    let P : List Entry → Type 0 = λ fs. Forces (value_in fs) c l.lit in
+    let forced : IsForcedAt bs kept (length kept) e = record { reason = l.clause.id; there = refl; constraint = c; attached = l.attached.here; forces = subst P (sym all) l.forces } in
+    let Q : List Entry → Type 0 = λ fs. IsOrdered bs order fs in
+    subst Q (sym l.pushed) (ordered-jump held bs order es l.back e below wider closed forced o)
+
+pub constraints-append : (live more : List Live) → constraints_in (live ++ more) ≡ constraints_in live ++ constraints_in more
+constraints-append live more = map-append (λ (e : Live). e.constraint) live more
+
+-- the clauses that were added
+abbrev pub added-more : (start live : List Live) (ids : List ConId) (x : Live) → HasAdded start live ids → is_live live x.id ≡ false → HasAdded start (live ++ x ∷ []) (ids ++ x.id ∷ [])
+added-more start live ids x h fresh =
+    let len = length_push h.more x in
+    record {
+      more = h.more ++ x ∷ [];
+      split = ap (λ (ls : List Live). ls ++ x ∷ []) h.split ∙ append_assoc start h.more (x ∷ []);
+      ids_are = ap (λ (is : List ConId). is ++ x.id ∷ []) h.ids_are ∙ sym (map-append id_of h.more (x ∷ []));
+      fresh = λ i d l. elim (cases_lt i (length h.more)) [
+        | inl lt ↦ (let t : take i (h.more ++ x ∷ []) ≡ take i h.more = take-append-le i h.more (x ∷ []) (omega arith) in
+            let g : get_or (h.more ++ x ∷ []) i d ≡ get_or h.more i d = get_or_append_left h.more (x ∷ []) d i lt in
+            ap (λ (ls : List Live). is_live (start ++ ls) (get_or (h.more ++ x ∷ []) i d).id) t ∙ ap (λ (e : Live). is_live (start ++ take i h.more) e.id) g ∙ h.fresh i d lt)
+        | inr ge ↦ (let at : i ≡ length h.more = omega arith in
+            let t : take i (h.more ++ x ∷ []) ≡ h.more = ap (λ n. take n (h.more ++ x ∷ [])) at ∙ take-append-le (length h.more) h.more (x ∷ []) (omega arith) ∙ take_all (length h.more) h.more (omega arith) in
+            let g : get_or (h.more ++ x ∷ []) i d ≡ x = get_or_push h.more x d i (sym at) in
+            ap (λ (ls : List Live). is_live (start ++ ls) (get_or (h.more ++ x ∷ []) i d).id) t ∙ ap (λ (e : Live). is_live (start ++ h.more) e.id) g ∙ ap (λ (ls : List Live). is_live ls x.id) (sym h.split) ∙ fresh)
+      ];
+    }
+
+-- under each level below the current one, the trail is closed for all live constraints
+pub closed-live : (live : List Live) (held : List Attached) (es : List Entry) → All (IsAttached held) live → AllClosed held es → IsClosedFor (constraints_in live) (value_in es)
+closed-live live held es attached closed = All-map (IsClosed (value_in es)) (λ (e : Live). e.constraint) live (λ i d l. closed (get_or live i d).id (get_or live i d).constraint (attached i d l))
+
+-- a derived line
+abbrev pub IsDerived : Line → Type 0
+IsDerived l = is_derived l ≡ true
+
+-- one honest line more
+honest-line : (f : Frame) (g h : Given) (base : List Linear) (ls : List Line) (ops : List Op) (c : Linear) → AreHonestLines f g base ls → given_from f g ls ≡ Some h → line_gives h.constraints ops ≡ Some c → IsClause c → IsUnabsorbed (base ++ derived_from f g ls) c → AreHonestLines f g base (ls ++ derived ops ∷ [])
+honest-line f g h base ls ops c honest e gives is new = record {
+  derived_each = All-append IsDerived ls (derived ops ∷ []) honest.derived_each (All-cons IsDerived (derived ops) [] refl (All-nil IsDerived));
+  after = with_derived h c;
+  legal = given-push f g h ls ops c e gives;
+  honest = subst (AreHonest base) (sym (derived-push f g h ls ops c e gives)) (honest-push base (derived_from f g ls) c honest.honest is new);
+}
+
+-- each live constraint stands under its id, one more of them too
+under-more : (f : Frame) (h : Given) (live : List Live) (x : Live) (ops : List Op) → is_live live x.id ≡ false → 0 < x.proof_id → x.proof_id < 2 ^ 63 → x.proof_id ≡ length h.constraints + 1 → line_gives h.constraints ops ≡ Some x.constraint → HasUnder h.constraints live → HasUnder (with_derived h x.constraint).constraints (live ++ x ∷ [])
+under-more f h live x ops fresh from_one small next gives under c on = elim (cases_eq x.id.0 c.0) [
+  | inl q ↦ (let is : live_at (live ++ x ∷ []) c ≡ x = ap (live_at (live ++ x ∷ [])) (sym (same_id x.id c q)) ∙ live_at_new live x fresh in
+      let S : Live → Type 0 = λ e. StandsUnder (with_derived h x.constraint).constraints e.proof_id e.constraint in
+      subst S (sym is) (record { from_one = from_one; small = small; there = derived-stands h x.constraint x.proof_id next }))
+  | inr n ↦ (let test : eqb x.id.0 c.0 ≡ false = grind (arith, nat_tests) in
+      let old : is_live live c ≡ true = before (is_live live c) (eqb x.id.0 c.0) test (sym (is_live_added live x c) ∙ on) in
+      let is : live_at (live ++ x ∷ []) c ≡ live_at live c = live_at_added live x c old in
+      let s = under c old in
+      let S : Live → Type 0 = λ e. StandsUnder (with_derived h x.constraint).constraints e.proof_id e.constraint in
+      subst S (sym is) (record { from_one = s.from_one; small = s.small; there = given-stays f h (with_derived h x.constraint) (derived ops ∷ []) (proof_id_of live c - 1) (constraint_of live c) (given-push f h h [] ops x.constraint refl gives) s.there }))
+]
+  where
+    before : (a b : Bool) → b ≡ false → cond a true b ≡ true → a ≡ true
+    before true b e h = refl
+    before false b e h = absurd (false≢true (sym e ∙ h))
+
+-- in a frame, one lesson more
+shown-more : (f : Frame) (g : Given) (start live more : List Live) (ids : List ConId) (held : List Attached) (es : List Entry) (old log : LogValue) (lines : List Line) (x : Live) (ops : List Op) (back : ℕ) →
+    IsFrame f → FitsFrom f old.first → given_by f old.lines ≡ Some g → log ≡ record old { lines = old.lines ++ lines } → live ≡ start ++ more →
+    is_live live x.id ≡ false → x.proof_id ≡ next_id log → x.proof_id < 2 ^ 63 → IsClause x.constraint → IsUnabsorbed (constraints_in live) x.constraint → ((cs : List Linear) → HasUnder cs live → line_gives cs ops ≡ Some x.constraint) →
+    IsShown f g start live more lines → IsShown f g start (live ++ x ∷ []) (more ++ x ∷ []) (lines ++ derived ops ∷ [])
+shown-more f g start live more ids held es old log lines x ops back frame fits legal written split fresh id small clause new derives s =
+    let h : Given = s.after in
+    let gives = derives h.constraints s.under in
+    let whole : given_by f log.lines ≡ Some h = ap (λ (v : LogValue). given_by f v.lines) written ∙ given-append f (base_of f) g old.lines lines legal ∙ s.legal in
+    let count = given-ids f (base_of f) h log.lines frame whole in
+    let first : log.first ≡ old.first = ap (λ (v : LogValue). v.first) written in
+    let next : x.proof_id ≡ length h.constraints + 1 = omega arith in
+    let all : constraints_in start ++ derived_from f g lines ≡ constraints_in live = ap (λ (cs : List Linear). constraints_in start ++ cs) s.gives ∙ sym (constraints-append start more) ∙ ap constraints_in (sym split) in
+    let U : List Linear → Type 0 = λ cs. IsUnabsorbed cs x.constraint in
+    record {
+      after = with_derived h x.constraint;
+      legal = given-push f g h lines ops x.constraint s.legal gives;
+      under = under-more f h live x ops fresh (omega arith) small next gives s.under;
+      honest = honest-line f g h (constraints_in start) lines ops x.constraint s.honest s.legal gives clause (subst U (sym all) new);
+      gives = derived-push f g h lines ops x.constraint s.legal gives ∙ ap (λ (cs : List Linear). cs ++ x.constraint ∷ []) s.gives ∙ sym (constraints-append more (x ∷ []));
+    }
+
+-- at the beginning nothing is learned
+pub learned-none : (start : List Live) (log : LogValue) → HasLearned start start [] log log 0
+learned-none start log = record {
+  added = record { more = []; split = rest start; ids_are = refl; fresh = λ i d l. absurd (omega arith) };
+  lines = [];
+  written = ap (λ (ls : List Line). record log { lines = ls }) (rest log.lines);
+  derived_each = All-nil IsDerived;
+  counted = refl;
+  follow = λ v m. m;
+  shown = λ f g frame fits legal under. record {
+    after = g;
+    legal = refl;
+    under = under;
+    honest = record { derived_each = All-nil IsDerived; after = g; legal = refl; honest = record { clauses_each = All-nil IsClause; unabsorbed = λ k d l. absurd (omega arith) } };
+    gives = refl;
+  };
+}
+  where
+    rest : {X : Type 0} → (xs : List X) → xs ≡ xs ++ []
+    rest [] = refl
+    rest (x ∷ xs) = ap (λ ys. x ∷ ys) (rest xs)
+
+-- one lesson more
+pub learned-more : (start live after : List Live) (ids : List ConId) (held bs : List Attached) (order : List Literal) (es now : List Entry) (old log log_after : LogValue) (n : ℕ) (id : ConId) → All (IsAttached held) live → 0 < level_of es → IsOrdered held order es → HasLearned start live ids old log n → Learns live after held bs es now log log_after id → HasLearned start after (ids ++ id ∷ []) old log_after (n + 1)
+learned-more start live after ids held bs order es now old log log_after n id attached h o s l =
+    let x : Live = l.clause in
+    let c : Linear = x.constraint in
+    let below = back-below es c.terms l.back l.level_below h in
+    let ops : List Op = (l.derives).ops in
+    let closed = closed-live live held (upto_level l.back es) attached (o.closed_below l.back below) in
+    let new : IsUnabsorbed (constraints_in live) c = record { assignment = value_in (upto_level l.back es); closed = closed; leaves_one = leaves-one live es c l.back l.learned l.level_below h } in
+    let ids-is : ids ++ x.id ∷ [] ≡ ids ++ id ∷ [] = ap (λ (i : ConId). ids ++ i ∷ []) l.under in
+    let P : List ConId → List Live → Type 0 = λ is ls. HasLearned start ls is old log_after (n + 1) in
+    subst (λ (ls : List Live). P (ids ++ id ∷ []) ls) (sym l.added) (subst (λ (is : List ConId). P is (live ++ x ∷ [])) ids-is (record {
+      added = added-more start live ids x s.added l.fresh;
+      lines = s.lines ++ derived ops ∷ [];
+      written = (l.derives).one_more ∙ ap (λ (v : LogValue). record v { lines = v.lines ++ derived ops ∷ [] }) s.written ∙ ap (λ (ls : List Line). record old { lines = ls }) (append_assoc old.lines s.lines (derived ops ∷ []));
+      derived_each = All-push IsDerived s.lines (derived ops) s.derived_each refl;
+      counted = length_push s.lines (derived ops) ∙ ap (λ m. m + 1) s.counted;
+      follow = λ v m.
+          (let before = s.follow v m in
+          let holds : Holds v c = propagated-follows (constraints_in live) c v l.learned.clause l.learned.propagated before in
+          let M : List Linear → Type 0 = λ cs. IsModel cs v in
+          subst M (sym (constraints-append live (x ∷ []))) (All-push (Holds v) (constraints_in live) c before holds));
+      shown = λ f g frame fits legal under. shown-more f g start live s.added.more ids held es old log s.lines x ops l.back frame fits legal s.written s.added.split l.fresh l.proof_id l.small l.learned.clause new (l.derives).legal (s.shown f g frame fits legal under);
+    }))

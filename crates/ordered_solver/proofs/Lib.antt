@@ -1,0 +1,11 @@
+pub mod Words
+pub mod Shown
+pub mod Steps
+pub mod Asserting
+pub mod Lessons
+pub mod Loading
+pub mod Ends
+pub mod Turns
+pub mod Orders
+pub mod Agreeing
+pub mod Ids

@@ -1,0 +1,177 @@
+-- Store, propagator and trail stay together: after one more constraint, after its removal, and over another trail.
+use Rattle.std.proofs.Common.{◌≡◌, ◌≢◌, ℕ, ◌+◌, ◌<◌, Bool, true, false, not, cond, eqb, Option, Some, None, List, [], ◌∷◌, ◌++◌, length, get_or, take, drop, map, refl, sym, ap, ◌∙◌, subst, arith, zero, suc, append_assoc, append-nil}
+use Rattle.std.specs.Prelude.{All, filter, is_some, IfNone}
+use Rattle.std.proofs.lemmas.Bool.{false≢true}
+use Rattle.std.proofs.lemmas.Bool.Decides.{nat_tests}
+use Rattle.std.proofs.lemmas.List.{take_all, take_more, take-take, take-map, take-append-le, take-append-drop, get_or_append_left, get_or_push, get_or-take, get_or-map, length_push, length-take, length-map, map-append}
+use Rattle.std.proofs.lemmas.List.Elements.{All-push, filter-append}
+use Rattle.pb_constraints.specs.declared.ConId.{ConId}
+use Rattle.pb_rules.specs.Literal.{Literal}
+use Rattle.pb_rules.specs.Linear.{Linear, VarsBelow}
+use Rattle.constraint_store.specs.Live.{Live, is_live, live_at, constraint_of, without}
+use Rattle.constraint_store.proofs.Laws.{is_live_added, live_at_new}
+use Rattle.trail_state.specs.Trail.{Entry, TrailView}
+use Rattle.propagate.specs.declared.attached.Attached.{Attached}
+use Rattle.propagate.specs.Attached.{ChangesOnly}
+use Rattle.propagate.specs.Propagator.{PropagatorView, IsReady, IsCounted}
+use Rattle.propagate.proofs.Ready.{ready-attach, ready-add, ready-trail, ready-remove}
+use Rattle.ordered_solver.specs.Trails.{GoesOnFrom}
+use Rattle.ordered_solver.specs.Engines.{IsAttached, IsInRange, IsLoaded, HasAdded, id_of}
+
+itself : (n : ℕ) → eqb n n ≡ true
+itself n = grind (arith, nat_tests)
+
+or-true : (b : Bool) → cond b true true ≡ true
+or-true true = refl
+or-true false = refl
+
+pub live-added : (live : List Live) (x : Live) → is_live (live ++ x ∷ []) x.id ≡ true
+live-added live x = is_live_added live x x.id ∙ ap (λ b. cond (is_live live x.id) true b) (itself x.id.0) ∙ or-true (is_live live x.id)
+
+pub constraint-added : (live : List Live) (x : Live) → is_live live x.id ≡ false → constraint_of (live ++ x ∷ []) x.id ≡ x.constraint
+constraint-added live x fresh = ap (λ (e : Live). e.constraint) (live_at_new live x fresh)
+
+-- the place of a live constraint
+pub record HasPlace (live : List Live) (c : ConId) : Type 0 where
+  pub place : ℕ
+  pub within : place < length live
+  pub there : (d : Live) → get_or live place d ≡ live_at live c
+
+pub live-place : (live : List Live) (c : ConId) → is_live live c ≡ true → HasPlace live c
+live-place [] c h = absurd (false≢true h)
+live-place (e ∷ live) c h = go (eqb e.id.0 c.0) refl (live-place live c)
+  where
+    later : eqb e.id.0 c.0 ≡ false → HasPlace live c → HasPlace (e ∷ live) c
+    later q r = (let w = r.within in record { place = suc r.place; within = omega arith; there = λ d. rw q (r.there d) })
+
+    go : (b : Bool) → eqb e.id.0 c.0 ≡ b → (is_live live c ≡ true → HasPlace live c) → HasPlace (e ∷ live) c
+    go true q ih = record { place = 0; within = omega arith; there = λ d. rw q refl }
+    go false q ih = (let a : is_live (e ∷ live) c ≡ is_live live c = rw q refl in later q (ih (sym a ∙ h)))
+
+-- what holds of each live constraint holds of the one under an id
+pub live-all : (P : Live → Type 0) (live : List Live) (c : ConId) → All P live → is_live live c ≡ true → P (live_at live c)
+live-all P live c all h =
+    let r = live-place live c h in
+    let d : Live = live_at live c in
+    subst P (r.there d) (all r.place d r.within)
+
+-- an id in the list is live
+pub place-live : (live : List Live) (k : ℕ) (d : Live) → k < length live → is_live live (get_or live k d).id ≡ true
+place-live [] k d h = absurd (omega arith)
+place-live (e ∷ live) zero d h = rw (itself e.id.0) refl
+place-live (e ∷ live) (suc k) d h = ap (λ b. cond (eqb e.id.0 (get_or live k d).id.0) true b) (place-live live k d (omega arith)) ∙ or-true (eqb e.id.0 (get_or live k d).id.0)
+
+-- the ids of the others are other ones
+others-apart : (live : List Live) (id : ConId) → is_live live id ≡ false → (k : ℕ) (d : Live) → k < length live → (get_or live k d).id ≢ id
+others-apart live id fresh k d h q = false≢true (sym fresh ∙ ap (is_live live) (sym q) ∙ place-live live k d h)
+
+attached-change : (live : List Live) (held bs : List Attached) (id : ConId) (o : Option Linear) → is_live live id ≡ false → ChangesOnly held bs id o → All (IsAttached held) live → All (IsAttached bs) live
+attached-change live held bs id o fresh change all k d h = change.others (get_or live k d).id (others-apart live id fresh k d h) ∙ all k d h
+
+pub loaded-add : (live : List Live) (p q : PropagatorView) (t : TrailView) (x : Live) → IsLoaded live p t → is_live live x.id ≡ false → VarsBelow t.variables x.constraint.terms → ChangesOnly p.attached q.attached x.id (Some (constraint_of (live ++ x ∷ []) x.id)) → q.variables ≡ p.variables → IsCounted q t → IsLoaded (live ++ x ∷ []) q t
+loaded-add live p q t x l fresh below change variables counted =
+    record {
+      ready = ready-attach p q (live ++ x ∷ []) t x.id (ready-add p live t x l.ready) (live-added live x) change variables counted;
+      attached = All-push (IsAttached q.attached) live x (attached-change live p.attached q.attached x.id (Some (constraint_of (live ++ x ∷ []) x.id)) fresh change l.attached) (change.here ∙ ap (λ (c : Linear). Some c) (constraint-added live x fresh));
+      in_range = All-push (IsInRange t.variables) live x l.in_range below;
+    }
+
+pub loaded-trail : (live : List Live) (p q : PropagatorView) (t u : TrailView) → IsLoaded live p t → q.attached ≡ p.attached → q.variables ≡ p.variables → u.variables ≡ t.variables → IsCounted q u → IsLoaded live q u
+loaded-trail live p q t u l attached variables same counted =
+    let A : List Attached → Type 0 = λ held. All (IsAttached held) live in
+    let R : ℕ → Type 0 = λ n. All (IsInRange n) live in
+    record {
+      ready = ready-trail p q live t u l.ready attached variables same counted;
+      attached = subst A (sym attached) l.attached;
+      in_range = subst R (sym same) l.in_range;
+    }
+
+without-fresh : (live : List Live) (id : ConId) → is_live live id ≡ false → without id live ≡ live
+without-fresh [] id h = refl
+without-fresh (e ∷ live) id h = go (eqb e.id.0 id.0) refl (without-fresh live id)
+  where
+    go : (b : Bool) → eqb e.id.0 id.0 ≡ b → (is_live live id ≡ false → without id live ≡ live) → without id (e ∷ live) ≡ e ∷ live
+    go true q ih = absurd (let a : is_live (e ∷ live) id ≡ true = rw q refl in false≢true (sym h ∙ a))
+    go false q ih = (let a : is_live (e ∷ live) id ≡ is_live live id = rw q refl in rw q (ap (λ (ls : List Live). e ∷ ls) (ih (sym a ∙ h))))
+
+-- the last constraint taken out again
+pub without-last : (live : List Live) (x : Live) → is_live live x.id ≡ false → without x.id (live ++ x ∷ []) ≡ live
+without-last live x fresh =
+    let p : Live → Bool = λ e. not (eqb e.id.0 x.id.0) in
+    let last : filter p (x ∷ []) ≡ [] = rw (itself x.id.0) refl in
+    filter-append p live (x ∷ []) ∙ ap (λ (ls : List Live). filter p live ++ ls) last ∙ append-nil (filter p live) ∙ without-fresh live x.id fresh
+
+pub loaded-remove : (live : List Live) (p q : PropagatorView) (t : TrailView) (x : Live) → IsLoaded (live ++ x ∷ []) p t → is_live live x.id ≡ false → ChangesOnly p.attached q.attached x.id None → q.variables ≡ p.variables → IsCounted q t → IsLoaded live q t
+loaded-remove live p q t x l fresh change variables counted =
+    let R : List Live → Type 0 = λ ls. IsReady q ls t in
+    let len = length_push live x in
+    record {
+      ready = subst R (without-last live x fresh) (ready-remove p q (live ++ x ∷ []) t x.id l.ready change variables counted);
+      attached = attached-change live p.attached q.attached x.id None fresh change (λ k d h. subst (IsAttached p.attached) (get_or_append_left live (x ∷ []) d k h) (l.attached k d (omega arith)));
+      in_range = λ k d h. subst (IsInRange t.variables) (get_or_append_left live (x ∷ []) d k h) (l.in_range k d (omega arith));
+    }
+
+-- the counted literals are those of a trail that goes on
+pub counted-goes : (p : PropagatorView) (t u : TrailView) → GoesOnFrom t.entries u.entries → IsCounted p t → IsCounted p u
+counted-goes p t u g counted =
+    let lit : Entry → Literal = λ e. e.lit in
+    let n : ℕ = length p.counted in
+    let a : List Literal = map lit t.entries in
+    let short : length (take n a) ≡ n = ap length counted in
+    let len = length-take n a in
+    let rest : List Entry = drop (length t.entries) u.entries in
+    let whole : u.entries ≡ t.entries ++ rest = sym (take-append-drop (length t.entries) u.entries) ∙ ap (λ (es : List Entry). es ++ rest) g.kept in
+    let mapped : map lit u.entries ≡ a ++ map lit rest = ap (map lit) whole ∙ map-append lit t.entries rest in
+    ap (take n) mapped ∙ take-append-le n a (map lit rest) (omega arith) ∙ counted
+
+-- one learned clause fewer
+pub record HasLast (start live : List Live) (ids : List ConId) (id : ConId) : Type 0 where
+  pub rest : List Live
+  pub last : Live
+  pub under : last.id ≡ id
+  pub fresh : is_live rest last.id ≡ false
+  pub split : live ≡ rest ++ last ∷ []
+  pub added : HasAdded start rest ids
+
+pub last-added : (start live : List Live) (all ids : List ConId) (id : ConId) → HasAdded start live all → all ≡ ids ++ id ∷ [] → HasLast start live ids id
+last-added start live all ids id h q =
+    let d : Live = record { id = id; constraint = record { terms = []; degree = 0 }; proof_id = 0 } in
+    let n : ℕ = length ids in
+    let more : List Live = h.more in
+    let is : map id_of more ≡ ids ++ id ∷ [] = sym h.ids_are ∙ q in
+    let len : length more ≡ n + 1 = sym (length-map more id_of) ∙ ap length is ∙ length_push ids id in
+    let front : List Live = take n more in
+    let last : Live = get_or more n d in
+    let len' = length-take n more in
+    let parts : more ≡ front ++ last ∷ [] = sym (take_all (n + 1) more (omega arith)) ∙ take_more more n d (omega arith) in
+    let under : last.id ≡ id = sym (get_or-map id_of more n d id (omega arith)) ∙ ap (λ (is : List ConId). get_or is n id) is ∙ get_or_push ids id id n refl in
+    let kept : ids ≡ map id_of front = sym (take-append-le n ids (id ∷ []) (omega arith) ∙ take_all n ids (omega arith)) ∙ ap (take n) (sym is) ∙ take-map id_of n more in
+    record {
+      rest = start ++ front;
+      last = last;
+      under = under;
+      fresh = h.fresh n d (omega arith);
+      split = h.split ∙ ap (λ (ls : List Live). start ++ ls) parts ∙ sym (append_assoc start front (last ∷ []));
+      added = record {
+        more = front;
+        split = refl;
+        ids_are = kept;
+        fresh = λ i e l.
+            (let t : take i front ≡ take i more = take-take i n more (omega arith) in
+            let g : get_or front i e ≡ get_or more i e = get_or-take n more i e (omega arith) in
+            ap (λ (ls : List Live). is_live (start ++ ls) (get_or front i e).id) t ∙ ap (λ (x : Live). is_live (start ++ take i more) x.id) g ∙ h.fresh i e (omega arith));
+      };
+    }
+
+pub none-added : (start live : List Live) → HasAdded start live [] → live ≡ start
+none-added start live h =
+    let len : length h.more ≡ 0 = sym (length-map h.more id_of) ∙ ap length (sym h.ids_are) in
+    h.split ∙ ap (λ (ls : List Live). start ++ ls) (sym (take_all 0 h.more (omega arith))) ∙ append-nil start
+
+none-holds : (o : Option ConId) (P : Type 0) → is_some o ≡ false → IfNone o P → P
+none-holds None P e h = h
+none-holds (Some x) P e h = absurd (false≢true (sym e))
+
+-- what holds where an answer is none
+pub closed-none : (o : Option ConId) (b : Bool) (P : Type 0) → b ≡ is_some o → b ≡ false → IfNone o P → P
+closed-none o b P e f h = none-holds o P (sym e ∙ f) h

@@ -1,0 +1,14 @@
+use Rattle.std.proofs.Common.{◌≡◌, ◌+◌, take, map}
+use Rattle.constraint_store.specs.Live.{content}
+use Rattle.ordered_solver.specs.Engines.{IsIdle}
+use Rattle.ordered_solver.specs.Solver.{numbered}
+use Rattle.ordered_solver.proofs.engine.Engine.load.Given as goal
+
+abbrev pub invariant-loop-c : goal.invariant-loop-c
+invariant-loop-c l = record {
+  idle : IsIdle l.self.store l.self.propagator l.self.trail l.self.learned.items;
+  given : map content l.self.store ≡ numbered 1 (take l.c-index l.constraints);
+  numbered : l.proof_id ≡ l.c-index + 1;
+  variables : l.self.trail.variables ≡ l.fn.self.trail.variables;
+  log : l.self.log ≡ l.fn.self.log;
+}
