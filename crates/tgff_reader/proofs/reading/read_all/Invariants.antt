@@ -1,0 +1,13 @@
+use Rattle.std.proofs.Common.{[], List, length}
+use Rattle.line_words.specs.Rules.{Statement}
+use Rattle.line_words.specs.Run.{run}
+use Rattle.tgff_reader.specs.Tgff.{tgff_rules}
+use Rattle.tgff_reader.proofs.Going.{IsDone}
+use Rattle.tgff_reader.proofs.reading.read_all.Given as goal
+
+-- some lines are done, and what stands then is what they state
+abbrev pub invariant-lines : goal.invariant-lines
+invariant-lines l = (done : List Statement) × IsDone done l.lines l.state (run tgff_rules l.fn.lines.number [] l.fn.lines.lines)
+
+abbrev pub decreases-lines : goal.decreases-lines
+decreases-lines l = length l.lines.lines

@@ -1,0 +1,86 @@
+//! Looks up tables, rows and cells.
+
+ghost use Rattle.std.specs.Prelude.{◌≡◌, ℕ, ◌<◌, length, slice_get, IfNone, IfSome};
+ghost use Rattle.std.specs.Option.{option_map};
+ghost use Rattle.tgff_reader.specs.Words.{first};
+ghost use Rattle.tgff_reader.specs.Looking.{table_at, row_at, is_of_kind, IsTableAt, HasNoTable, IsFirstOfKind, HasNoneOfKind};
+
+use crate::faults::is_table;
+use crate::file::{Row, Table, Tgff};
+use line_words::whole;
+
+/// The first word of a row.
+fn first_word(row: &Row) -> &str
+    ensures { result.now ≡ first row.now.words }
+{
+    match row.words.list().first() {
+        Some(word) => word.list(),
+        None => "",
+    }
+}
+
+/// Whether the first word of a row reads as a kind.
+fn is_of_kind(row: &Row, kind: u64) -> bool
+    ensures { result ≡ is_of_kind kind row.now }
+{
+    match whole(first_word(row)) {
+        Ok(number) => number == kind,
+        Err(_) => false,
+    }
+}
+
+/// The first of the tables with a name and an index.
+fn place_of_table(tables: &[Table], name: &str, index: u64) -> Option<usize>
+    ensures found { IfSome result (IsTableAt tables.now name.now index) }
+    ensures none { IfNone result (HasNoTable tables.now name.now index) }
+{
+    let mut place = 0;
+    'tables: while place < tables.len() {
+        if is_table(&tables[place], name, index) {
+            return Some(place);
+        }
+        place += 1;
+    }
+    None
+}
+
+impl Tgff {
+    /// The table of a name and an index. There is one at most.
+    pub fn table(&self, name: &str, index: u64) -> Option<usize>
+        ensures found { IfSome result (IsTableAt self.now.tables name.now index) }
+        ensures one { IfSome result (λ place. (other : ℕ) → IsTableAt self.now.tables name.now index other → other ≡ place) }
+        ensures none { IfNone result (HasNoTable self.now.tables name.now index) }
+    {
+        place_of_table(self.tables.list(), name, index)
+    }
+
+    /// The first row of a table, from a place on, whose first word reads as a kind.
+    pub fn find_row(&self, table: usize, from: usize, kind: u64) -> Option<usize>
+        requires { table < length self.now.tables }
+        ensures found { IfSome result (IsFirstOfKind (table_at self.now.tables table) from kind) }
+        ensures none { IfNone result (HasNoneOfKind (table_at self.now.tables table) from kind) }
+    {
+        let rows = self.tables.list()[table].rows.list();
+        let mut place = from;
+        'rows: while place < rows.len() {
+            if is_of_kind(&rows[place], kind) {
+                return Some(place);
+            }
+            place += 1;
+        }
+        None
+    }
+
+    /// The word in a column of a row of a table, where there is one.
+    pub fn cell(&self, table: usize, row: usize, column: usize) -> Option<&str>
+        requires table { table < length self.now.tables }
+        requires row { row < length (table_at self.now.tables table).rows }
+        ensures { option_map (λ cell. cell.now) result ≡ slice_get (row_at (table_at self.now.tables table) row).words column }
+    {
+        let words = self.tables.list()[table].rows.list()[row].words.list();
+        match words.get(column) {
+            Some(cell) => Some(cell.list()),
+            None => None,
+        }
+    }
+}
