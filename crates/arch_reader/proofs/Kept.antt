@@ -1,10 +1,12 @@
 -- What is kept of the lines that were read.
 use Rattle.std.proofs.Common.{◌≡◌, ℕ, List, [], ◌∷◌, ◌++◌, Option, Some, None, sym, ap, subst, ◌∙◌, append_assoc}
+use Rattle.std.specs.List.{All}
 use Rattle.std.proofs.lemmas.List.{append-nil, flat_map_more, map_push}
 use Rattle.line_words.specs.Rules.{Statement as Line, first_broken}
+use Rattle.arch_reader.specs.Words.{IsWord}
 use Rattle.arch_reader.specs.Shapes.{plain, form_of}
 use Rattle.arch_reader.specs.Seen.{seen, after}
-use Rattle.arch_reader.specs.Tests.{tests}
+use Rattle.arch_reader.specs.Tests.{names_in, tests}
 use Rattle.arch_reader.specs.Arch.{line_with, line_of, lines_of, statement_of, statements_in, Passes, AllPass}
 use Rattle.arch_reader.specs.Taking.{Takes}
 use Rattle.arch_reader.specs.declared.statement.Statement.{Statement}
@@ -13,6 +15,7 @@ use Rattle.arch_reader.specs.declared.form.Form.{Form}
 use Rattle.arch_reader.specs.declared.seen.Seen.{Seen}
 use Rattle.arch_reader.specs.declared.reading.Taken.{Taken}
 use Rattle.arch_reader.proofs.Declared.{seen-push}
+use Rattle.arch_reader.proofs.Naming.{names_all_words}
 use Rattle.arch_reader.proofs.Testing.{passes}
 
 -- the statements of these lines were taken
@@ -33,9 +36,9 @@ AllPass-push before (x ∷ ls) l a p =
 abbrev at_line : ℕ → Statement → ArchLine
 at_line n s = record { line = n; statement = s }
 
-pub one_taken : (old new : Taken) (done : List Line) (line : Line) (form : Option Form) → IsTaken old done → Takes old new line.number form
+pub one_taken : (old new : Taken) (done : List Line) (line : Line) (form : Option Form) → IsTaken old done → Takes old new line.number form → All IsWord line.words
     → form ≡ form_of line.words → first_broken (tests old.seen form) ≡ None → IsTaken new (done ++ line ∷ [])
-one_taken old new done line form i t e fine =
+one_taken old new done line form i t words e fine =
     let s = t.statement in
     let one : line_of line ≡ at_line line.number s ∷ [] = ap (line_with line.number) (sym e ∙ t.form_is) in
     let lines : lines_of done ++ at_line line.number s ∷ [] ≡ lines_of (done ++ line ∷ [])
@@ -45,8 +48,9 @@ one_taken old new done line form i t e fine =
     let statements : statements_in (lines_of done) ++ s ∷ [] ≡ statements_in (lines_of done ++ at_line line.number s ∷ []) = sym (map_push statement_of (lines_of done) (at_line line.number s)) in
     let tried : first_broken (tests (seen (statements_in (lines_of done))) (Some (plain s))) ≡ None
     = ap (λ (x : Seen). first_broken (tests x (Some (plain s)))) (sym i.seen_is) ∙ ap (λ (f : Option Form). first_broken (tests old.seen f)) (sym t.form_is) ∙ fine in
+    let named : All IsWord (names_in s) = names_all_words line.words s words (sym e ∙ t.form_is) in
     let pass : AllPass [] (lines_of done ++ at_line line.number s ∷ [])
-    = AllPass-push [] (lines_of done) (at_line line.number s) (subst (AllPass []) i.lines_are i.pass) (passes (statements_in (lines_of done)) s tried) in
+    = AllPass-push [] (lines_of done) (at_line line.number s) (subst (AllPass []) i.lines_are i.pass) (passes (statements_in (lines_of done)) s named tried) in
     record {
       seen_is = seen_is ∙ ap seen statements ∙ ap (λ (ls : List ArchLine). seen (statements_in ls)) lines;
       lines_are = lines_are ∙ lines;

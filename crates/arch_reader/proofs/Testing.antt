@@ -5,17 +5,20 @@ use Rattle.line_words.specs.Rules.{Test, IsRanked, AreInOrder, first_broken}
 use Rattle.line_words.specs.declared.refusals.Why.{Why}
 use Rattle.line_words.proofs.Steps.{in_order_headed}
 use Rattle.line_words.proofs.Least.{first_broken-append-none, first_broken-append-some}
+use Rattle.std.specs.List.{All}
 use Rattle.std.specs.Option.{option_or}
+use Rattle.arch_reader.specs.Words.{IsWord}
 use Rattle.arch_reader.specs.Numbers.{fine}
 use Rattle.arch_reader.specs.Shapes.{plain, form_of}
 use Rattle.arch_reader.specs.Seen.{seen}
-use Rattle.arch_reader.specs.Tests.{tests}
+use Rattle.arch_reader.specs.Tests.{names_in, tests}
 use Rattle.arch_reader.specs.Arch.{is_header, later, at_end, arch_rules, statements_in, lines_of, Passes}
 use Rattle.arch_reader.specs.declared.statement.Statement.{Statement}
 use Rattle.arch_reader.specs.declared.numbers.Misread.{Misread}
 use Rattle.arch_reader.specs.declared.form.Form.{Form}
 use Rattle.arch_reader.specs.declared.seen.Seen.{Seen}
 use Rattle.arch_reader.proofs.Misreading.{none_misread}
+use Rattle.arch_reader.proofs.Naming.{declared_is_word}
 
 -- ---- their order
 
@@ -123,12 +126,14 @@ accepted_plain s f e =
     ap (λ (x : Misread). with_misread f.statement x) m
 
 -- the tests by name
-pub passes : (before : List Statement) (s : Statement) → first_broken (tests (seen before) (Some (plain s))) ≡ None → Passes before s
-passes before s e =
+pub passes : (before : List Statement) (s : Statement) → All IsWord (names_in s) → first_broken (tests (seen before) (Some (plain s))) ≡ None → Passes before s
+passes before s words e =
     let a = all_false (tests (seen before) (Some (plain s))) e in
     let names = a.1.1.1.1.1.1.1 in
     let values = names.1.1.1.1.1.1.1.1.1.1.1 in
     record {
+      name_is_word = declared_is_word s words;
+      names_are_words = words;
       name_is_no_arrow = a.0;
       name_is_not_reserved = a.1.0;
       clock_is_in_time = a.1.1.0;

@@ -1,11 +1,13 @@
 -- The architecture file: its rules, what its lines state, and what is kept of a file that was read.
 use Rattle.std.specs.Prelude.{◌≡◌, ℕ, List, [], ◌∷◌, ◌++◌, map, Bool, false, ◌&&◌, Option, Some, None, codes}
-use Rattle.std.specs.List.{flat_map}
+use Rattle.std.specs.List.{flat_map, All}
+use Rattle.std.specs.Option.{IfSome}
 use Rattle.std.specs.Str.{bytes_eq}
 use Rattle.line_words.specs.Rules.{Test, Words, Rules, Statement as Line, headed_rules, without_header}
+use Rattle.arch_reader.specs.Words.{IsWord}
 use Rattle.arch_reader.specs.Shapes.{form_of}
 use Rattle.arch_reader.specs.Seen.{seen}
-use Rattle.arch_reader.specs.Tests.{has_arrow_name, has_reserved_name, is_late_clock, has_negative_weight, has_negative_time, has_negative_quantity, has_unknown_weight, has_unknown_key, has_unknown_place, has_unknown_resource, has_unknown_link, is_declared_again, is_second_clock, has_repeated_weight, has_repeated_key, has_repeated_place, is_self_link, has_fraction, has_big_scale, has_big_weight, has_big_time, has_big_quantity, has_long_name, is_past_resources, is_past_links, is_past_objectives, tests}
+use Rattle.arch_reader.specs.Tests.{declared_name, names_in, has_arrow_name, has_reserved_name, is_late_clock, has_negative_weight, has_negative_time, has_negative_quantity, has_unknown_weight, has_unknown_key, has_unknown_place, has_unknown_resource, has_unknown_link, is_declared_again, is_second_clock, has_repeated_weight, has_repeated_key, has_repeated_place, is_self_link, has_fraction, has_big_scale, has_big_weight, has_big_time, has_big_quantity, has_long_name, is_past_resources, is_past_links, is_past_objectives, tests}
 use Rattle.arch_reader.specs.declared.statement.Statement.{Statement}
 use Rattle.arch_reader.specs.declared.statement.ArchLine.{ArchLine}
 use Rattle.arch_reader.specs.declared.form.Form.{Form}
@@ -54,8 +56,10 @@ abbrev pub stated : List Line → List ArchLine
 stated ls = lines_of (without_header ls)
 
 -- A statement breaks no rule after the statements before it: each test by name. A statement that was read has numbers
--- in their places, so no test of that stands here.
+-- in their places, so no test of that stands here. Its names are words of its line.
 pub record Passes (before : List Statement) (s : Statement) : Type 0 where
+  pub name_is_word : IfSome (declared_name s) IsWord
+  pub names_are_words : All IsWord (names_in s)
   pub name_is_no_arrow : has_arrow_name s ≡ false
   pub name_is_not_reserved : has_reserved_name s ≡ false
   pub clock_is_in_time : is_late_clock (seen before) s ≡ false

@@ -3,7 +3,7 @@ use Rattle.std.specs.Prelude.{ℕ, ℤ, List, [], ◌∷◌, ◌++◌, length, B
 use Rattle.std.specs.List.{list_any}
 use Rattle.std.specs.Option.{option_map_or}
 use Rattle.std.specs.Str.{bytes_eq}
-use Rattle.line_words.specs.Rules.{Test}
+use Rattle.line_words.specs.Rules.{Words, Test}
 use Rattle.line_words.specs.declared.refusals.Why.TheVariants.{BadStatement, BadNumber, UnknownName, RepeatedName, SelfLink, NotWhole, TooBig, Limit}
 use Rattle.line_words.specs.declared.refusals.What.TheVariants.{NameBytes, Objectives, Resources, Links}
 use Rattle.arch_reader.specs.Words.{is_arrow, is_reserved, is_table_key}
@@ -12,7 +12,7 @@ use Rattle.arch_reader.specs.Seen.{scale_or_0}
 use Rattle.arch_reader.specs.declared.statement.KeyAmount.{KeyAmount}
 use Rattle.arch_reader.specs.declared.statement.KeyColumn.{KeyColumn}
 use Rattle.arch_reader.specs.declared.statement.Statement.{Statement}
-use Rattle.arch_reader.specs.declared.statement.Statement.TheVariants.{Objective, Clock, Resource, Link, Traffic, Task, Message, Merge, Map, Table, Quantity, Delay, Deadline}
+use Rattle.arch_reader.specs.declared.statement.Statement.TheVariants.{Objective, Clock, Resource, Link, Traffic, Task, Message, Merge, Map, Table, Quantity, QuantityTable, Hops, Delay, Deadline}
 use Rattle.arch_reader.specs.declared.seen.Objective.{Objective as Declared}
 use Rattle.arch_reader.specs.declared.seen.Seen.{Seen}
 use Rattle.arch_reader.specs.declared.form.Form.{Form}
@@ -28,6 +28,29 @@ declared_name (Task name) = Some name
 declared_name (Message name sender receivers) = Some name
 declared_name (Merge name messages) = Some name
 declared_name s = None
+
+-- the name that a statement is about, where it isn't about all
+abbrev pub named : Option (List ℕ) → Words
+named None = []
+named (Some name) = name ∷ []
+
+-- all names that stand in it as whole words, the declared one first
+abbrev pub names_in : Statement → Words
+names_in (Objective name scale floor) = name ∷ []
+names_in (Clock scale floor) = []
+names_in (Resource name weights) = name ∷ []
+names_in (Link name a b two_way weights) = name ∷ a ∷ b ∷ []
+names_in (Traffic link weights) = link ∷ []
+names_in (Task name) = name ∷ []
+names_in (Message name sender receivers) = name ∷ sender ∷ receivers
+names_in (Merge name messages) = name ∷ messages
+names_in (Map task resource time weights) = task ∷ resource ∷ []
+names_in (Table name index resource keys weights_at) = name ∷ resource ∷ []
+names_in (Quantity message amount) = message ∷ []
+names_in (QuantityTable name index column rows) = name ∷ []
+names_in (Hops message limit) = named message
+names_in (Delay message amount) = named message
+names_in (Deadline task at) = task ∷ []
 
 -- its words `OBJ=D`
 abbrev pub weights_of : Statement → List KeyAmount

@@ -9,8 +9,9 @@ use std::marker::Model;
 
 /// The statements after the header in their order, and the number past the last line.
 ///
-/// None of them breaks a rule of the reader after the statements before it: their names are
-/// declared on earlier lines, no key stands twice, and their numbers are in their bounds.
+/// None of them breaks a rule of the reader after the statements before it: their names are words,
+/// those of objectives, resources and links that they use are declared on earlier lines, no key
+/// stands twice, and their numbers are in their bounds.
 #[derive(Debug, Drop)]
 pub struct ArchFile {
     pub lines: Items<ArchLine>,
@@ -29,7 +30,8 @@ impl Model for ArchFile {
 }
 
 impl ArchFile {
-    /// That no statement breaks a rule after the statements before it.
+    /// That no statement breaks a rule after the statements before it: `AllPass` has this of each
+    /// statement, one test by name.
     pub fn facts(&self)
         ensures { AllPass [] self.now.lines }
     {

@@ -24,6 +24,7 @@ pub use file::ArchFile;
 pub use lists::{Items, Name};
 pub use numbers::at_scale;
 pub use reading::read_arch;
+pub use seen::{Objective, Seen, scale_or_0};
 pub use statement::{ArchLine, KeyAmount, KeyColumn, Statement};
 
 #[cfg(test)]

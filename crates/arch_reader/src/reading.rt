@@ -1,12 +1,12 @@
 //! Reads an architecture file, once from left to right.
 
-ghost use Rattle.std.specs.Prelude.{◌≡◌, ◌≤◌, ◌+◌, [], length, Some, None, IfOk, MatchResult};
+ghost use Rattle.std.specs.Prelude.{◌≡◌, ◌≤◌, ◌+◌, [], length, Some, None, IfOk, MatchResult, All};
 ghost use Rattle.line_words.specs.Text.{lines, words_in};
 ghost use Rattle.line_words.specs.Rules.{first_broken, texts};
 ghost use Rattle.line_words.specs.Run.{run};
 ghost use Rattle.line_words.specs.Reads.{Reads, Agrees, Stops};
 ghost use Rattle.line_words.specs.declared.refusals.FileTag.TheVariants.{Arch};
-ghost use Rattle.arch_reader.specs.Words.{said};
+ghost use Rattle.arch_reader.specs.Words.{said, IsWord};
 ghost use Rattle.arch_reader.specs.Shapes.{plain, form_of};
 ghost use Rattle.arch_reader.specs.Tests.{tests};
 ghost use Rattle.arch_reader.specs.Arch.{is_header, stated, arch_rules, lines_in};
@@ -24,7 +24,8 @@ use std::alloc::{AllocError, Global};
 
 /// The words of a line.
 fn words_of<'a>(alloc: Global, line: &Line<'a>) -> Result<Vec<&'a str>, AllocError>
-    ensures { IfOk result (λ found. said found.items ≡ texts (words_in line.now.content)) }
+    ensures texts { IfOk result (λ found. said found.items ≡ texts (words_in line.now.content)) }
+    ensures are_words { IfOk result (λ found. All IsWord (said found.items)) }
 {
     let mut found = Vec::new(alloc);
     let mut words = line.words();

@@ -80,7 +80,7 @@ fn is_declared(names: &[Name], name: &str) -> bool
 }
 
 /// The objective with a name.
-fn objective_called<'a>(objectives: &'a [Objective], name: &str) -> Option<&'a Objective>
+pub(crate) fn objective_called<'a>(objectives: &'a [Objective], name: &str) -> Option<&'a Objective>
     ensures { option_map (λ o. o.now) result ≡ tests.objective_called objectives.now name.now }
 {
     objectives

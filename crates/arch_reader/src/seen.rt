@@ -1,10 +1,13 @@
 //! What the statements so far declare.
 
 ghost use Rattle.std.specs.Prelude.{◌≡◌, [], OnOk};
+ghost use Rattle.std.specs.Option.{option_map};
 ghost use Rattle.arch_reader.specs.Seen.{scale_or_0, seen, after};
+ghost use Rattle.arch_reader.specs.Tests.{objective_called};
 
 use crate::lists::{Items, Name};
 use crate::numbers::name_of;
+use crate::rules::objective_called;
 use crate::statement::Statement;
 use std::alloc::{AllocError, Global};
 
@@ -28,7 +31,7 @@ pub struct Seen {
 }
 
 /// A scale that isn't written is 0.
-pub(crate) fn scale_or_0(scale: Option<u64>) -> u64
+pub fn scale_or_0(scale: Option<u64>) -> u64
     ensures { result ≡ scale_or_0 scale }
 {
     match scale {
@@ -39,7 +42,7 @@ pub(crate) fn scale_or_0(scale: Option<u64>) -> u64
 
 impl Seen {
     /// What no statement declares.
-    pub(crate) fn none(alloc: Global) -> Seen
+    pub fn none(alloc: Global) -> Seen
         ensures { result ≡ seen [] }
     {
         Seen {
@@ -52,7 +55,7 @@ impl Seen {
     }
 
     /// Adds what one more statement declares.
-    pub(crate) fn add(&mut self, alloc: Global, statement: &Statement) -> Result<(), AllocError>
+    pub fn add(&mut self, alloc: Global, statement: &Statement) -> Result<(), AllocError>
         ensures { OnOk result (self.new ≡ after self.old statement.now) }
     {
         match statement {
@@ -81,5 +84,11 @@ impl Seen {
             }
             _ => Ok(()),
         }
+    }
+    /// The objective with a name.
+    pub fn objective(&self, name: &str) -> Option<&Objective>
+        ensures { option_map (λ o. o.now) result ≡ objective_called self.now.objectives name.now }
+    {
+        objective_called(self.objectives.list(), name)
     }
 }

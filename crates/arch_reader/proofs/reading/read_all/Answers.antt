@@ -34,7 +34,7 @@ returns-then-not-is_header-clause-agrees c =
     let g = rw c.in-Some-Ok.field-0-is at c.in-Some-Ok.ensures.line in
     let ws : Words = said c.in_ok-words.words.items in
     let no : is_header ws ≡ false = ap (λ (ws : List (Bor (List ℕ))). is_header (said ws)) (sym c.deref.ensures.value) ∙ sym c.is_header.ensures ∙ c.if-not-is_header.true in
-    let refused : total ≡ Err (record { line = line.number; why = NoHeader }) = no_header c.args.lines c.next.new.self line ws total g c.in_ok-words.ensures no refl in
+    let refused : total ≡ Err (record { line = line.number; why = NoHeader }) = no_header c.args.lines c.next.new.self line ws total g c.in_ok-words.ensures.texts no refl in
     at_fault total c.no_header-then-not-is_header.result line.number NoHeader
     (c.no_header-then-not-is_header.ensures ∙ ap (λ (n : ℕ). fault_at Arch n (stops_by.Broken NoHeader)) c.number.ensures) refused
 
@@ -46,7 +46,7 @@ lines-init c =
     let fine : is_header ws ≡ true = ap (λ (ws : List (Bor (List ℕ))). is_header (said ws)) (sym c.deref.ensures.value) ∙ sym c.is_header.ensures ∙ c.if-not-is_header.false in (
       record { number = line.number; words = ws },
       [],
-      begins c.args.lines c.next.new.self line ws _ g c.in_ok-words.ensures fine refl,
+      begins c.args.lines c.next.new.self line ws _ g c.in_ok-words.ensures.texts fine refl,
       none_taken c.none-taken.result c.none-taken.ensures.seen c.none-taken.ensures.lines,
       count-gives c.args.lines c.next.new.self line g,
     )
@@ -69,7 +69,7 @@ returns-in-Err-take-clause-agrees c =
     stopped {X = ArchValue} Arch lines_in stated total line.number (first_broken (tests c.lines.taken.seen (form_of ws))) c.in-Err-take.stop c.at_line.result
     (c.at_line.ensures ∙ ap (λ (n : ℕ). fault_at Arch n c.in-Err-take.stop) c.number-in-Err-take.ensures)
     t
-    (λ why e. stops c.lines.lines c.next-in-lines.new.self line i.0 i.1 ws c.lines.taken.seen total why (rw c.in-Ok.is at c.in-Some.ensures.line) c.in_ok-words-2.ensures i.3.seen_is i.2 e)
+    (λ why e. stops c.lines.lines c.next-in-lines.new.self line i.0 i.1 ws c.lines.taken.seen total why (rw c.in-Ok.is at c.in-Some.ensures.line) c.in_ok-words-2.ensures.texts i.3.seen_is i.2 e)
 
 pub lines-preserved : goal.lines-preserved
 lines-preserved c =
@@ -83,8 +83,8 @@ lines-preserved c =
     let one : Line = record { number = line.number; words = ws } in (
       i.0,
       i.1 ++ one ∷ [],
-      goes c.lines.lines c.next-in-lines.new.self line i.0 i.1 ws c.lines.taken.seen total g c.in_ok-words-2.ensures i.3.seen_is i.2 t.0,
-      one_taken c.lines.taken c.take.new.self i.1 one (form_of ws) i.3 (subst (λ (n : ℕ). Takes c.lines.taken c.take.new.self n (form_of ws)) c.number-in-Some.ensures t.1) refl t.0,
+      goes c.lines.lines c.next-in-lines.new.self line i.0 i.1 ws c.lines.taken.seen total g c.in_ok-words-2.ensures.texts i.3.seen_is i.2 t.0,
+      one_taken c.lines.taken c.take.new.self i.1 one (form_of ws) i.3 (subst (λ (n : ℕ). Takes c.lines.taken c.take.new.self n (form_of ws)) c.number-in-Some.ensures t.1) c.in_ok-words-2.ensures.are_words refl t.0,
       count-gives c.lines.lines c.next-in-lines.new.self line g ∙ i.4,
     )
 
