@@ -1,0 +1,69 @@
+-- The first line of a text, with its LF.
+use Rattle.std.proofs.Common.{◌≡◌, ℕ, zero, suc, ◌+◌, ◌<◌, ◌≤◌, true, false, List, [], ◌∷◌, length, take, drop, refl, ap, ◌∙◌, arith, inl, inr}
+use Rattle.std.specs.List.{position_or_len, onto_first, list_any}
+use Rattle.std.specs.Str.{IsAscii, IsUtf8}
+use Rattle.std.proofs.lemmas.Bool.{cases_Bool}
+use Rattle.std.proofs.lemmas.Bool.Decides.{nat_tests}
+use Rattle.std.proofs.lemmas.Str.{IsUtf8-from_ascii}
+use Rattle.line_words.specs.Front.{is_lf}
+use Rattle.line_words.proofs.Whys.{neither}
+use Rattle.line_words.proofs.Ascii.{IsAscii-part}
+use Rattle.result_text.specs.Lines.{pieces, is_bad}
+
+pub pieces-nil : pieces [] ≡ []
+unfolding pieces
+pieces-nil = refl
+
+pub pieces-end : (b : ℕ) (bs : List ℕ) → is_lf b ≡ true → pieces (b ∷ bs) ≡ (b ∷ []) ∷ pieces bs
+unfolding pieces
+pieces-end b bs e = rw e refl
+
+pub pieces-byte : (b : ℕ) (bs : List ℕ) → is_lf b ≡ false → pieces (b ∷ bs) ≡ onto_first b (pieces bs)
+unfolding pieces
+pieces-byte b bs e = rw e refl
+
+abbrev before_lf : List ℕ → ℕ
+before_lf bs = position_or_len is_lf bs
+
+-- the first piece with its LF, and what follows it
+pub pieces-first : (bs : List ℕ) → position_or_len is_lf bs < length bs → pieces bs ≡ take (position_or_len is_lf bs + 1) bs ∷ pieces (drop (position_or_len is_lf bs + 1) bs)
+pieces-first [] h = absurd (omega arith)
+pieces-first (b ∷ bs) h =
+    elim (cases_Bool (is_lf b)) [
+      | inl t ↦ let n : before_lf (b ∷ bs) ≡ 0 = rw t refl in rw n (pieces-end b bs t)
+      | inr f ↦
+          let k = before_lf bs in
+          let n : before_lf (b ∷ bs) ≡ suc k = rw f (omega arith) in
+          let lt : position_or_len is_lf bs < length bs = omega (arith, h, n) in
+          let next : suc k + 1 ≡ suc (k + 1) = omega arith in
+          rw (n, next) (pieces-byte b bs f ∙ ap (onto_first b) (pieces-first bs lt))
+    ]
+
+-- a text without LF is one piece
+pub pieces-last : (bs : List ℕ) → 0 < length bs → length bs ≤ position_or_len is_lf bs → pieces bs ≡ bs ∷ pieces []
+pieces-last [] h ge = absurd (omega (arith, h))
+pieces-last (b ∷ []) h ge =
+    elim (cases_Bool (is_lf b)) [
+      | inl t ↦ absurd (let n : before_lf (b ∷ []) ≡ 0 = rw t refl in omega (arith, n, ge))
+      | inr f ↦ pieces-byte b [] f ∙ rw pieces-nil refl
+    ]
+pieces-last (b ∷ c ∷ bs) h ge =
+    elim (cases_Bool (is_lf b)) [
+      | inl t ↦ absurd (let n : before_lf (b ∷ c ∷ bs) ≡ 0 = rw t refl in omega (arith, n, ge))
+      | inr f ↦
+          let n : before_lf (b ∷ c ∷ bs) ≡ suc (before_lf (c ∷ bs)) = rw f (omega arith) in
+          pieces-byte b (c ∷ bs) f ∙ ap (onto_first b) (pieces-last (c ∷ bs) (omega arith) (omega (arith, n, ge)))
+    ]
+
+-- ---- the bytes of a line without fault are ASCII text
+
+small_byte : (b : ℕ) → is_bad b ≡ false → b < 128
+small_byte b h = grind (arith, nat_tests)
+
+IsAscii-fine : (bs : List ℕ) → list_any is_bad bs ≡ false → IsAscii bs
+IsAscii-fine [] h i = omega arith
+IsAscii-fine (b ∷ bs) h zero = small_byte b (neither (is_bad b) (list_any is_bad bs) h).0
+IsAscii-fine (b ∷ bs) h (suc i) = IsAscii-fine bs (neither (is_bad b) (list_any is_bad bs) h).1 i
+
+pub IsUtf8-front : (bs : List ℕ) (n : ℕ) → list_any is_bad bs ≡ false → IsUtf8 (take n bs)
+IsUtf8-front bs n h = IsUtf8-from_ascii (take n bs) (IsAscii-part bs 0 n (IsAscii-fine bs h))
