@@ -1,11 +1,10 @@
 -- A plan with an objective, a link or a message more is a plan.
-use Rattle.std.proofs.Common.{◌≡◌, ℕ, zero, suc, ◌+◌, ◌-◌, ◌*◌, ◌<◌, ◌≤◌, ◌^◌, Bool, true, false, cond, List, [], ◌∷◌, ◌++◌, length, get_or, map, refl, sym, ap, ◌∙◌, subst, arith, All, Contains, ◌⊎◌, inl, inr, length-append}
-use Rattle.std.specs.Prelude.{Any}
-use Rattle.std.proofs.lemmas.List.{get_or_append_left, get_or-append_right, get_or_default, length-map}
-use Rattle.std.proofs.lemmas.List.Elements.{All-push, All-append, All-cons, All-nil, All-weaker, All-get_or}
+use Rattle.std.proofs.Common.{◌≡◌, ℕ, ◌-◌, ◌<◌, ◌≤◌, ◌^◌, Bool, true, false, List, [], ◌∷◌, ◌++◌, length, get_or, map, refl, sym, ap, ◌∙◌, subst, arith, All, Contains, ◌⊎◌, inl, inr, length-append}
+use Rattle.std.proofs.lemmas.List.{get_or_append_left, get_or-append_right, get_or_default}
+use Rattle.std.proofs.lemmas.List.Elements.{All-push, All-append, All-cons, All-nil}
 use Rattle.std.proofs.lemmas.Bool.{cases_lt}
-use Rattle.spec_model.specs.Spec.{Name, SpecValue, Message, Arc, Choice, Deadline}
-use Rattle.spec_model.specs.WellFormed.{AreDistinct, AreArcsDistinct, IsArcIn, IsOptionIn, IsDeadlineIn, IsRow, AreRows, Leads}
+use Rattle.spec_model.specs.Spec.{Name, SpecValue, Message, Arc}
+use Rattle.spec_model.specs.WellFormed.{AreDistinct, IsArcIn, AreRows, Leads}
 use Rattle.spec_model.proofs.Chains.{still_none}
 use Rattle.spec_graph.specs.Plan.{IsPlan, IsPlanned, arcs_of_link, with_link, with_message}
 use Rattle.task_order.specs.Order.{IsOrderOf, IsLed, comes_after, is_joined}

@@ -1,6 +1,6 @@
 -- What a plan becomes at its end: the sizes that are tested, and that the specification is well formed.
-use Rattle.std.proofs.Common.{◌≡◌, ℕ, ◌+◌, ◌*◌, ◌<◌, ◌≤◌, ◌^◌, Bool, true, false, cond, List, ◌++◌, length, get_or, map, take, drop, refl, sym, ap, ◌∙◌, subst, arith, All, ◌⊎◌, inl, inr}
-use Rattle.std.specs.Prelude.{min, ◌==◌, Any, IsTrue, ◌↔◌}
+use Rattle.std.proofs.Common.{◌≡◌, ℕ, ◌+◌, ◌*◌, ◌<◌, ◌≤◌, ◌^◌, Bool, cond, List, ◌++◌, length, get_or, map, take, drop, refl, sym, ap, ◌∙◌, subst, arith, All, ◌⊎◌, inl, inr}
+use Rattle.std.specs.Prelude.{◌==◌, Any, IsTrue, ◌↔◌}
 use Rattle.std.specs.List.{sum_by, count_by}
 use Rattle.std.proofs.Math.Seq.{take-append_seam}
 use Rattle.std.proofs.lemmas.Bool.{cases_lt}
@@ -8,15 +8,15 @@ use Rattle.std.proofs.lemmas.List.{get_or-map, get_or_default, length-map}
 use Rattle.std.proofs.lemmas.List.FromFn.{get_or-map-range_with_len, length-map-range_with_len}
 use Rattle.std.proofs.lemmas.List.Sums.{count_by-le-length}
 use Rattle.std.proofs.lemmas.List.Elements.{All-weaker, All-map}
-use Rattle.spec_model.specs.Spec.{SpecValue, Message, Arc as ArcValue, Choice as ChoiceValue, below, message_at, arc_at, all_variables, design_variables, further}
-use Rattle.spec_model.specs.Rules.{of_task, options_of}
+use Rattle.spec_model.specs.Spec.{SpecValue, Message, Arc as ArcValue, Choice as ChoiceValue, below, message_at, arc_at, all_variables, further}
+use Rattle.spec_model.specs.Rules.{of_task}
 use Rattle.spec_model.specs.Vectors.{weight_in}
 use Rattle.spec_model.specs.WellFormed.{IsWellFormed, IsArcIn, IsMessageIn, IsOptionIn, IsDeadlineIn, message_size, option_count, size, most_hops}
 use Rattle.spec_model.proofs.Sums.{sum_by_map, sum_by_same, count_those}
 use Rattle.spec_model.proofs.Chains.{KeepsWay, none_mapped}
 use Rattle.spec_graph.specs.Lists.{arc_value, choice_value}
 use Rattle.spec_graph.specs.Plan.{IsPlan, IsPlanned, finished, with_limit_at_most}
-use Rattle.spec_graph.specs.Refusals.{IsFinishAccepted, HasBigProduct, CarriesTooMuch, IsBigOn, HasBigTimes}
+use Rattle.spec_graph.specs.Refusals.{IsFinishAccepted, HasBigProduct, CarriesTooMuch}
 use Rattle.spec_graph.specs.Sums.{kept_further, kept_terms, options_of_task, is_of_task, count_of, IsCounted}
 use Rattle.spec_graph.specs.declared.numbers.Arc.{Arc}
 use Rattle.spec_graph.specs.declared.numbers.Choice.{Choice}

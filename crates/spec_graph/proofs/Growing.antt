@@ -1,13 +1,12 @@
 -- A plan with one item more is a plan.
-use Rattle.std.proofs.Common.{◌≡◌, ℕ, zero, suc, ◌+◌, ◌-◌, ◌*◌, ◌<◌, ◌≤◌, ◌^◌, List, [], ◌∷◌, ◌++◌, length, get_or, refl, sym, ap, ◌∙◌, subst, arith, All, Contains, ◌⊎◌, inl, inr, length-append}
-use Rattle.std.specs.Prelude.{Any}
+use Rattle.std.proofs.Common.{◌≡◌, ℕ, ◌+◌, ◌-◌, ◌<◌, ◌≤◌, ◌^◌, List, [], ◌∷◌, ◌++◌, length, get_or, refl, sym, ap, ◌∙◌, subst, arith, All, Contains, ◌⊎◌, inl, inr, length-append}
 use Rattle.std.proofs.lemmas.List.{get_or_append_left, get_or-append_right, get_or_default}
 use Rattle.std.proofs.lemmas.List.Elements.{All-push, All-weaker}
 use Rattle.std.proofs.lemmas.Bool.{cases_lt}
 use Rattle.spec_model.specs.Spec.{Name, SpecValue, Message, Arc, Choice, Deadline}
-use Rattle.spec_model.specs.WellFormed.{AreDistinct, ArePairsDistinct, IsArcIn, IsOptionIn, IsDeadlineIn, IsRow, AreRows}
+use Rattle.spec_model.specs.WellFormed.{AreDistinct, IsArcIn, IsOptionIn, IsDeadlineIn, IsRow, AreRows}
 use Rattle.spec_graph.specs.Plan.{IsPlan, IsPlanned}
-use Rattle.spec_graph.specs.Refusals.{IsBig, HasBig, IsMapped, IsOfPair}
+use Rattle.spec_graph.specs.Refusals.{HasBig, IsMapped}
 
 -- what stands at the end of a list with one element more
 at_end : {A : Type 0} (xs : List A) (x : A) (j : ℕ) (d : A) → length xs ≤ j → j < length (xs ++ x ∷ []) → get_or (xs ++ x ∷ []) j d ≡ x

@@ -4,3 +4,7 @@ mod Adding
 mod Walking
 mod Mapped
 mod Finishing
+mod Changing
+mod Parts
+mod Keeping
+mod OneMessage

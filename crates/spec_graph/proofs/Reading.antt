@@ -1,9 +1,8 @@
 -- What a reader gives, from what it read of the fields.
-use Rattle.std.proofs.Common.{◌≡◌, ℕ, zero, suc, ◌+◌, ◌-◌, ◌*◌, ◌/◌, ◌%◌, ◌<◌, ◌≤◌, ◌^◌, List, length, get_or, map, refl, sym, ap, ◌∙◌, subst, arith, All}
+use Rattle.std.proofs.Common.{◌≡◌, ℕ, zero, suc, ◌+◌, ◌-◌, ◌*◌, ◌/◌, ◌%◌, ◌<◌, ◌≤◌, ◌^◌, List, length, get_or, map, sym, ap, ◌∙◌, subst, arith}
 use Rattle.std.proofs.Math.Nat.{div-lt_iff_lt-mul}
 use Rattle.std.proofs.lemmas.List.{get_or-map, length-map}
-use Rattle.std.proofs.lemmas.List.Elements.{All-contains}
-use Rattle.spec_model.specs.Spec.{SpecValue, Arc as ArcValue, Choice as ChoiceValue, arc_at, option_at, message_at, arc_var, resource_var, link_var, design_variables}
+use Rattle.spec_model.specs.Spec.{SpecValue, Arc as ArcValue, Choice as ChoiceValue, arc_at, message_at, arc_var, resource_var, link_var, design_variables}
 use Rattle.spec_model.specs.Vectors.{weight_in, arc_weight, weight}
 use Rattle.spec_model.specs.WellFormed.{IsWellFormed, IsArcIn, IsOptionIn}
 use Rattle.spec_model.proofs.Numbers.{design_variables-le}

@@ -5,3 +5,5 @@ pub mod Builder
 pub mod Finished
 pub mod Sums
 pub mod Changes
+pub mod Merged
+pub mod Marks

@@ -6,7 +6,6 @@ use Rattle.spec_model.specs.WellFormed.{Leads, size}
 use Rattle.spec_graph.specs.Plan.{finished}
 use Rattle.spec_graph.specs.declared.faults.BuildFault.{BuildFault}
 use Rattle.spec_graph.specs.declared.faults.BuildFault.TheVariants.{Repeated, SelfLink, Cyclic, TooBig, Limit, NoMemory}
-use Rattle.line_words.specs.declared.refusals.What.{What}
 use Rattle.line_words.specs.declared.refusals.What.TheVariants.{Tasks, Messages, Resources, Links, Options, Objectives, Variables, Terms}
 
 -- a weight, time, delay or quantity that is too big

@@ -30,7 +30,7 @@ fn is_of_pair(option: &Choice, task: TaskNo, resource: ResNo) -> bool
 }
 
 /// Whether the task is mapped to the resource.
-fn is_mapped(options: &[Choice], task: TaskNo, resource: ResNo) -> bool
+pub fn is_mapped(options: &[Choice], task: TaskNo, resource: ResNo) -> bool
     ensures { IsTrue result ↔ Any (IsOfPair task.0 resource.0) (map choice_value options.now) }
 {
     for option in options {

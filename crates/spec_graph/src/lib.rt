@@ -2,11 +2,15 @@
 #![tactic(auto)]
 
 mod builder;
+mod changes;
 mod faults;
 mod finish;
+mod gathered;
 mod items;
 mod links;
+mod listed;
 mod lookups;
+mod merging;
 mod messages;
 mod numbers;
 mod products;
@@ -18,5 +22,6 @@ mod sums;
 pub use builder::SpecBuilder;
 pub use faults::BuildFault;
 pub use line_words::What;
+pub use messages::Change;
 pub use numbers::{Arc, ArcNo, Choice, LinkNo, MsgNo, OptNo, ResNo, TaskNo};
 pub use spec::Spec;

@@ -1,6 +1,6 @@
 //! What a specification keeps of a deadline and of a list of weights.
 
-ghost use Rattle.std.specs.Prelude.{◌≡◌, ◌↔◌, IsTrue, IfOk, slice_index_or};
+ghost use Rattle.std.specs.Prelude.{◌≡◌, ◌<◌, ◌↔◌, IsTrue, IfOk, length, slice_index_or, slice_set};
 ghost use Rattle.spec_model.specs.Vectors.{weight_in};
 ghost use Rattle.spec_graph.specs.Refusals.{HasBig, HasBigTimes};
 
@@ -71,6 +71,14 @@ impl Weights {
             Some(weight) => *weight,
             None => 0,
         }
+    }
+
+    /// Sets the weight of objective `j`.
+    pub fn set(&mut self, j: usize, weight: u64)
+        requires { j < length self.old }
+        ensures { self.new ≡ slice_set self.old j weight }
+    {
+        self.numbers[j] = weight;
     }
 }
 

@@ -1,4 +1,4 @@
-use Rattle.std.proofs.Common.{List, map}
+use Rattle.std.proofs.Common.{map}
 use Rattle.spec_graph.specs.Lists.{task_number}
 use Rattle.spec_graph.proofs.Walking.{Seeing}
 use Rattle.spec_graph.proofs.sending.has_twice.Given as goal

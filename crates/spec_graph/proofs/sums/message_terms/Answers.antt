@@ -1,4 +1,4 @@
-use Rattle.std.proofs.Common.{ℕ, List, ◌<◌, length, All, subst, ap, ◌∙◌, sym, map}
+use Rattle.std.proofs.Common.{◌<◌, length, All, subst, ap, ◌∙◌, sym, map}
 use Rattle.spec_model.specs.Spec.{Message}
 use Rattle.spec_graph.specs.Lists.{task_number}
 use Rattle.spec_graph.proofs.Mapped.{all_of_map}

@@ -1,5 +1,3 @@
-use Rattle.std.proofs.Common.{ℕ, List, ◌++◌, ◌∷◌, [], ◌≡◌, map, ap, ◌∙◌, sym}
-use Rattle.spec_model.specs.Spec.{below}
 use Rattle.spec_graph.specs.Sums.{options_of_task}
 use Rattle.spec_graph.proofs.Mapped.{pushed}
 use Rattle.spec_graph.proofs.sums.option_counts.Goals as goal

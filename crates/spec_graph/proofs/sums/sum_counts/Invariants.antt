@@ -1,4 +1,4 @@
-use Rattle.std.proofs.Common.{◌≡◌, ◌+◌, ◌*◌, ◌≤◌, ◌^◌, take, sum_by}
+use Rattle.std.proofs.Common.{◌≡◌, ◌*◌, ◌≤◌, ◌^◌, take, sum_by}
 use Rattle.spec_graph.specs.Sums.{count_at}
 use Rattle.spec_graph.proofs.sums.sum_counts.Given as goal
 

@@ -1,4 +1,4 @@
-use Rattle.std.proofs.Common.{◌≡◌, ◌+◌, ◌*◌, ◌≤◌, ◌^◌, take, sum_by}
+use Rattle.std.proofs.Common.{◌≡◌, ◌*◌, ◌≤◌, ◌^◌, take, sum_by}
 use Rattle.spec_graph.specs.Sums.{kept_further}
 use Rattle.spec_graph.proofs.sums.sum_further.Given as goal
 

@@ -1,4 +1,4 @@
-use Rattle.std.proofs.Common.{ℕ, List, ◌≡◌, length, ap, ◌∙◌, map, subst}
+use Rattle.std.proofs.Common.{ℕ, ◌≡◌, length, ap, ◌∙◌, map, subst}
 use Rattle.spec_model.specs.Spec.{SpecValue, below}
 use Rattle.spec_graph.specs.Lists.{choice_value}
 use Rattle.spec_graph.specs.Plan.{IsPlan}

@@ -1,4 +1,4 @@
-use Rattle.std.proofs.Common.{ap, ◌∙◌, map, sym, length, List, ℕ, subst}
+use Rattle.std.proofs.Common.{ap, ◌∙◌, map}
 use Rattle.spec_model.specs.Spec.{SpecValue}
 use Rattle.spec_graph.specs.Lists.{arc_value}
 use Rattle.spec_graph.specs.Builder.{plan_of}

@@ -1,5 +1,5 @@
 use Rattle.std.proofs.Common.{ℕ, List, ◌≡◌, map, sym, ap, ◌∙◌, subst}
-use Rattle.spec_model.specs.Spec.{SpecValue, Message, all_variables}
+use Rattle.spec_model.specs.Spec.{Message, all_variables}
 use Rattle.spec_model.specs.WellFormed.{IsWellFormed, size, most_hops}
 use Rattle.spec_graph.specs.Builder.{plan_of}
 use Rattle.spec_graph.specs.Plan.{IsPlan, finished, with_limit_at_most}

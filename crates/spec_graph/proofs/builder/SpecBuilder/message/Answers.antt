@@ -1,14 +1,13 @@
-use Rattle.std.proofs.Common.{ℕ, List, ◌≡◌, ◌<◌, ◌≤◌, ◌++◌, ◌∷◌, [], length, map, All, Contains, sym, ap, ◌∙◌, subst, arith, inl, refl, true}
+use Rattle.std.proofs.Common.{◌≡◌, ◌<◌, ◌≤◌, length, map, sym, ap, ◌∙◌, subst, arith, inl, refl}
 use Rattle.std.proofs.lemmas.List.{length-map}
 use Rattle.std.proofs.lemmas.List.Elements.{All-map}
 use Rattle.spec_model.specs.Spec.{SpecValue, Message}
 use Rattle.spec_model.specs.WellFormed.{Leads}
 use Rattle.task_order.specs.Order.{IsLed, is_in}
-use Rattle.task_order.proofs.Orders.{order_more}
 use Rattle.spec_graph.specs.Lists.{task_number, message_of}
 use Rattle.spec_graph.specs.Builder.{plan_of}
-use Rattle.spec_graph.specs.Refusals.{IsMessageRepeated, IsMessageRefused, IsMessageAccepted, HasTwice, IsBig}
-use Rattle.spec_graph.specs.declared.faults.BuildFault.TheVariants.{Repeated, Cyclic, Limit}
+use Rattle.spec_graph.specs.Refusals.{IsMessageRepeated, IsMessageRefused, IsMessageAccepted}
+use Rattle.spec_graph.specs.declared.faults.BuildFault.TheVariants.{Cyclic, Limit}
 use Rattle.line_words.specs.declared.refusals.What.TheVariants.{Messages}
 use Rattle.spec_graph.proofs.Mapped.{never, neither}
 use Rattle.spec_graph.proofs.Adding.{plan_message, plan_message_at, added_message, order_of_added}

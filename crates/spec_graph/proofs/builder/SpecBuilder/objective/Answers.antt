@@ -1,4 +1,4 @@
-use Rattle.std.proofs.Common.{ℕ, List, length, ◌≡◌, ◌<◌, Contains, sym, ap, ◌∙◌, subst, rules, arith}
+use Rattle.std.proofs.Common.{List, length, ◌<◌, Contains, sym, ap, ◌∙◌, subst, rules, arith}
 use Rattle.spec_model.specs.Spec.{Name, SpecValue}
 use Rattle.spec_graph.specs.Builder.{plan_of}
 use Rattle.spec_graph.specs.Plan.{IsPlan}

@@ -1,4 +1,4 @@
-use Rattle.std.proofs.Common.{List, length, ◌<◌, ◌≤◌, ◌^◌, ◌++◌, ◌∷◌, [], ◌≡◌, map, sym, ap, ◌∙◌, subst, rules, arith}
+use Rattle.std.proofs.Common.{length, ◌<◌, ◌≤◌, ◌^◌, ◌++◌, ◌∷◌, [], ◌≡◌, map, sym, ap, ◌∙◌, rules, arith}
 use Rattle.std.proofs.lemmas.List.{map-append, length-map}
 use Rattle.spec_model.specs.Spec.{SpecValue, Choice}
 use Rattle.spec_graph.specs.Lists.{choice_value}

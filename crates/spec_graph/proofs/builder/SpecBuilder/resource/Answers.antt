@@ -1,4 +1,4 @@
-use Rattle.std.proofs.Common.{List, length, ◌<◌, ◌≤◌, ◌^◌, ◌++◌, ◌∷◌, [], ◌≡◌, ℕ, Contains, map, sym, ap, ◌∙◌, subst, rules, arith}
+use Rattle.std.proofs.Common.{length, ◌<◌, ◌≡◌, Contains, sym, ap, ◌∙◌, rules, arith}
 use Rattle.spec_model.specs.Spec.{SpecValue}
 use Rattle.spec_graph.specs.Builder.{plan_of}
 use Rattle.spec_graph.specs.Refusals.{HasBig}

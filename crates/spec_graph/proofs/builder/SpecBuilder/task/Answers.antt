@@ -1,4 +1,4 @@
-use Rattle.std.proofs.Common.{List, length, ◌<◌, ◌≤◌, ◌+◌, Contains, sym, ap, subst, rules, arith, length-append, ◌∷◌, []}
+use Rattle.std.proofs.Common.{List, length, ◌<◌, Contains, sym, ap, subst, rules, arith, length-append, ◌∷◌, []}
 use Rattle.spec_model.specs.Spec.{Name}
 use Rattle.task_order.proofs.Orders.{order_same}
 use Rattle.spec_graph.specs.Builder.{plan_of}
