@@ -1,0 +1,5 @@
+pub mod Commands
+pub mod Line
+pub mod Reads
+pub mod Served
+pub mod Table

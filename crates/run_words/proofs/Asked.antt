@@ -1,0 +1,17 @@
+-- The request of a line that was read.
+use Rattle.std.proofs.Common.{◌≡◌, refl, List, Some, None, codes}
+use Rattle.clap.specs.Words.{first_value, found_of}
+use Rattle.clap.specs.declared.parser.matches.ArgMatches.{ArgMatches}
+use Rattle.form_words.specs.Line.{Text}
+use Rattle.form_words.specs.Reads.{Reads}
+use Rattle.form_words.specs.Table.{form_of}
+use Rattle.run_words.specs.Decoding.{decode_request, decode_table, decode_with}
+
+pub asked_none : (words : List Text) → Reads (form_of decode_table) words None → decode_request words ≡ None
+unfolding decode_request
+asked_none words e = rw e refl
+
+pub asked : (words : List Text) (m : ArgMatches) → Reads (form_of decode_table) words (Some m)
+    → decode_request words ≡ decode_with (first_value (found_of m) (codes "tgff")) (first_value (found_of m) (codes "arch")) (first_value (found_of m) (codes "geno"))
+unfolding decode_request
+asked words m h = rw (h.1, h.2 (codes "tgff"), h.2 (codes "arch"), h.2 (codes "geno")) refl

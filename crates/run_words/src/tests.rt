@@ -1,0 +1,34 @@
+//! The worked lines of `decode`.
+
+use super::{Request, read_words};
+use std::alloc::Global;
+use std::test::Fail;
+
+/// The names that a line asks for, or `none`.
+fn asked(alloc: Global, line: &str) -> Result<String, Fail> {
+    let mut words = Vec::new(alloc);
+    for word in line.split(' ') {
+        words.push(String::from_str(alloc, word)?)?;
+    }
+    match read_words(alloc, &words)? {
+        Some(Request::Decode { arch, geno }) => Ok(format!(in alloc; "{arch} {geno}")?),
+        None => Ok(String::from_str(alloc, "none")?),
+    }
+}
+
+#[test]
+fn asks_what_each_line_says(rt: HostRuntime) -> Result<(), Fail> {
+    let alloc = rt.alloc();
+    for (line, expected) in [
+        ("decode - A -", "A -"),
+        ("decode - A", "none"),
+        ("decode - - -", "none"),
+        ("decode -- - A -", "A -"),
+        ("decode - A G", "A G"),
+        ("decode - A - --budget 0", "none"),
+        ("decode - A - --proof A", "none"),
+    ] {
+        assert!(rt; asked(alloc, line)?.as_str() == expected);
+    }
+    Ok(())
+}
