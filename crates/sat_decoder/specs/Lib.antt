@@ -1,3 +1,4 @@
 pub mod Decoder
 pub mod Decoding
+pub mod Frames
 pub mod Models

@@ -8,6 +8,7 @@
 
 mod decoded;
 mod decoder;
+pub mod laws;
 
 pub use decoded::Decoded;
 pub use decoder::Decoder;
