@@ -1,0 +1,193 @@
+-- What was read of a statement is what its carrying out needs.
+use Rattle.std.proofs.Common.{◌≡◌, ◌≢◌, ℕ, ℤ, ◌+◌, ◌-◌, ◌≤◌, ◌<◌, ◌^◌, zero, suc, Bool, true, false, not, cond, List, [], ◌∷◌, ◌++◌, length, get_or, map, Option, None, Some, refl, sym, ap, subst, ◌∙◌, arith, Contains}
+use Rattle.std.specs.Prelude.{nat_le, is_none, ◌||◌, ◌&&◌, ◌==◌}
+use Rattle.std.specs.List.{list_all}
+use Rattle.std.specs.Option.{option_map_or}
+use Rattle.std.specs.Str.{bytes_eq}
+use Rattle.std.proofs.lemmas.Slice.Eq.{bytes_eq-Decides}
+use Rattle.std.proofs.lemmas.Bool.{false≢true, leb-false}
+use Rattle.std.proofs.lemmas.List.{length-map, take-map, map-append}
+use Rattle.names.specs.Names.{IsName, is_name_byte}
+use Rattle.spec_model.specs.Spec.{Name}
+use Rattle.line_words.specs.Text.{is_word_byte}
+use Rattle.arch_reader.specs.Words.{IsWord}
+use Rattle.arch_reader.specs.Numbers.{at_scale}
+use Rattle.arch_reader.specs.Seen.{scale_or_0, seen, objectives_in}
+use Rattle.arch_reader.specs.Tests.{objective_called, is_declared, is_above, weights_of}
+use Rattle.arch_reader.specs.Arch.{AllPass, Passes, statement_of, statements_in}
+use Rattle.arch_reader.specs.declared.statement.ArchLine.{ArchLine}
+use Rattle.arch_reader.proofs.Places.{before_place, passes_at, seen_at-more}
+use Rattle.arch_reader.specs.declared.seen.Objective.{Objective as Declared}
+use Rattle.arch_reader.specs.declared.seen.Seen.{Seen}
+use Rattle.arch_reader.specs.declared.statement.Statement.{Statement}
+use Rattle.arch_reader.specs.declared.statement.Statement.TheVariants.{Objective, Clock, Resource, Link, Traffic, Task, Message, Merge, Map, Table, Quantity, QuantityTable, Hops, Delay, Deadline}
+use Rattle.spec_join.specs.Joining.{Joining, start, declared, plan_with, objective_name, objective_scale, time_at, time_or_0}
+use Rattle.spec_join.specs.Reading.{after}
+use Rattle.spec_join.specs.Fits.{IsFit, IsDeclarable, AreWeighable}
+use Rattle.spec_join.proofs.Tying.{IsTied, tied}
+use Rattle.spec_join.proofs.Weighing.{weighable, declared_of, not_declared, not_above}
+
+left_false : (a b : Bool) → (a || b) ≡ false → a ≡ false
+left_false true b h = h
+left_false false b h = refl
+
+right_false : (a b : Bool) → (a || b) ≡ false → b ≡ false
+right_false true b h = absurd (false≢true (sym h))
+right_false false b h = h
+
+not_false : (a : Bool) → not a ≡ false → a ≡ true
+not_false true h = refl
+not_false false h = absurd (false≢true (sym h))
+
+left_true : (a b : Bool) → (a && b) ≡ true → a ≡ true
+left_true true b h = refl
+left_true false b h = h
+
+right_true : (a b : Bool) → (a && b) ≡ true → b ≡ true
+right_true true b h = h
+right_true false b h = absurd (false≢true h)
+
+both_true : (a b : Bool) → a ≡ true → b ≡ true → (a && b) ≡ true
+both_true a b x y = ap (λ (c : Bool). c && b) x ∙ y
+
+-- the bytes of a word are bytes of a name
+bytes_of : (bs : List ℕ) → list_all is_word_byte bs ≡ true → list_all is_name_byte bs ≡ true
+bytes_of [] h = refl
+bytes_of (b ∷ bs) h = both_true (is_name_byte b) (list_all is_name_byte bs)
+    (left_true (is_name_byte b) (not (b == 35)) (left_true (is_word_byte b) (list_all is_word_byte bs) h))
+    (bytes_of bs (right_true (is_word_byte b) (list_all is_word_byte bs) h))
+
+-- a word is a name
+pub named_of : (name : Name) → IsWord name → IsName name
+named_of name h = record { some = h.some; bytes = bytes_of name h.bytes }
+
+there : (was now : List Name) (name : Name) → now ≡ was → not (is_declared was name) ≡ false → Contains now name
+there was now name e h = subst (λ (ns : List Name). Contains ns name) (sym e) (declared_of was name (not_false (is_declared was name) h))
+
+new : (was now : List Name) (name : Name) → now ≡ was → is_declared was name ≡ false → Contains now name → ⊥
+new was now name e h c = not_declared was name h (subst (λ (ns : List Name). Contains ns name) e c)
+
+room : (was now : List Name) (most : ℕ) → now ≡ was → nat_le most (length was) ≡ false → length now < most
+room was now most e h = omega (arith, ap length e, leb-false most (length was) h)
+
+apart : (a b : Name) → bytes_eq a b ≡ false → a ≢ b
+apart a b h e = false≢true (sym h ∙ (bytes_eq-Decides a b).1 e)
+
+-- a time at the clock's scale
+timed : (was : Seen) (s : Joining) (amount : ℤ) → s.clock ≡ was.clock → is_above (scale_or_0 was.clock) amount ≡ false → time_at s amount ≤ 2 ^ 40
+timed was s amount e h = subst (λ (o : Option ℕ). at_scale (scale_or_0 o) amount ≤ 2 ^ 40) (sym e) (not_above (scale_or_0 was.clock) amount h)
+
+timed_or_0 : (was : Seen) (s : Joining) (time : Option ℤ) → s.clock ≡ was.clock → option_map_or (is_above (scale_or_0 was.clock)) time false ≡ false → time_or_0 s time ≤ 2 ^ 40
+timed_or_0 was s None e h = omega arith
+timed_or_0 was s (Some amount) e h = timed was s amount e h
+
+weighable_of : (before : List Statement) (s : Joining) (st : Statement) → IsTied (seen before) s → Passes before st → AreWeighable s (weights_of st)
+weighable_of before s st t p = weighable (seen before).objectives t.later s.plan.objectives s.scales (weights_of st) t.objectives t.scales p.weights_are_known p.weights_are_small
+
+pub fits : (before : List Statement) (s : Joining) (st : Statement) → IsTied (seen before) s → Passes before st → IsFit s st
+fits before s (Resource name ws) t p = record {
+  named = named_of name p.name_is_word;
+  new = new (seen before).resources s.plan.resources name t.resources p.name_is_new;
+  weighable = weighable_of before s (Resource name ws) t p;
+  room = room (seen before).resources s.plan.resources 256 t.resources p.resources_are_few;
+}
+fits before s (Link name a b two_way ws) t p =
+    let was = (seen before).resources in
+    record {
+      named = named_of name p.name_is_word;
+      new = new (seen before).links s.plan.links name t.links p.name_is_new;
+      a_there = there was s.plan.resources a t.resources (left_false (not (is_declared was a)) (not (is_declared was b)) p.resources_are_known);
+      b_there = there was s.plan.resources b t.resources (right_false (not (is_declared was a)) (not (is_declared was b)) p.resources_are_known);
+      apart = apart a b p.no_self_link;
+      weighable = weighable_of before s (Link name a b two_way ws) t p;
+      room = room (seen before).links s.plan.links 1024 t.links p.links_are_few;
+    }
+fits before s (Traffic link ws) t p = record {
+  there = there (seen before).links s.plan.links link t.links p.link_is_known;
+  weighable = weighable_of before s (Traffic link ws) t p;
+}
+fits before s (Task name) t p = named_of name p.name_is_word
+fits before s (Message name sender receivers) t p = named_of name p.name_is_word
+fits before s (Merge name messages) t p = named_of name p.name_is_word
+fits before s (Map task resource time ws) t p = record {
+  there = there (seen before).resources s.plan.resources resource t.resources p.resources_are_known;
+  weighable = weighable_of before s (Map task resource time ws) t p;
+  small = timed_or_0 (seen before) s time t.clock p.time_is_small;
+}
+fits before s (Quantity message amount) t p = not_above 0 amount p.quantity_is_small
+fits before s (Delay message amount) t p = timed (seen before) s amount t.clock p.time_is_small
+fits before s (Deadline task at) t p = timed (seen before) s at t.clock p.time_is_small
+fits before s (Objective name scale floor) t p = tt
+fits before s (Clock scale floor) t p = tt
+fits before s (Table name index resource keys weights_at) t p = tt
+fits before s (QuantityTable name index column rows) t p = tt
+fits before s (Hops message limit) t p = tt
+
+-- a name that no objective has
+apart_by : (o : Declared) (os : List Declared) (name : Name) → (is_none (objective_called os name) ≡ true → Contains (map objective_name os) name → ⊥) → (b : Bool) → bytes_eq o.name name ≡ b → is_none (objective_called (o ∷ os) name) ≡ true → Contains (map objective_name (o ∷ os)) name → ⊥
+apart_by o os name ih true e h c = false≢true (ap (λ (b : Bool). is_none (cond b (Some o) (objective_called os name))) (sym e) ∙ h)
+apart_by o os name ih false e h (zero, l, x) = false≢true (sym e ∙ (bytes_eq-Decides o.name name).1 x)
+apart_by o os name ih false e h (suc k, l, x) = ih (ap (λ (b : Bool). is_none (cond b (Some o) (objective_called os name))) (sym e) ∙ h) (k, omega (arith, l), x)
+
+unknown_apart : (os : List Declared) (name : Name) → is_none (objective_called os name) ≡ true → Contains (map objective_name os) name → ⊥
+unknown_apart [] name h c = omega (arith, c.1)
+unknown_apart (o ∷ os) name h c = apart_by o os name (unknown_apart os name) (bytes_eq o.name name) refl h c
+
+-- a statement of a file declares an objective where those before it are declared
+pub declarable : (before : List Statement) (st : Statement) → Passes before st → IsDeclarable (start (seen before).objectives) st
+declarable before (Objective name scale floor) p = record {
+  named = named_of name p.name_is_word;
+  new = unknown_apart (seen before).objectives name (not_false (is_none (objective_called (seen before).objectives name)) p.name_is_new);
+  room = omega (arith, length-map (seen before).objectives objective_name, leb-false 8 (length (seen before).objectives) p.objectives_are_few);
+  no_resource = refl;
+  no_link = refl;
+  no_option = refl;
+}
+declarable before (Clock scale floor) p = tt
+declarable before (Resource name ws) p = tt
+declarable before (Link name a b two_way ws) p = tt
+declarable before (Traffic link ws) p = tt
+declarable before (Task name) p = tt
+declarable before (Message name sender receivers) p = tt
+declarable before (Merge name messages) p = tt
+declarable before (Map task resource time ws) p = tt
+declarable before (Table name index resource keys weights_at) p = tt
+declarable before (Quantity message amount) p = tt
+declarable before (QuantityTable name index column rows) p = tt
+declarable before (Hops message limit) p = tt
+declarable before (Delay message amount) p = tt
+declarable before (Deadline task at) p = tt
+
+-- the statement at a place fits what those before it made
+pub fits_at : (ls : List ArchLine) (k : ℕ) (l : ArchLine) (s : Joining) → AllPass [] ls → k < length ls → l ≡ get_or ls k l → s ≡ after (statements_in ls) k → IsFit s l.statement
+fits_at ls k l s a lt e es =
+    let sts = statements_in ls in
+    let before = before_place ls k in
+    let t : IsTied (seen before) (after sts k) = subst (λ (b : List Statement). IsTied (seen b) (after sts k)) (take-map statement_of k ls) (tied sts k) in
+    let p : Passes before l.statement = subst (λ (x : ArchLine). Passes before x.statement) (sym e) (passes_at ls k l a lt) in
+    subst (λ (x : Joining). IsFit x l.statement) (sym es) (fits before (after sts k) l.statement t p)
+
+-- the statement at a place declares an objective where those before it are declared
+pub declarable_at : (ls : List ArchLine) (k : ℕ) (l : ArchLine) (s : Joining) → AllPass [] ls → k < length ls → l ≡ get_or ls k l → s ≡ start (seen (before_place ls k)).objectives → IsDeclarable s l.statement
+declarable_at ls k l s a lt e es =
+    let before = before_place ls k in
+    let p : Passes before l.statement = subst (λ (x : ArchLine). Passes before x.statement) (sym e) (passes_at ls k l a lt) in
+    subst (λ (x : Joining). IsDeclarable x l.statement) (sym es) (declarable before l.statement p)
+
+abbrev started : List Name → List ℕ → Joining
+started names scales = record { plan = plan_with names; scales = scales; clock = None; hops = 2 ^ 63 - 1; delay = 0 }
+
+-- more objectives behind others
+more_declared : (os new : List Declared) → declared (start os) new ≡ start (os ++ new)
+more_declared os new =
+    ap (λ (ns : List Name). started ns (map objective_scale os ++ map objective_scale new)) (sym (map-append objective_name os new))
+    ∙ ap (λ (cs : List ℕ). started (map objective_name (os ++ new)) cs) (sym (map-append objective_scale os new))
+
+pub declared_at : (ls : List ArchLine) (k : ℕ) (l : ArchLine) (old new : Joining) → k < length ls → l ≡ get_or ls k l → old ≡ start (seen (before_place ls k)).objectives → new ≡ declared old (objectives_in l.statement) → new ≡ start (seen (before_place ls (k + 1))).objectives
+declared_at ls k l old new lt e eo en =
+    let os = (seen (before_place ls k)).objectives in
+    en
+    ∙ ap (λ (s : Joining). declared s (objectives_in l.statement)) eo
+    ∙ more_declared os (objectives_in l.statement)
+    ∙ ap (λ (x : ArchLine). start (os ++ objectives_in x.statement)) e
+    ∙ ap (λ (x : Seen). start x.objectives) (sym (seen_at-more ls k l lt))

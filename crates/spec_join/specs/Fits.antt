@@ -1,0 +1,69 @@
+-- What is kept of a statement of a file that was read, said of what the statements before it made.
+use Rattle.std.specs.Prelude.{◌≡◌, ◌≢◌, ℕ, ℤ, ◌<◌, ◌≤◌, ◌^◌, List, Option, length, All, Contains}
+use Rattle.names.specs.Names.{IsName, number_of}
+use Rattle.spec_model.specs.Spec.{Name}
+use Rattle.arch_reader.specs.Numbers.{at_scale}
+use Rattle.arch_reader.specs.declared.statement.KeyAmount.{KeyAmount}
+use Rattle.arch_reader.specs.declared.statement.Statement.{Statement}
+use Rattle.arch_reader.specs.declared.statement.Statement.TheVariants.{Objective, Resource, Link, Traffic, Task, Message, Merge, Map, Quantity, Delay, Deadline}
+use Rattle.spec_join.specs.Joining.{Joining, weight_of, time_at, time_or_0}
+
+-- a word `OBJ=D` names an objective, and its weight isn't too big
+pub record IsWeighable (objectives : List Name) (scales : List ℕ) (w : KeyAmount) : Type 0 where
+  pub known : Contains objectives w.key
+  pub small : weight_of scales (number_of objectives w.key) w.amount ≤ 2 ^ 40
+
+abbrev pub AreWeighable : Joining → List KeyAmount → Type 0
+AreWeighable s ws = All (IsWeighable s.plan.objectives s.scales) ws
+
+pub record IsFitResource (s : Joining) (name : Name) (weights : List KeyAmount) : Type 0 where
+  pub named : IsName name
+  pub new : ¬ Contains s.plan.resources name
+  pub weighable : AreWeighable s weights
+  pub room : length s.plan.resources < 256
+
+pub record IsFitLink (s : Joining) (name a b : Name) (weights : List KeyAmount) : Type 0 where
+  pub named : IsName name
+  pub new : ¬ Contains s.plan.links name
+  pub a_there : Contains s.plan.resources a
+  pub b_there : Contains s.plan.resources b
+  pub apart : a ≢ b
+  pub weighable : AreWeighable s weights
+  pub room : length s.plan.links < 1024
+
+pub record IsFitTraffic (s : Joining) (link : Name) (weights : List KeyAmount) : Type 0 where
+  pub there : Contains s.plan.links link
+  pub weighable : AreWeighable s weights
+
+pub record IsFitMap (s : Joining) (resource : Name) (time : Option ℤ) (weights : List KeyAmount) : Type 0 where
+  pub there : Contains s.plan.resources resource
+  pub weighable : AreWeighable s weights
+  pub small : time_or_0 s time ≤ 2 ^ 40
+
+-- what the reader of the file tested of a statement
+abbrev pub IsFit : Joining → Statement → Type 0
+IsFit s (Resource name weights) = IsFitResource s name weights
+IsFit s (Link name a b two_way weights) = IsFitLink s name a b weights
+IsFit s (Traffic link weights) = IsFitTraffic s link weights
+IsFit s (Task name) = IsName name
+IsFit s (Message name sender receivers) = IsName name
+IsFit s (Merge name messages) = IsName name
+IsFit s (Map task resource time weights) = IsFitMap s resource time weights
+IsFit s (Quantity message amount) = at_scale 0 amount ≤ 2 ^ 40
+IsFit s (Delay message amount) = time_at s amount ≤ 2 ^ 40
+IsFit s (Deadline task at) = time_at s at ≤ 2 ^ 40
+IsFit s _ = Unit {0}
+
+-- an objective may be declared: nothing with weights stands yet
+pub record IsFitObjective (s : Joining) (name : Name) : Type 0 where
+  pub named : IsName name
+  pub new : ¬ Contains s.plan.objectives name
+  pub room : length s.plan.objectives < 8
+  pub no_resource : length s.plan.resources ≡ 0
+  pub no_link : length s.plan.links ≡ 0
+  pub no_option : length s.plan.options ≡ 0
+
+-- a statement that declares an objective fits
+abbrev pub IsDeclarable : Joining → Statement → Type 0
+IsDeclarable s (Objective name scale floor) = IsFitObjective s name
+IsDeclarable s _ = Unit {0}

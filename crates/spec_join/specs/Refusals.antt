@@ -1,0 +1,112 @@
+-- What a statement is refused for, after what the statements before it made: one condition for each cause. What an
+-- architecture file was read for already isn't asked again.
+use Rattle.std.specs.Prelude.{◌≡◌, ◌≢◌, ℕ, ◌<◌, ◌≤◌, ◌^◌, ◌⊎◌, List, Option, None, Some, length, Any, Contains}
+use Rattle.names.specs.Names.{number_of}
+use Rattle.spec_model.specs.Spec.{Name, SpecValue, name_at, all_variables}
+use Rattle.spec_model.specs.WellFormed.{size}
+use Rattle.spec_graph.specs.Plan.{finished}
+use Rattle.spec_graph.specs.Refusals.{ClosesCycle, IsMapped, HasBigProduct}
+use Rattle.line_words.specs.Refused.{rank}
+use Rattle.line_words.specs.declared.refusals.Why.{Why}
+use Rattle.line_words.specs.declared.refusals.Why.TheVariants.{BadStatement, UnknownName, RepeatedName, TooBig, Cyclic, Limit}
+use Rattle.line_words.specs.declared.refusals.What.{What}
+use Rattle.line_words.specs.declared.refusals.What.TheVariants.{Tasks, Messages, Options, Variables, Terms}
+use Rattle.arch_reader.specs.declared.statement.Statement.{Statement}
+use Rattle.arch_reader.specs.declared.statement.Statement.TheVariants.{Task, Message, Merge, Map, Table, Quantity, QuantityTable, Hops, Delay, Deadline}
+use Rattle.spec_join.specs.Joining.{Joining, message_between, sender_of}
+
+-- a name isn't among some names
+abbrev pub IsMissing : List Name → Name → Type 0
+IsMissing names name = ¬ Contains names name
+
+-- one of the names isn't among some names
+abbrev pub HasMissing : List Name → List Name → Type 0
+HasMissing names listed = Any (IsMissing names) listed
+
+-- a name is listed twice
+pub record IsListedTwice (listed : List Name) : Type 0 where
+  pub first : ℕ
+  pub second : ℕ
+  pub before : first < second
+  pub within : second < length listed
+  pub same : name_at listed first ≡ name_at listed second
+
+-- two of the names are those of messages that are there, and other tasks send them
+pub record DifferInSender (p : SpecValue) (listed : List Name) : Type 0 where
+  pub first : Name
+  pub second : Name
+  pub first_listed : Contains listed first
+  pub second_listed : Contains listed second
+  pub first_there : Contains p.message_names first
+  pub second_there : Contains p.message_names second
+  pub differ : sender_of p first ≢ sender_of p second
+
+-- the name is that of a message that isn't listed
+pub record IsOfOther (p : SpecValue) (name : Name) (listed : List Name) : Type 0 where
+  pub there : Contains p.message_names name
+  pub unlisted : ¬ Contains listed name
+
+-- BadStatement: a list without a name, or a merge of messages of different senders
+abbrev pub IsBad : Joining → Statement → Type 0
+IsBad s (Message name sender receivers) = length receivers ≡ 0
+IsBad s (Merge name messages) = (length messages ≡ 0) ⊎ DifferInSender s.plan messages
+IsBad s _ = ⊥
+
+-- the message that a statement is about, if it is about one
+abbrev pub IsMissingMessage : SpecValue → Option Name → Type 0
+IsMissingMessage p None = ⊥
+IsMissingMessage p (Some message) = IsMissing p.message_names message
+
+-- UnknownName: a task or a message that isn't there, or a table, of which there is none
+abbrev pub IsUnknown : Joining → Statement → Type 0
+IsUnknown s (Message name sender receivers) = IsMissing s.plan.tasks sender ⊎ HasMissing s.plan.tasks receivers
+IsUnknown s (Merge name messages) = HasMissing s.plan.message_names messages
+IsUnknown s (Map task resource time weights) = IsMissing s.plan.tasks task
+IsUnknown s (Table name index resource keys weights_at) = Unit {0}
+IsUnknown s (Quantity message amount) = IsMissing s.plan.message_names message
+IsUnknown s (QuantityTable name index column rows) = Unit {0}
+IsUnknown s (Hops message limit) = IsMissingMessage s.plan message
+IsUnknown s (Delay message amount) = IsMissingMessage s.plan message
+IsUnknown s (Deadline task at) = IsMissing s.plan.tasks task
+IsUnknown s _ = ⊥
+
+-- RepeatedName: a task, a message, or a pair of task and resource that is there already, or a name listed twice
+abbrev pub IsRepeated : Joining → Statement → Type 0
+IsRepeated s (Task name) = Contains s.plan.tasks name
+IsRepeated s (Message name sender receivers) = Contains s.plan.message_names name ⊎ IsListedTwice receivers
+IsRepeated s (Merge name messages) = IsListedTwice messages ⊎ IsOfOther s.plan name messages
+IsRepeated s (Map task resource time weights) = IsMapped s.plan (number_of s.plan.tasks task) (number_of s.plan.resources resource)
+IsRepeated s _ = ⊥
+
+-- Cyclic: the message closes a cycle of tasks
+abbrev pub IsCyclic : Joining → Statement → Type 0
+IsCyclic s (Message name sender receivers) = ClosesCycle s.plan (message_between s sender receivers)
+IsCyclic s _ = ⊥
+
+-- Limit: one more would be too many
+abbrev pub IsPast : Joining → Statement → What → Type 0
+IsPast s (Task name) what = (what ≡ Tasks) × (1024 ≤ length s.plan.tasks)
+IsPast s (Message name sender receivers) what = (what ≡ Messages) × (2048 ≤ length s.plan.messages)
+IsPast s (Map task resource time weights) what = (what ≡ Options) × (16384 ≤ length s.plan.options)
+IsPast s _ what = ⊥
+
+-- a statement breaks a rule and is to be refused for this
+abbrev pub Breaks : Joining → Statement → Why → Type 0
+Breaks s st BadStatement = IsBad s st
+Breaks s st UnknownName = IsUnknown s st
+Breaks s st RepeatedName = IsRepeated s st
+Breaks s st Cyclic = IsCyclic s st
+Breaks s st (Limit what) = IsPast s st what
+Breaks s st _ = ⊥
+
+-- the plan breaks a rule at the end
+abbrev pub BreaksEnd : SpecValue → Why → Type 0
+BreaksEnd p TooBig = HasBigProduct p
+BreaksEnd p (Limit Variables) = 2 ^ 20 < all_variables (finished p)
+BreaksEnd p (Limit Terms) = 2 ^ 23 < size (finished p)
+BreaksEnd p _ = ⊥
+
+-- of what holds, the lowest
+pub record IsLeast (Holds : Why → Type 0) (why : Why) : Type 0 where
+  pub holds : Holds why
+  pub least : (other : Why) → Holds other → rank why ≤ rank other

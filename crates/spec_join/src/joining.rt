@@ -1,0 +1,67 @@
+//! Joins the statements of an architecture file to a specification.
+
+ghost use Rattle.std.specs.Prelude.{◌≡◌, [], length, IfOk, OnOk, IfErr};
+ghost use Rattle.arch_reader.specs.Arch.{AllPass, statements_in};
+ghost use Rattle.spec_graph.specs.Plan.{finished};
+ghost use Rattle.spec_join.specs.Refusals.{BreaksEnd};
+ghost use Rattle.spec_join.specs.Reading.{JoinReads, NoneBreaks, after_all};
+ghost use Rattle.spec_join.specs.Stops.{IsRefused, RefusesEnd, AcceptsEnd};
+
+use crate::faults::stop_for;
+use crate::joiner::Joiner;
+use arch_reader::{ArchFile, ArchLine};
+use line_words::{FileTag, ReadFault, Stop};
+use spec_graph::Spec;
+use std::alloc::Global;
+
+/// Carries out the statements of a file in their order.
+fn carry_all(alloc: Global, lines: &[ArchLine]) -> Result<Joiner, ReadFault>
+    requires { AllPass [] lines.now }
+    ensures made { IfOk result (λ joiner. joiner ≡ after_all lines.now) }
+    ensures accepted { OnOk result (NoneBreaks (statements_in lines.now) (length lines.now)) }
+    ensures refused { IfErr result (IsRefused lines.now) }
+{
+    let mut joiner = Joiner::start(alloc, lines)?;
+    for line in lines {
+        match joiner.carry_out(&line.statement) {
+            Ok(()) => {}
+            Err(stop) => return Err(stop.at_line(FileTag::Arch, line.line)),
+        }
+    }
+    Ok(joiner)
+}
+
+/// The specification that the plan becomes.
+#[tactic(auto, using(crate::proofs::Ending::end_refused, crate::proofs::Ending::end_accepted))]
+fn finish(joiner: Joiner) -> Result<Spec, Stop>
+    ensures finished { IfOk result (λ spec. spec ≡ finished joiner.plan) }
+    ensures accepted { OnOk result (AcceptsEnd joiner.plan) }
+    ensures refused { IfErr result (RefusesEnd joiner.plan) }
+{
+    match joiner.plan.finish() {
+        Ok(spec) => Ok(spec),
+        Err(fault) => Err(stop_for(fault)),
+    }
+}
+
+/// Joins the statements of an architecture file to a specification, without a file of task graphs
+/// and tables.
+///
+/// The statements are carried out in the order of their lines. The first one that is refused is
+/// answered with its line and with the lowest that it is refused for: `BadStatement` (a merge of
+/// messages of different senders), `UnknownName` (a task, a message or a table that isn't there),
+/// `RepeatedName` (a task, a message, or a pair of task and resource that is there already; a name
+/// listed twice), `Cyclic`, and `Limit`. Where none is refused, the whole may be, at the end line:
+/// as `TooBig` where a traffic weight times a quantity is above 2^40, then as `Limit` of
+/// `Variables`, then of `Terms`. Otherwise the answer is the specification that the statements
+/// state.
+pub fn join(alloc: Global, arch: &ArchFile) -> Result<Spec, ReadFault>
+    ensures reads { JoinReads arch.now result }
+{
+    arch.facts();
+    let joiner = carry_all(alloc, arch.lines.list())?;
+    match finish(joiner) {
+        Ok(spec) => Ok(spec),
+        Err(stop) => Err(stop.at_line(FileTag::Arch, arch.end_line)),
+    }
+}

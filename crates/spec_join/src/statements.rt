@@ -1,0 +1,71 @@
+//! Carries out a statement of any kind.
+
+ghost use Rattle.std.specs.Prelude.{◌≡◌, OnOk, IfErr};
+ghost use Rattle.std.specs.Option.{option_or};
+ghost use Rattle.arch_reader.specs.Seen.{scale_or_0};
+ghost use Rattle.spec_join.specs.Effects.{effect};
+ghost use Rattle.spec_join.specs.Fits.{IsFit};
+ghost use Rattle.spec_join.specs.Stops.{Refuses, IsAccepted};
+
+use crate::joiner::Joiner;
+use arch_reader::{Statement, scale_or_0};
+use line_words::{Stop, Why};
+
+impl Joiner {
+    /// `clock [scale N] [floor]`
+    fn set_clock(&mut self, scale: Option<u64>)
+        ensures { self.new ≡ record self.old { clock = option_or self.old.clock (Some (scale_or_0 scale)) } }
+    {
+        if self.clock.is_none() {
+            self.clock = Some(scale_or_0(scale));
+        }
+    }
+
+    /// Carries a statement out, or says what it is refused for.
+    pub(crate) fn carry_out(&mut self, statement: &Statement) -> Result<(), Stop>
+        requires { IsFit self.old statement.now }
+        ensures done { OnOk result (self.new ≡ effect self.old statement.now) }
+        ensures accepted { OnOk result (IsAccepted self.old statement.now) }
+        ensures refused { IfErr result (Refuses self.old statement.now) }
+    {
+        match statement {
+            Statement::Objective { .. } => Ok(()),
+            Statement::Clock { scale, .. } => {
+                self.set_clock(*scale);
+                Ok(())
+            }
+            Statement::Resource { name, weights } => self.resource(name.list(), weights.list()),
+            Statement::Link {
+                name,
+                a,
+                b,
+                two_way,
+                weights,
+            } => self.link(name.list(), a.list(), b.list(), *two_way, weights.list()),
+            Statement::Traffic { link, weights } => {
+                self.traffic(link.list(), weights.list());
+                Ok(())
+            }
+            Statement::Task { name } => self.task(name.list()),
+            Statement::Message {
+                name,
+                sender,
+                receivers,
+            } => self.message(name.list(), sender.list(), receivers.list()),
+            Statement::Merge { name, messages } => self.merge(name.list(), messages.list()),
+            Statement::Map {
+                task,
+                resource,
+                time,
+                weights,
+            } => self.map(task.list(), resource.list(), *time, weights.list()),
+            Statement::Quantity { message, amount } => self.quantity(message.list(), *amount),
+            Statement::Hops { message, limit } => self.hops(message, *limit),
+            Statement::Delay { message, amount } => self.delay(message, *amount),
+            Statement::Deadline { task, at } => self.deadline(task.list(), *at),
+            Statement::Table { .. } | Statement::QuantityTable { .. } => {
+                Err(Stop::Broken(Why::UnknownName))
+            }
+        }
+    }
+}

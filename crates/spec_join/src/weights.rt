@@ -1,0 +1,64 @@
+//! The weights that the words `OBJ=D` of a statement set.
+
+ghost use Rattle.std.specs.Prelude.{◌≡◌, ◌<◌, ◌≤◌, ◌^◌, length, replicate, IfOk, All};
+ghost use Rattle.names.specs.Names.{number_of};
+ghost use Rattle.spec_join.specs.Joining.{weight_of, no_weights, weights_of};
+ghost use Rattle.spec_join.specs.Fits.{IsWeighable, AreWeighable};
+
+use crate::joiner::Joiner;
+use arch_reader::{KeyAmount, at_scale};
+use std::alloc::AllocError;
+
+/// A weight for an objective.
+#[derive(Clone, Copy)]
+pub(crate) struct Weight {
+    pub objective: usize,
+    pub value: u64,
+}
+
+impl Joiner {
+    /// The weight that a word states.
+    pub(crate) fn weight(&self, word: &KeyAmount) -> Weight
+        requires { IsWeighable self.now.plan.objectives self.now.scales word.now }
+        ensures objective { result.objective ≡ number_of self.now.plan.objectives word.now.key }
+        ensures there { result.objective < length self.now.plan.objectives }
+        ensures value { result.value ≡ weight_of self.now.scales (number_of self.now.plan.objectives word.now.key) word.now.amount }
+        ensures small { result.value ≤ 2 ^ 40 }
+    {
+        match self.plan.find_objective(word.key.list()) {
+            Some(objective) => Weight {
+                objective,
+                value: at_scale(self.scales[objective], word.amount) as u64,
+            },
+            None => unreachable!(),
+        }
+    }
+
+    /// A weight of 0 for each objective.
+    pub(crate) fn no_weights(&self) -> Result<Vec<u64>, AllocError>
+        ensures value { IfOk result (λ row. row.items ≡ no_weights self.now) }
+        ensures one_each { IfOk result (λ row. length row.items ≡ length self.now.plan.objectives) }
+        ensures small { IfOk result (λ row. All (λ w. w ≤ 2 ^ 40) row.items) }
+    {
+        let mut row = Vec::new(self.alloc);
+        for _ in 0..self.plan.objectives() {
+            row.push(0)?;
+        }
+        Ok(row)
+    }
+
+    /// The weights that words state, one for each objective.
+    pub(crate) fn weights_of(&self, words: &[KeyAmount]) -> Result<Vec<u64>, AllocError>
+        requires { AreWeighable self.now words.now }
+        ensures value { IfOk result (λ row. row.items ≡ weights_of self.now words.now) }
+        ensures one_each { IfOk result (λ row. length row.items ≡ length self.now.plan.objectives) }
+        ensures small { IfOk result (λ row. All (λ w. w ≤ 2 ^ 40) row.items) }
+    {
+        let mut row = self.no_weights()?;
+        for word in words {
+            let weight = self.weight(word);
+            row[weight.objective] = weight.value;
+        }
+        Ok(row)
+    }
+}
