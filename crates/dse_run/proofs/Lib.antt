@@ -1,6 +1,2 @@
-pub mod First
-pub mod Choosing
-pub mod SmallForms
-pub mod Lines
-pub mod Accepted
-pub mod Bare
+pub mod Numbers
+pub mod Budgets

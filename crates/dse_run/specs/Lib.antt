@@ -1,4 +1,3 @@
-pub mod Search
-pub mod Text
-pub mod SmallForm
+pub mod Loading
+pub mod Answers
 pub mod Run

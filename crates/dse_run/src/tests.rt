@@ -1,26 +1,40 @@
-//! The worked cases of the small form, over desks in memory.
+//! The worked cases, over desks in memory. In a text `|` stands for LF.
 
 ghost use Rattle.desk_io.specs.Files.{HasDistinctNames};
 ghost use Rattle.desk_io.specs.MemoryState.{entries};
 
 use super::{Status, run};
-use desk_io::{MemoryDesk, SureDesk};
+use desk_io::{MemoryDesk, SureDesk, names_are_distinct};
 use std::alloc::{AllocError, Global};
 use std::test::Fail;
 
 /// One task on one resource.
-const ONE: &str = "arch 1\ntask t\nresource cpu0\nmap t cpu0\n";
+const ONE: &str = "arch 1|task t|resource cpu0|map t cpu0|";
 
 /// One task on one of two resources.
-const TWO: &str = "arch 1\ntask t\nresource a\nresource b\nmap t a\nmap t b\n";
+const TWO: &str = "arch 1|task t|resource a|resource b|map t a|map t b|";
 
-/// A task that may run nowhere.
-const NONE: &str = "arch 1\ntask t\n";
+/// Three tasks around a hub, and a message from one of them to the two others.
+const HUB: &str =
+    "arch 1|task s|task d|task e|resource a|resource hub|resource b|resource c|link la a -- hub|link lb hub -- b|link lc hub -- c|message m s -> d e|map s a|map d b|map e c|";
 
-/// The file `A` with this text.
-fn file(alloc: Global, text: &str) -> Result<(String, Vec<u8>), AllocError> {
-    let name = String::from_str(alloc, "A")?;
-    let bytes = Vec::from_slice(alloc, text.as_bytes())?;
+/// Two parallel links, and a third that no message needs.
+const PARALLEL: &str =
+    "arch 1|task s|task w|resource a|resource b|resource c|resource d|link p a -> b|link q a -> b|link r c -- d|message m s -> w|map s a|map w b|";
+
+/// A text with an LF for each `|`.
+fn lines(alloc: Global, text: &str) -> Result<Vec<u8>, AllocError> {
+    let mut bytes = Vec::new(alloc);
+    for byte in text.as_bytes() {
+        bytes.push(if *byte == b'|' { b'\n' } else { *byte })?;
+    }
+    Ok(bytes)
+}
+
+/// A file with this name and text.
+fn file(alloc: Global, name: &str, text: &str) -> Result<(String, Vec<u8>), AllocError> {
+    let name = String::from_str(alloc, name)?;
+    let bytes = lines(alloc, text)?;
     Ok((name, bytes))
 }
 
@@ -33,27 +47,157 @@ fn words(alloc: Global, line: &str) -> Result<Vec<String>, AllocError> {
     Ok(words)
 }
 
+/// What a line says over the files `A` and `G`, and its status.
+fn answer(
+    alloc: Global,
+    line: &str,
+    arch: &str,
+    geno: &str,
+) -> Result<(Status, Vec<u8>), AllocError> {
+    let mut files = Vec::new(alloc);
+    files.push(file(alloc, "A", arch)?)?;
+    files.push(file(alloc, "G", geno)?)?;
+    if !names_are_distinct(&files) {
+        return Err(AllocError);
+    }
+    let mut desk = MemoryDesk::new(alloc, files, Vec::new(alloc));
+    let status = run(alloc, &words(alloc, line)?, &mut desk);
+    let said = Vec::from_slice(alloc, desk.said())?;
+    Ok((status, said))
+}
+
 #[test]
 fn says_what_each_line_asks(rt: HostRuntime) -> Result<(), Fail> {
     let alloc = rt.alloc();
-    let first = "bind t cpu0 0\nalloc cpu0\nvector\n";
-    let second = "bind t b 1\nalloc b\nvector\n";
-    let refused = "input A 0 0 NotBuilt\n";
-    let usage = "usage: dse decode - ARCH -\n";
+    let usage = "usage: dse decode - ARCH GENO|";
+    let hub =
+        "bind s a 0|bind d b 1|bind e c 2|use m la a hub|use m lb hub b|use m lc hub c|alloc a|alloc hub|alloc b|alloc c|wire la|wire lb|wire lc|vector|";
     let rows = [
-        ("decode - A -", ONE, first, Status::Done),
-        ("decode - A -", TWO, second, Status::Done),
-        ("decode - A -", NONE, "none\n", Status::No),
-        ("decode - A -", "arch 2\n", refused, Status::Input),
-        ("decode - A", ONE, usage, Status::Usage),
-        ("decode - - -", ONE, usage, Status::Usage),
+        (
+            "decode - A -",
+            ONE,
+            "",
+            "bind t cpu0 0|alloc cpu0|vector|",
+            Status::Done,
+        ),
+        (
+            "decode - A -",
+            TWO,
+            "",
+            "bind t b 1|alloc b|vector|",
+            Status::Done,
+        ),
+        (
+            "decode - A G",
+            TWO,
+            "genotype 1|gene 0 5 1|gene 1 5 1|",
+            "bind t a 0|alloc a|vector|",
+            Status::Done,
+        ),
+        ("decode - A -", HUB, "", hub, Status::Done),
+        (
+            "decode - A -",
+            PARALLEL,
+            "",
+            "bind s a 0|bind w b 1|use m q a b|alloc a|alloc b|wire q|vector|",
+            Status::Done,
+        ),
+        (
+            "decode - A G",
+            PARALLEL,
+            "genotype 1|gene 2 1 1|",
+            "bind s a 0|bind w b 1|use m p a b|alloc a|alloc b|wire p|vector|",
+            Status::Done,
+        ),
+        (
+            "decode - A G",
+            TWO,
+            "genotype 1|gene 0 4294967296 0|",
+            "input G 2 13 TooBig|",
+            Status::Input,
+        ),
+        (
+            "decode - A G",
+            TWO,
+            "genotype 1|gene 4 1 1|",
+            "input G 2 6 UnknownName|",
+            Status::Input,
+        ),
+        (
+            "decode - A G",
+            TWO,
+            "genotype 1|gene 1 0 0|gene 1 0 0|",
+            "input G 3 17 NotInOrder|",
+            Status::Input,
+        ),
+        (
+            "decode - A G",
+            "",
+            "",
+            "input A 1 3 NoHeader|",
+            Status::Input,
+        ),
+        ("decode - A", ONE, "", usage, Status::Usage),
+        ("decode - - -", ONE, "", usage, Status::Usage),
     ];
-    for (line, text, said, status) in rows {
-        let files = vec![in alloc; file(alloc, text)?]?;
-        let mut desk = MemoryDesk::new(alloc, files, Vec::new(alloc));
-        let answer = run(alloc, &words(alloc, line)?, &mut desk);
-        assert_eq!(rt; answer, status);
-        assert_eq!(rt; desk.said(), said.as_bytes());
+    for (line, arch, geno, said, status) in rows {
+        let found = answer(alloc, line, arch, geno)?;
+        assert_eq!(rt; found.0, status);
+        assert_eq!(rt; found.1, lines(alloc, said)?);
+    }
+    Ok(())
+}
+
+#[test]
+fn decodes_or_refuses_each_file(rt: HostRuntime) -> Result<(), Fail> {
+    let alloc = rt.alloc();
+    let rows = [
+        ("arch 1|objective cost|", "vector 0|"),
+        ("arch 1|task t|", "none|"),
+        (
+            "arch 1|task s|task d|resource a|resource b|message m s -> d|map s a|map d b|",
+            "none|",
+        ),
+        (
+            "arch 1|task s|task d|task e|resource a|message m s -> d e|map s a|map d a|map e a|",
+            "bind s a 0|bind d a 1|bind e a 2|alloc a|vector|",
+        ),
+        (
+            "arch 1|task s|task w|resource a|resource b|resource c|link l1 a -- b|link l2 b -- c|hops 1|message m s -> w|map s a|map w c|",
+            "none|",
+        ),
+        (
+            "arch 1|task s|task w|resource a|resource b|resource c|link l1 a -- b|link l2 b -- c|hops 2|message m s -> w|map s a|map w c|",
+            "bind s a 0|bind w c 1|use m l1 a b|use m l2 b c|alloc a|alloc b|alloc c|wire l1|wire l2|vector|",
+        ),
+        (
+            "arch 1|objective c|resource a c=1099511627776|",
+            "vector 0|",
+        ),
+        (
+            "arch 1|objective c|resource a c=1099511627777|",
+            "input A 3 13 TooBig|",
+        ),
+        ("arch 1|objective c|resource a c=1e-999999|", "vector 0|"),
+        (
+            "arch 1|objective c|resource a c=.|",
+            "input A 3 5 BadNumber|",
+        ),
+        (
+            "arch 1|objective c|resource a c=0.5|",
+            "input A 3 12 NotWhole|",
+        ),
+        (
+            "arch 1|task s|task d|message m s -> d|message n d -> s|",
+            "input A 5 14 Cyclic|",
+        ),
+        ("arch 1|resource a|link l a -- a|", "input A 3 8 SelfLink|"),
+        ("arch 1|task t|task t|", "input A 3 7 RepeatedName|"),
+        ("arch 1|table PE 0 pe0|", "input A 2 6 UnknownName|"),
+    ];
+    for (arch, said) in rows {
+        let found = answer(alloc, "decode - A -", arch, "")?;
+        assert_eq!(rt; found.1, lines(alloc, said)?);
     }
     Ok(())
 }
@@ -84,10 +228,10 @@ fn a_failed_call_is_a_fault(rt: HostRuntime) -> Result<(), Fail> {
         ("decode - A", 2, Status::Usage),
     ];
     for (line, call, status) in rows {
-        let files = vec![in alloc; file(alloc, ONE)?]?;
+        let files = vec![in alloc; file(alloc, "A", ONE)?]?;
         assert_eq!(rt; failing(alloc, line, files, call)?, status);
     }
-    let files = vec![in alloc; file(alloc, ONE)?]?;
+    let files = vec![in alloc; file(alloc, "A", ONE)?]?;
     let mut sure = SureDesk::new(alloc, files);
     let line = words(alloc, "decode - A -")?;
     assert_eq!(rt; run(alloc, &line, &mut sure), Status::Done);

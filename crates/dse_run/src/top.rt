@@ -1,68 +1,46 @@
-//! The top call: the request of the words, the file that is read, and what is said.
+//! The top call: the files that are read, and what is said.
 
-ghost use Rattle.std.specs.Prelude.{◌≡◌, ◌≢◌, ◌<◌, ◌++◌, ◌⊎◌, ◌↔◌, ℕ, List, [], Some, map, take, length, None, IfOk, OnOk, MatchResult, MatchOption, IfSome, option_map};
+ghost use Rattle.std.specs.Prelude.{◌≡◌, ◌≢◌, ◌<◌, ◌≤◌, ◌++◌, ◌⊎◌, ◌↔◌, ℕ, List, [], Some, map, take, length, None, IfOk, OnOk, MatchResult, MatchOption, IfSome, option_map};
 ghost use Rattle.std.specs.String.{string_bytes};
 ghost use Rattle.desk_io.specs.Files.{Files, content, Says};
 ghost use Rattle.desk_io.specs.Causes.{Rose, HasCause};
-ghost use Rattle.dse_run.specs.Run.{request, AnswersTo, ReadsTo, DecodesTo, IsSaid, IsCut, Said, is_file_word, input_text};
-ghost use Rattle.dse_run.specs.Search.{IsBare};
-ghost use Rattle.dse_run.specs.SmallForm.{read_small};
+ghost use Rattle.run_words.specs.Requests.{request};
+ghost use Rattle.dse_run.specs.Answers.{AnswersTo, ReadsTo, geno_content};
+ghost use Rattle.dse_run.specs.Loading.{IsLoaded, items_of};
+ghost use Rattle.dse_run.specs.Run.{IsSaid, IsCut, Said};
 
-use crate::search::first_valid;
-use crate::small_form::read_file;
-use crate::text::print_design;
+use crate::answers::{answer_files, refuse_long};
+use crate::status::Status;
 use desk_io::{Desk, DeskError};
-use spec_graph::Spec;
-use std::alloc::{AllocError, Global};
+use run_words::{Request, read_words};
+use std::alloc::Global;
 
-/// How a run ended; the exit status of the program.
-#[derive(Clone, Copy, Debug, PartialEq, Eq)]
-pub enum Status {
-    /// What was asked for is said.
-    Done = 0,
-    /// No design is valid.
-    No = 1,
-    /// The words are no request.
-    Usage = 2,
-    /// The file is refused.
-    Input = 3,
-    /// The conflict budget is used up; no command has one yet.
-    Budget = 4,
-    /// A call on the desk failed.
-    Fault = 5,
-    /// There was no memory.
-    Memory = 6,
-}
-
-/// The greatest length of a file, in bytes.
+/// The greatest length of an architecture file, in bytes.
 const MAX_BYTES: u64 = 16_777_216;
 
-/// Whether a word names a file.
-fn is_file_word(word: &str) -> bool
-    ensures { result ≡ is_file_word word.now }
+/// The whole content of a file of this length.
+fn fill_whole<D: Desk>(
+    alloc: Global,
+    desk: &mut D,
+    name: &str,
+    len: u64,
+) -> Result<Vec<u8>, DeskError>
+    requires { IfSome (D.files desk.old) (λ all. len ≡ length (content all name.now)) }
+    ensures loaded { IfOk result (λ bytes. IfSome (D.files desk.old) (λ all. bytes.items ≡ content all name.now)) }
+    ensures sized { IfOk result (λ bytes. length bytes.items ≡ len) }
+    ensures files { D.files desk.new ≡ D.files desk.old }
+    ensures said { D.said desk.new ≡ D.said desk.old }
+    ensures cause { HasCause (D.faults desk.old) (D.faults desk.new) result }
 {
-    let is_dash = word.as_bytes() == b"-".as_slice();
-    let is_free = word.len() == 1 || !word.as_bytes().starts_with(b"-");
-    !word.is_empty() && !is_dash && is_free
+    let mut bytes = vec![in alloc; 0u8; len as usize]?;
+    desk.fill(name, 0, &mut bytes)?;
+    Ok(bytes)
 }
 
-/// The architecture file of the words, where they are a request.
-fn request<'a>(words: &'a [String]) -> Option<&'a str>
-    ensures { request (map string_bytes words.now) ≡ option_map (λ w. w.now) result }
-{
-    match words {
-        [command, tgff, arch, geno]
-            if command.as_str() == "decode"
-                && tgff.as_str() == "-"
-                && geno.as_str() == "-"
-                && is_file_word(arch.as_str()) => { Some(arch.as_str()) }
-        _ => None,
-    }
-}
-
-/// The content of a file, or `None` where it is too long to be read.
-fn load<D: Desk>(alloc: Global, desk: &mut D, name: &str) -> Result<Option<Vec<u8>>, DeskError>
-    ensures loaded { IfOk result (λ found. IfSome (D.files desk.old) (λ all. MatchOption found (16777216 < length (content all name.now)) (λ bytes. bytes.items ≡ content all name.now))) }
+/// The content of an architecture file, or `None` where it is too long to be read.
+fn load_arch<D: Desk>(alloc: Global, desk: &mut D, name: &str) -> Result<Option<Vec<u8>>, DeskError>
+    ensures loaded { IfOk result (λ found. IfSome (D.files desk.old) (λ all. IsLoaded found (content all name.now))) }
+    ensures short { IfOk result (λ found. IfSome found (λ bytes. length bytes.items ≤ 16777216)) }
     ensures files { D.files desk.new ≡ D.files desk.old }
     ensures said { D.said desk.new ≡ D.said desk.old }
     ensures cause { HasCause (D.faults desk.old) (D.faults desk.new) result }
@@ -71,79 +49,46 @@ fn load<D: Desk>(alloc: Global, desk: &mut D, name: &str) -> Result<Option<Vec<u
     if len > MAX_BYTES {
         return Ok(None);
     }
-    let mut bytes = vec![in alloc; 0u8; len as usize]?;
-    desk.fill(name, 0, &mut bytes)?;
+    let bytes = fill_whole(alloc, desk, name, len)?;
     Ok(Some(bytes))
 }
 
-/// The answer of a specification, as the text to be said.
-fn solve(alloc: Global, spec: &Spec, out: &mut Vec<u8>) -> Result<Status, AllocError>
-    requires bare { IsBare spec.now }
-    requires fresh { out.old.items ≡ [] }
-    ensures { IfOk result (λ status. DecodesTo spec.now status out.new.items) }
+/// The content of a genotype file, or `None` where none is named.
+fn load_geno<D: Desk>(alloc: Global, desk: &mut D, name: &str) -> Result<Option<Vec<u8>>, DeskError>
+    ensures loaded { IfOk result (λ found. IfSome (D.files desk.old) (λ all. option_map items_of found ≡ geno_content all name.now)) }
+    ensures files { D.files desk.new ≡ D.files desk.old }
+    ensures said { D.said desk.new ≡ D.said desk.old }
+    ensures cause { HasCause (D.faults desk.old) (D.faults desk.new) result }
 {
-    match first_valid(alloc, spec)? {
-        Some(design) => {
-            print_design(spec, &design, out)?;
-            Ok(Status::Done)
-        }
-        None => {
-            out.extend_from_slice(b"none\n")?;
-            Ok(Status::No)
-        }
+    if name == "-" {
+        return Ok(None);
     }
+    let len = desk.length(name)?;
+    let bytes = fill_whole(alloc, desk, name, len)?;
+    Ok(Some(bytes))
 }
 
-/// Appends the line that refuses a file.
-fn put_input(name: &str, out: &mut Vec<u8>) -> Result<(), AllocError>
-    ensures { OnOk result (out.new.items ≡ out.old.items ++ input_text name.now) }
-{
-    out.extend_from_slice(b"input ")?;
-    out.extend_from_slice(name.as_bytes())?;
-    out.extend_from_slice(b" 0 0 NotBuilt\n")?;
-    Ok(())
-}
-
-/// The answer of a file, as the text to be said.
-fn answer_file(
-    alloc: Global,
-    name: &str,
-    bytes: &[u8],
-    out: &mut Vec<u8>,
-) -> Result<Status, AllocError>
-    requires { out.old.items ≡ [] }
-    ensures { IfOk result (λ status. ReadsTo name.now (read_small bytes.now) status out.new.items) }
-{
-    match read_file(alloc, bytes)? {
-        Some(spec) => solve(alloc, &spec, out),
-        None => {
-            put_input(name, out)?;
-            Ok(Status::Input)
-        }
-    }
-}
-
-/// The answer of a file that is named.
+/// The answer of the files that are named. Both are read whole before either is refused.
 fn decode<D: Desk>(
     alloc: Global,
-    name: &str,
+    arch_name: &str,
+    geno_name: &str,
     desk: &mut D,
     out: &mut Vec<u8>,
 ) -> Result<Status, DeskError>
     requires { out.old.items ≡ [] }
-    ensures answer { IfOk result (λ status. IfSome (D.files desk.old) (λ all. ReadsTo name.now (read_small (content all name.now)) status out.new.items)) }
+    ensures answer { IfOk result (λ status. IfSome (D.files desk.old) (λ all. ReadsTo arch_name.now geno_name.now (content all arch_name.now) (geno_content all geno_name.now) status out.new.items)) }
     ensures plain { IfOk result IsSaid }
     ensures not_usage { IfOk result (λ status. status ≢ Status.Usage) }
     ensures files { D.files desk.new ≡ D.files desk.old }
     ensures said { D.said desk.new ≡ D.said desk.old }
     ensures cause { HasCause (D.faults desk.old) (D.faults desk.new) result }
 {
-    match load(alloc, desk, name)? {
-        Some(bytes) => Ok(answer_file(alloc, name, &bytes, out)?),
-        None => {
-            put_input(name, out)?;
-            Ok(Status::Input)
-        }
+    let arch = load_arch(alloc, desk, arch_name)?;
+    let geno = load_geno(alloc, desk, geno_name)?;
+    match arch {
+        Some(bytes) => Ok(answer_files(alloc, arch_name, geno_name, &bytes, &geno, out)?),
+        None => Ok(refuse_long(alloc, arch_name, geno_name, out)?),
     }
 }
 
@@ -162,10 +107,16 @@ fn respond<D: Desk>(
     ensures said { D.said desk.new ≡ D.said desk.old }
     ensures cause { HasCause (D.faults desk.old) (D.faults desk.new) result }
 {
-    match request(words) {
-        Some(name) => decode(alloc, name, desk, out),
+    match read_words(alloc, words)? {
+        Some(Request::Decode { arch, geno }) => decode(
+            alloc,
+            arch.as_str(),
+            geno.as_str(),
+            desk,
+            out,
+        ),
         None => {
-            out.extend_from_slice(b"usage: dse decode - ARCH -\n")?;
+            out.extend_from_slice(b"usage: dse decode - ARCH GENO\n")?;
             Ok(Status::Usage)
         }
     }
