@@ -5,6 +5,10 @@ ghost use Rattle.desk_io.specs.MemoryState.{entries};
 
 use super::{Status, run};
 use desk_io::{MemoryDesk, SureDesk, names_are_distinct};
+use impl_rules::{Design, Rule, first_broken};
+use line_words::ReadFault;
+use spec_graph::{ArcNo, MsgNo, ResNo, Spec};
+use spec_join::read_spec;
 use std::alloc::{AllocError, Global};
 use std::test::Fail;
 
@@ -47,6 +51,14 @@ fn words(alloc: Global, line: &str) -> Result<Vec<String>, AllocError> {
     Ok(words)
 }
 
+/// The files `A` and `G` with these texts.
+fn pair(alloc: Global, arch: &str, geno: &str) -> Result<Vec<(String, Vec<u8>)>, AllocError> {
+    let mut files = Vec::new(alloc);
+    files.push(file(alloc, "A", arch)?)?;
+    files.push(file(alloc, "G", geno)?)?;
+    Ok(files)
+}
+
 /// What a line says over the files `A` and `G`, and its status.
 fn answer(
     alloc: Global,
@@ -54,9 +66,7 @@ fn answer(
     arch: &str,
     geno: &str,
 ) -> Result<(Status, Vec<u8>), AllocError> {
-    let mut files = Vec::new(alloc);
-    files.push(file(alloc, "A", arch)?)?;
-    files.push(file(alloc, "G", geno)?)?;
+    let files = pair(alloc, arch, geno)?;
     if !names_are_distinct(&files) {
         return Err(AllocError);
     }
@@ -139,6 +149,8 @@ fn says_what_each_line_asks(rt: HostRuntime) -> Result<(), Fail> {
         ),
         ("decode - A", ONE, "", usage, Status::Usage),
         ("decode - - -", ONE, "", usage, Status::Usage),
+        ("decode - A - --proof A", ONE, "", usage, Status::Usage),
+        ("decode - A - --budget 0", ONE, "", usage, Status::Usage),
     ];
     for (line, arch, geno, said, status) in rows {
         let found = answer(alloc, line, arch, geno)?;
@@ -194,6 +206,22 @@ fn decodes_or_refuses_each_file(rt: HostRuntime) -> Result<(), Fail> {
         ("arch 1|resource a|link l a -- a|", "input A 3 8 SelfLink|"),
         ("arch 1|task t|task t|", "input A 3 7 RepeatedName|"),
         ("arch 1|table PE 0 pe0|", "input A 2 6 UnknownName|"),
+        (
+            "arch 1|quantity table COMMUN 0 1|",
+            "input A 2 6 UnknownName|",
+        ),
+        (
+            "arch 1|task s|task d|task e|message m s -> e|message n d -> e|merge b m n x|",
+            "input A 7 4 BadStatement|",
+        ),
+        (
+            "arch 1|task x|task y|task z|resource a|message e x -> y|message f x -> z|merge bus e f|hops bus 0|map x a|map y a|map z a|",
+            "bind x a 0|bind y a 1|bind z a 2|alloc a|vector|",
+        ),
+        (
+            "arch 1|objective c|task s|task w|resource a c=2|resource b c=3|link l a -- b c=5|traffic l c=7|message m s -> w|quantity m 2|map s a c=1|map w b|",
+            "bind s a 0|bind w b 1|use m l a b|alloc a|alloc b|wire l|vector 25|",
+        ),
     ];
     for (arch, said) in rows {
         let found = answer(alloc, "decode - A -", arch, "")?;
@@ -235,6 +263,65 @@ fn a_failed_call_is_a_fault(rt: HostRuntime) -> Result<(), Fail> {
     let mut sure = SureDesk::new(alloc, files);
     let line = words(alloc, "decode - A -")?;
     assert_eq!(rt; run(alloc, &line, &mut sure), Status::Done);
+    Ok(())
+}
+
+/// The status of a run with a genotype file whose call of this number fails.
+fn failing_pair(alloc: Global, call: u64) -> Result<Status, AllocError> {
+    let files = pair(alloc, TWO, "genotype 1|gene 0 5 1|")?;
+    if !names_are_distinct(&files) {
+        return Err(AllocError);
+    }
+    failing(alloc, "decode - A G", files, call)
+}
+
+#[test]
+fn a_failed_call_on_either_file_is_a_fault(rt: HostRuntime) -> Result<(), Fail> {
+    let alloc = rt.alloc();
+    // Five calls: `length` and `fill` of each file, and `say`.
+    let rows = [
+        (1u64, Status::Fault),
+        (2, Status::Fault),
+        (3, Status::Fault),
+        (4, Status::Fault),
+        (5, Status::Fault),
+        (6, Status::Done),
+    ];
+    for (call, status) in rows {
+        assert_eq!(rt; failing_pair(alloc, call)?, status);
+    }
+    Ok(())
+}
+
+/// The rule that the design with these variables breaks first.
+fn broken_with(alloc: Global, spec: &Spec, variables: &[u64]) -> Result<Option<Rule>, AllocError> {
+    let mut design = Design::empty(alloc, spec)?;
+    for v in variables {
+        if *v < spec.design_variables() {
+            design.set(*v, true);
+        }
+    }
+    Ok(first_broken(spec, &design))
+}
+
+/// The same of the specification of a file.
+fn broken_by(alloc: Global, text: &str, variables: &[u64]) -> Result<Option<Rule>, ReadFault> {
+    let bytes = lines(alloc, text)?;
+    if bytes.len() > 16_777_216 {
+        return Ok(None);
+    }
+    let spec = read_spec(alloc, &bytes)?;
+    let broken = broken_with(alloc, &spec, variables)?;
+    Ok(broken)
+}
+
+#[test]
+fn names_the_first_broken_rule(rt: HostRuntime) -> Result<(), Fail> {
+    let alloc = rt.alloc();
+    let crowded = Some(Rule::TwoArcsInto(MsgNo(0), ResNo(1)));
+    let stray = Some(Rule::NoWalk(MsgNo(0), ArcNo(2)));
+    assert_eq!(rt; broken_by(alloc, PARALLEL, &[0, 1, 2, 3]), Ok(crowded));
+    assert_eq!(rt; broken_by(alloc, PARALLEL, &[0, 1, 2, 4, 5]), Ok(stray));
     Ok(())
 }
 
