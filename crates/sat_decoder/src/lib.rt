@@ -12,6 +12,3 @@ pub mod laws;
 
 pub use decoded::Decoded;
 pub use decoder::Decoder;
-
-#[cfg(test)]
-mod tests;
