@@ -197,8 +197,8 @@ pub fn at_scale(scale: u64, amount: i128) -> u128
     units_in(amount) / unit_at(scale)
 }
 
-/// Whether an amount has a fraction at a scale.
-pub(crate) fn has_fraction_at(scale: u64, amount: i128) -> bool
+/// Whether an amount has a fraction at a scale. The amount is in units of 10 ^ -12, and one below zero counts as 0.
+pub fn has_fraction_at(scale: u64, amount: i128) -> bool
     ensures { result ≡ nat_lt 0 (fraction_at scale amount) }
 {
     units_in(amount) % unit_at(scale) > 0

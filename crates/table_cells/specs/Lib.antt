@@ -1,0 +1,3 @@
+pub mod Least
+pub mod Cells
+pub mod Rows
