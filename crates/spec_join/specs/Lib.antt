@@ -1,4 +1,6 @@
 pub mod Joining
+pub mod Tables
+pub mod Quantities
 pub mod Effects
 pub mod Refusals
 pub mod Reading

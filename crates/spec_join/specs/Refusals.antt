@@ -6,14 +6,16 @@ use Rattle.spec_model.specs.Spec.{Name, SpecValue, name_at, all_variables}
 use Rattle.spec_model.specs.WellFormed.{size}
 use Rattle.spec_graph.specs.Plan.{finished}
 use Rattle.spec_graph.specs.Refusals.{ClosesCycle, IsMapped, HasBigProduct}
-use Rattle.line_words.specs.Refused.{rank}
 use Rattle.line_words.specs.declared.refusals.Why.{Why}
 use Rattle.line_words.specs.declared.refusals.Why.TheVariants.{BadStatement, UnknownName, RepeatedName, TooBig, Cyclic, Limit}
 use Rattle.line_words.specs.declared.refusals.What.{What}
 use Rattle.line_words.specs.declared.refusals.What.TheVariants.{Tasks, Messages, Options, Variables, Terms}
 use Rattle.arch_reader.specs.declared.statement.Statement.{Statement}
 use Rattle.arch_reader.specs.declared.statement.Statement.TheVariants.{Task, Message, Merge, Map, Table, Quantity, QuantityTable, Hops, Delay, Deadline}
+use Rattle.table_cells.specs.Rows.{table_called}
 use Rattle.spec_join.specs.Joining.{Joining, message_between, sender_of}
+use Rattle.spec_join.specs.Tables.{TableBreaks}
+use Rattle.spec_join.specs.Quantities.{QuantityTableBreaks}
 
 -- a name isn't among some names
 abbrev pub IsMissing : List Name → Name → Type 0
@@ -57,14 +59,12 @@ abbrev pub IsMissingMessage : SpecValue → Option Name → Type 0
 IsMissingMessage p None = ⊥
 IsMissingMessage p (Some message) = IsMissing p.message_names message
 
--- UnknownName: a task or a message that isn't there, or a table, of which there is none
+-- UnknownName: a task or a message that isn't there
 abbrev pub IsUnknown : Joining → Statement → Type 0
 IsUnknown s (Message name sender receivers) = IsMissing s.plan.tasks sender ⊎ HasMissing s.plan.tasks receivers
 IsUnknown s (Merge name messages) = HasMissing s.plan.message_names messages
 IsUnknown s (Map task resource time weights) = IsMissing s.plan.tasks task
-IsUnknown s (Table name index resource keys weights_at) = Unit {0}
 IsUnknown s (Quantity message amount) = IsMissing s.plan.message_names message
-IsUnknown s (QuantityTable name index column rows) = Unit {0}
 IsUnknown s (Hops message limit) = IsMissingMessage s.plan message
 IsUnknown s (Delay message amount) = IsMissingMessage s.plan message
 IsUnknown s (Deadline task at) = IsMissing s.plan.tasks task
@@ -90,14 +90,20 @@ IsPast s (Message name sender receivers) what = (what ≡ Messages) × (2048 ≤
 IsPast s (Map task resource time weights) what = (what ≡ Options) × (16384 ≤ length s.plan.options)
 IsPast s _ what = ⊥
 
--- a statement breaks a rule and is to be refused for this
+-- a statement that uses no table breaks a rule and is to be refused for this
+abbrev pub BreaksPlain : Joining → Statement → Why → Type 0
+BreaksPlain s st BadStatement = IsBad s st
+BreaksPlain s st UnknownName = IsUnknown s st
+BreaksPlain s st RepeatedName = IsRepeated s st
+BreaksPlain s st Cyclic = IsCyclic s st
+BreaksPlain s st (Limit what) = IsPast s st what
+BreaksPlain s st _ = ⊥
+
+-- a statement is to be refused for this
 abbrev pub Breaks : Joining → Statement → Why → Type 0
-Breaks s st BadStatement = IsBad s st
-Breaks s st UnknownName = IsUnknown s st
-Breaks s st RepeatedName = IsRepeated s st
-Breaks s st Cyclic = IsCyclic s st
-Breaks s st (Limit what) = IsPast s st what
-Breaks s st _ = ⊥
+Breaks s (Table name index resource keys weights_at) why = TableBreaks s (table_called s.tables name index) resource keys weights_at why
+Breaks s (QuantityTable name index column rows) why = QuantityTableBreaks s (table_called s.tables name index) column rows why
+Breaks s st why = BreaksPlain s st why
 
 -- the plan breaks a rule at the end
 abbrev pub BreaksEnd : SpecValue → Why → Type 0
@@ -105,8 +111,3 @@ BreaksEnd p TooBig = HasBigProduct p
 BreaksEnd p (Limit Variables) = 2 ^ 20 < all_variables (finished p)
 BreaksEnd p (Limit Terms) = 2 ^ 23 < size (finished p)
 BreaksEnd p _ = ⊥
-
--- of what holds, the lowest
-pub record IsLeast (Holds : Why → Type 0) (why : Why) : Type 0 where
-  pub holds : Holds why
-  pub least : (other : Why) → Holds other → rank why ≤ rank other

@@ -10,13 +10,16 @@ use Rattle.line_words.specs.declared.refusals.What.{What}
 use Rattle.line_words.specs.declared.refusals.Stop.{Stop}
 use Rattle.line_words.specs.declared.refusals.Stop.TheVariants.{Broken, NoMemory}
 use Rattle.arch_reader.specs.declared.statement.Statement.{Statement}
+use Rattle.arch_reader.specs.declared.statement.Statement.TheVariants.{Table, QuantityTable}
 use Rattle.line_words.specs.declared.refusals.FileTag.TheVariants.{Arch}
 use Rattle.line_words.specs.declared.refusals.ReadFault.{ReadFault}
 use Rattle.line_words.specs.declared.refusals.ReadFault.TheVariants as faults
 use Rattle.arch_reader.specs.declared.statement.ArchLine.{ArchLine}
+use Rattle.tgff_reader.specs.Facts.{TgffValue}
+use Rattle.table_cells.specs.Least.{IsLeast}
 use Rattle.spec_join.specs.Joining.{Joining}
 use Rattle.spec_join.specs.Reading.{IsRefusedAt}
-use Rattle.spec_join.specs.Refusals.{IsBad, IsUnknown, IsRepeated, IsCyclic, IsPast, BreaksEnd, IsLeast}
+use Rattle.spec_join.specs.Refusals.{IsBad, IsUnknown, IsRepeated, IsCyclic, IsPast, Breaks, BreaksEnd}
 
 -- why joining stops where the builder refuses a call
 abbrev pub stop_for : BuildFault → Stop
@@ -38,6 +41,8 @@ IsFirst s st _ = ⊥
 
 -- a statement stops joining; memory may run out at any
 abbrev pub Refuses : Joining → Statement → Stop → Type 0
+Refuses s (Table name index resource keys weights_at) (Broken why) = IsLeast (Breaks s (Table name index resource keys weights_at)) why
+Refuses s (QuantityTable name index column rows) (Broken why) = IsLeast (Breaks s (QuantityTable name index column rows)) why
 Refuses s st (Broken why) = IsFirst s st why
 Refuses s st NoMemory = Unit {0}
 
@@ -48,6 +53,12 @@ pub record IsAccepted (s : Joining) (st : Statement) : Type 0 where
   pub once : ¬ IsRepeated s st
   pub free : ¬ IsCyclic s st
   pub room : (what : What) → ¬ IsPast s st what
+
+-- a statement is accepted
+abbrev pub Accepts : Joining → Statement → Type 0
+Accepts s (Table name index resource keys weights_at) = (why : Why) → Breaks s (Table name index resource keys weights_at) why → ⊥
+Accepts s (QuantityTable name index column rows) = (why : Why) → Breaks s (QuantityTable name index column rows) why → ⊥
+Accepts s st = IsAccepted s st
 
 -- the number of a message that is there
 pub record IsMessageNumber (p : SpecValue) (name : Name) (m : ℕ) : Type 0 where
@@ -69,6 +80,6 @@ abbrev pub AcceptsEnd : SpecValue → Type 0
 AcceptsEnd p = (why : Why) → BreaksEnd p why → ⊥
 
 -- joining stops at one of the lines
-abbrev pub IsRefused : List ArchLine → ReadFault → Type 0
-IsRefused lines (faults.Refused r) = (r.file ≡ Arch) × IsRefusedAt lines r.line r.why
-IsRefused lines faults.NoMemory = Unit {0}
+abbrev pub IsRefused : TgffValue → List ArchLine → ReadFault → Type 0
+IsRefused tgff lines (faults.Refused r) = (r.file ≡ Arch) × IsRefusedAt tgff lines r.line r.why
+IsRefused tgff lines faults.NoMemory = Unit {0}

@@ -13,7 +13,7 @@ use arch_reader::{KeyAmount, Name, at_scale};
 use line_words::{Stop, Why};
 use spec_graph::Change;
 
-impl Joiner {
+impl Joiner<'_> {
     /// Changes the message of a name.
     fn change(&mut self, name: &str, change: Change) -> Result<(), Stop>
         requires { IsSmallChange change }

@@ -11,7 +11,7 @@ use crate::joiner::Joiner;
 use arch_reader::KeyAmount;
 use line_words::{Stop, Why};
 
-impl Joiner {
+impl Joiner<'_> {
     /// `task NAME`
     #[tactic(auto, using(crate::proofs::Refusing::task_refused, crate::proofs::Refusing::task_accepted))]
     pub(crate) fn task(&mut self, name: &str) -> Result<(), Stop>

@@ -13,15 +13,16 @@ use arch_reader::{ArchFile, ArchLine};
 use line_words::{FileTag, ReadFault, Stop};
 use spec_graph::Spec;
 use std::alloc::Global;
+use tgff_reader::Tgff;
 
 /// Carries out the statements of a file in their order.
-fn carry_all(alloc: Global, lines: &[ArchLine]) -> Result<Joiner, ReadFault>
+fn carry_all<'a>(alloc: Global, tgff: &'a Tgff, lines: &[ArchLine]) -> Result<Joiner<'a>, ReadFault>
     requires { AllPass [] lines.now }
-    ensures made { IfOk result (λ joiner. joiner ≡ after_all lines.now) }
-    ensures accepted { OnOk result (NoneBreaks (statements_in lines.now) (length lines.now)) }
-    ensures refused { IfErr result (IsRefused lines.now) }
+    ensures made { IfOk result (λ joiner. joiner ≡ after_all tgff.now lines.now) }
+    ensures accepted { OnOk result (NoneBreaks tgff.now (statements_in lines.now) (length lines.now)) }
+    ensures refused { IfErr result (IsRefused tgff.now lines.now) }
 {
-    let mut joiner = Joiner::start(alloc, lines)?;
+    let mut joiner = Joiner::start(alloc, tgff, lines)?;
     for line in lines {
         match joiner.carry_out(&line.statement) {
             Ok(()) => {}
@@ -33,7 +34,7 @@ fn carry_all(alloc: Global, lines: &[ArchLine]) -> Result<Joiner, ReadFault>
 
 /// The specification that the plan becomes.
 #[tactic(auto, using(crate::proofs::Ending::end_refused, crate::proofs::Ending::end_accepted))]
-fn finish(joiner: Joiner) -> Result<Spec, Stop>
+fn finish(joiner: Joiner<'_>) -> Result<Spec, Stop>
     ensures finished { IfOk result (λ spec. spec ≡ finished joiner.plan) }
     ensures accepted { OnOk result (AcceptsEnd joiner.plan) }
     ensures refused { IfErr result (RefusesEnd joiner.plan) }
@@ -44,22 +45,23 @@ fn finish(joiner: Joiner) -> Result<Spec, Stop>
     }
 }
 
-/// Joins the statements of an architecture file to a specification, without a file of task graphs
-/// and tables.
+/// Joins the graphs and tables of a TGFF file and the statements of an architecture file to a
+/// specification.
 ///
-/// The statements are carried out in the order of their lines. The first one that is refused is
-/// answered with its line and with the lowest that it is refused for: `BadStatement` (a merge of
-/// messages of different senders), `UnknownName` (a task, a message or a table that isn't there),
-/// `RepeatedName` (a task, a message, or a pair of task and resource that is there already; a name
-/// listed twice), `Cyclic`, and `Limit`. Where none is refused, the whole may be, at the end line:
-/// as `TooBig` where a traffic weight times a quantity is above 2^40, then as `Limit` of
-/// `Variables`, then of `Terms`. Otherwise the answer is the specification that the statements
-/// state.
-pub fn join(alloc: Global, arch: &ArchFile) -> Result<Spec, ReadFault>
-    ensures reads { JoinReads arch.now result }
+/// The tasks, messages and deadlines of the graphs stand first. Then the statements are carried out
+/// in the order of their lines. The first one that is refused is answered with its line and with the
+/// lowest that it is refused for: `BadStatement` (a merge of messages of different senders),
+/// `UnknownName` (a task, a message or a table that isn't there), `RepeatedName` (a task, a message,
+/// or a pair of task and resource that is there already; a name listed twice), `Cyclic`, and
+/// `Limit`; for the cells that a table line uses also `BadNumber`, `NoRow`, `NotWhole` and `TooBig`.
+/// Where none is refused, the whole may be, at the end line: as `TooBig` where a traffic weight times
+/// a quantity is above 2^40, then as `Limit` of `Variables`, then of `Terms`. Otherwise the answer is
+/// the specification that the graphs and the statements state.
+pub fn join(alloc: Global, tgff: &Tgff, arch: &ArchFile) -> Result<Spec, ReadFault>
+    ensures reads { JoinReads tgff.now arch.now result }
 {
     arch.facts();
-    let joiner = carry_all(alloc, arch.lines.list())?;
+    let joiner = carry_all(alloc, tgff, arch.lines.list())?;
     match finish(joiner) {
         Ok(spec) => Ok(spec),
         Err(stop) => Err(stop.at_line(FileTag::Arch, arch.end_line)),

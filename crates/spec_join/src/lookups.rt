@@ -7,7 +7,7 @@ ghost use Rattle.spec_join.specs.Stops.{IsMessageNumber};
 use crate::joiner::Joiner;
 use spec_graph::{LinkNo, MsgNo, ResNo, TaskNo};
 
-impl Joiner {
+impl Joiner<'_> {
     /// The task of a name, where there is one.
     pub(crate) fn find_task(&self, name: &str) -> Option<TaskNo>
         ensures { MatchOption result (Contains self.now.plan.tasks name.now → ⊥) (λ t. IsNumberOf self.now.plan.tasks name.now t.0) }

@@ -3,7 +3,8 @@
 ghost use Rattle.std.specs.Prelude.{◌≡◌, ◌<◌, ◌↔◌, IsTrue, length, map, All, Contains, IfOk, OnOk, IfErr};
 ghost use Rattle.names.specs.Names.{number_of};
 ghost use Rattle.spec_graph.specs.Lists.{message_number};
-ghost use Rattle.spec_join.specs.Effects.{effect};
+ghost use Rattle.spec_graph.specs.Merged.{is_unlisted};
+ghost use Rattle.spec_join.specs.Effects.{effect, merged_kinds};
 ghost use Rattle.spec_join.specs.Fits.{IsFit};
 ghost use Rattle.spec_join.specs.Refusals.{HasMissing, DifferInSender};
 ghost use Rattle.spec_join.specs.Stops.{Refuses, IsAccepted, IsUnknownStop};
@@ -14,8 +15,21 @@ use crate::joiner::Joiner;
 use arch_reader::Name;
 use line_words::{Stop, Why};
 use spec_graph::{MsgNo, TaskNo};
+use std::alloc::AllocError;
 
-impl Joiner {
+/// Whether none of the numbers listed is that of message m.
+fn is_unlisted(listed: &[MsgNo], m: usize) -> bool
+    ensures { result ≡ is_unlisted (map message_number listed.now) m }
+{
+    for message in listed {
+        if message.0 as usize == m {
+            return false;
+        }
+    }
+    true
+}
+
+impl Joiner<'_> {
     /// The messages of names, in their order.
     fn messages_of(&self, names: &[Name]) -> Result<Vec<MsgNo>, Stop>
         ensures numbers { IfOk result (λ messages. map message_number messages.items ≡ map (number_of self.now.plan.message_names) names.now) }
@@ -56,6 +70,21 @@ impl Joiner {
         false
     }
 
+    /// The types of the messages after those listed became one: those of the others, and behind
+    /// them that of the merged one, which has none.
+    fn merged_kinds(&self, listed: &[MsgNo]) -> Result<Vec<Option<u64>>, AllocError>
+        ensures { IfOk result (λ kinds. kinds.items ≡ merged_kinds self.now.message_kinds (map message_number listed.now)) }
+    {
+        let mut kinds = Vec::new(self.alloc);
+        for m in 0..self.message_kinds.len() {
+            if is_unlisted(listed, m) {
+                kinds.push(self.message_kinds[m])?;
+            }
+        }
+        kinds.push(None)?;
+        Ok(kinds)
+    }
+
     /// `merge NAME MESSAGE..`
     pub(crate) fn merge(&mut self, name: &str, names: &[Name]) -> Result<(), Stop>
         requires { IsFit self.old (Statement.Merge name.now names.now) }
@@ -70,9 +99,13 @@ impl Joiner {
             return Err(Stop::Broken(Why::BadStatement));
         }
         let listed = self.messages_of(names)?;
+        let kinds = self.merged_kinds(&listed)?;
         self.plan.facts();
         match self.plan.merge(name, &listed) {
-            Ok(_) => Ok(()),
+            Ok(_) => {
+                self.message_kinds = kinds;
+                Ok(())
+            }
             Err(fault) => Err(stop_for(fault)),
         }
     }

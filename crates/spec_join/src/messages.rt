@@ -15,7 +15,7 @@ use arch_reader::Name;
 use line_words::{Stop, Why};
 use spec_graph::TaskNo;
 
-impl Joiner {
+impl Joiner<'_> {
     /// The tasks of names, in their order.
     fn tasks_of(&self, names: &[Name]) -> Result<Vec<TaskNo>, Stop>
         ensures numbers { IfOk result (λ tasks. map task_number tasks.items ≡ map (number_of self.now.plan.tasks) names.now) }
@@ -53,8 +53,12 @@ impl Joiner {
             return Err(Stop::Broken(Why::UnknownName));
         };
         let to = self.tasks_of(receivers)?;
+        self.message_kinds.reserve(1)?;
         match self.plan.message(name, from, &to, self.hops, self.delay, 1) {
-            Ok(_) => Ok(()),
+            Ok(_) => {
+                self.message_kinds.push_reserved(None);
+                Ok(())
+            }
             Err(fault) => Err(stop_for(fault)),
         }
     }

@@ -5,27 +5,26 @@ ghost use Rattle.std.specs.Option.{option_or};
 ghost use Rattle.arch_reader.specs.Seen.{scale_or_0};
 ghost use Rattle.spec_join.specs.Effects.{effect};
 ghost use Rattle.spec_join.specs.Fits.{IsFit};
-ghost use Rattle.spec_join.specs.Stops.{Refuses, IsAccepted};
+ghost use Rattle.spec_join.specs.Stops.{Refuses, Accepts};
 
 use crate::joiner::Joiner;
-use arch_reader::{Statement, scale_or_0};
-use line_words::{Stop, Why};
+use crate::settings::clock_with;
+use arch_reader::Statement;
+use line_words::Stop;
 
-impl Joiner {
+impl Joiner<'_> {
     /// `clock [scale N] [floor]`
     fn set_clock(&mut self, scale: Option<u64>)
         ensures { self.new ≡ record self.old { clock = option_or self.old.clock (Some (scale_or_0 scale)) } }
     {
-        if self.clock.is_none() {
-            self.clock = Some(scale_or_0(scale));
-        }
+        self.clock = clock_with(self.clock, scale);
     }
 
     /// Carries a statement out, or says what it is refused for.
     pub(crate) fn carry_out(&mut self, statement: &Statement) -> Result<(), Stop>
         requires { IsFit self.old statement.now }
         ensures done { OnOk result (self.new ≡ effect self.old statement.now) }
-        ensures accepted { OnOk result (IsAccepted self.old statement.now) }
+        ensures accepted { OnOk result (Accepts self.old statement.now) }
         ensures refused { IfErr result (Refuses self.old statement.now) }
     {
         match statement {
@@ -63,9 +62,25 @@ impl Joiner {
             Statement::Hops { message, limit } => self.hops(message, *limit),
             Statement::Delay { message, amount } => self.delay(message, *amount),
             Statement::Deadline { task, at } => self.deadline(task.list(), *at),
-            Statement::Table { .. } | Statement::QuantityTable { .. } => {
-                Err(Stop::Broken(Why::UnknownName))
-            }
+            Statement::Table {
+                name,
+                index,
+                resource,
+                keys,
+                weights_at,
+            } => self.table(
+                name.list(),
+                *index,
+                resource.list(),
+                keys.list(),
+                weights_at.list(),
+            ),
+            Statement::QuantityTable {
+                name,
+                index,
+                column,
+                rows,
+            } => self.quantity_table(name.list(), *index, *column, *rows),
         }
     }
 }

@@ -16,7 +16,7 @@ pub(crate) struct Weight {
     pub value: u64,
 }
 
-impl Joiner {
+impl Joiner<'_> {
     /// The weight that a word states.
     pub(crate) fn weight(&self, word: &KeyAmount) -> Weight
         requires { IsWeighable self.now.plan.objectives self.now.scales word.now }
