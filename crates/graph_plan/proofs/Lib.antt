@@ -1,0 +1,4 @@
+pub mod Filling
+pub mod Naming
+pub mod Refused
+pub mod Shifting
