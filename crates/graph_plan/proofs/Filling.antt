@@ -6,10 +6,11 @@ use Rattle.std.proofs.lemmas.List.Elements.{Contains-append_cases, Contains-appe
 use Rattle.std.proofs.lemmas.List.Sums.{fold_push, sum_by_push, sum_by_more_le}
 use Rattle.spec_model.specs.Spec.{Name, SpecValue}
 use Rattle.spec_model.specs.WellFormed.{AreDistinct}
+use Rattle.spec_graph.specs.Plan.{IsPlan}
 use Rattle.tgff_reader.specs.Facts.{TgffValue, IsTgff, IsGraph, graph_index, task_count, arc_count}
 use Rattle.tgff_reader.specs.declared.file.Graph.{Graph}
 use Rattle.graph_plan.specs.Graphs.{name_in, task_in, arc_in, message_of, with_graph, with_graphs}
-use Rattle.graph_plan.specs.Room.{AreNew, HasRoom}
+use Rattle.graph_plan.specs.Room.{AreNew, HasRoom, IsReady}
 use Rattle.graph_plan.proofs.Naming.{same_name}
 
 -- a name with one of these indices
@@ -94,10 +95,24 @@ new_index gs i g names graphs distinct l at all name c =
     let within : i < length (map graph_index gs) = omega (arith, l, length-map gs graph_index) in
     distinct j i 0 lower within (get_or-map graph_index gs j g 0 there ∙ its ∙ sym s.0 ∙ ap graph_index at ∙ sym (get_or-map graph_index gs i g 0 l))
 
-pub room_for : (f : TgffValue) (clock : ℕ) (old : SpecValue) (i : ℕ) (g : Graph) (p : SpecValue) → IsTgff f → IsFilled clock old (take i f.graphs) p → i < length f.graphs → g ≡ get_or f.graphs i g → HasRoom p g
-room_for f clock old i g p is h l at = record {
-  new_tasks = new_index f.graphs i g p.tasks is.graphs_in is.graphs_distinct l at h.tasks_of;
-  new_messages = new_index f.graphs i g p.message_names is.graphs_in is.graphs_distinct l at h.messages_of;
-  few_tasks = omega (arith, h.tasks, is.few_tasks, sum_by_more_le task_count f.graphs i g l, ap task_count at);
-  few_messages = omega (arith, h.messages, is.few_arcs, sum_by_more_le arc_count f.graphs i g l, ap arc_count at);
-}
+pub room_for : (f : TgffValue) (gs : List Graph) (clock : ℕ) (old : SpecValue) (i : ℕ) (g : Graph) (p : SpecValue) → IsTgff f → gs ≡ f.graphs → IsFilled clock old (take i gs) p → i < length gs → g ≡ get_or gs i g → HasRoom p g
+room_for f gs clock old i g p is e h l at =
+    let graphs : All IsGraph gs = subst (All IsGraph) (sym e) is.graphs_in in
+    let distinct : AreDistinct (map graph_index gs) = subst (λ (xs : List Graph). AreDistinct (map graph_index xs)) (sym e) is.graphs_distinct in
+    record {
+      new_tasks = new_index gs i g p.tasks graphs distinct l at h.tasks_of;
+      new_messages = new_index gs i g p.message_names graphs distinct l at h.messages_of;
+      few_tasks = omega (arith, h.tasks, is.few_tasks, ap (sum_by task_count) e, sum_by_more_le task_count gs i g l, ap task_count at);
+      few_messages = omega (arith, h.messages, is.few_arcs, ap (sum_by arc_count) e, sum_by_more_le arc_count gs i g l, ap arc_count at);
+    }
+
+-- ---- once a graph's tasks are in the plan, its arcs may follow
+
+pub ready : (old new : SpecValue) (first : ℕ) (g : Graph) → IsPlan old → HasRoom old g → first ≡ length old.tasks → new ≡ record old { tasks = old.tasks ++ map (task_in g.index) g.tasks } → IsReady first new g
+ready old new first g plan room e n =
+    subst (λ (p : SpecValue). IsReady first p g) (sym n) (subst (λ (k : ℕ). IsReady k (record old { tasks = old.tasks ++ map (task_in g.index) g.tasks }) g) (sym e) (record {
+      tasks = omega (arith, length-append old.tasks (map (task_in g.index) g.tasks), length-map g.tasks (task_in g.index));
+      before = λ k d l. (plan.messages_in k d l).sender;
+      new = room.new_messages;
+      few = room.few_messages;
+    }))

@@ -1,4 +1,3 @@
 pub mod Filling
 pub mod Naming
-pub mod Refused
 pub mod Shifting

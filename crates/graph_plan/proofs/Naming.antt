@@ -1,6 +1,6 @@
 -- The names that names of graphs have in a plan: which are new, and that each is one word.
-use Rattle.std.proofs.Common.{◌≡◌, ℕ, ◌+◌, ◌<◌, ◌≤◌, ◌^◌, Bool, true, false, leb, List, [], ◌∷◌, ◌++◌, length, take, get_or, map, refl, sym, ap, subst, ◌∙◌, arith, inl, inr, Contains, All, length-append}
-use Rattle.std.specs.Prelude.{decimal, ◌&&◌, not, ◌==◌}
+use Rattle.std.proofs.Common.{◌≡◌, ℕ, ◌+◌, ◌<◌, ◌≤◌, ◌^◌, Bool, true, false, leb, List, [], ◌∷◌, ◌++◌, length, take, get_or, map, refl, sym, ap, subst, ◌∙◌, arith, inl, inr, Contains, All, length-append, Result, Ok, Err}
+use Rattle.std.specs.Prelude.{decimal, IfOk, ◌&&◌, not, ◌==◌}
 use Rattle.std.specs.List.{list_all}
 use Rattle.std.specs.Char.{is_ascii_digit}
 use Rattle.std.proofs.lemmas.Bool.{leb-true, le-leb}
@@ -50,6 +50,10 @@ named index name l w =
       some = omega (arith, decimal_nonempty index l, length-append (decimal index) (46 ∷ name));
       bytes = list_all-append is_name_byte (decimal index) (46 ∷ name) ∙ both_true (list_all is_name_byte (decimal index)) (list_all is_name_byte (46 ∷ name)) (digit_bytes (decimal index) digits) (word_bytes name w.plain);
     }
+
+pub if_named : {X E : Type 0} (bytes : X → Name) (r : Result X E) (index : ℕ) (name : Name) → index < 2 ^ 64 → IsWord name → IfOk r (λ x. bytes x ≡ name_in index name) → IfOk r (λ x. IsName (bytes x))
+if_named bytes (Ok x) index name l w h = subst IsName (sym h) (named index name l w)
+if_named bytes (Err e) index name l w h = tt
 
 -- ---- two names are one only where the indices and the names of the graphs are
 
