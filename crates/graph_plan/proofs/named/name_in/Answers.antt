@@ -1,4 +1,4 @@
-use Rattle.std.proofs.Common.{◌≡◌, ◌<◌, ◌^◌, IfOk, string_bytes, arith, rules}
+use Rattle.std.proofs.Common.{◌≡◌, IfOk, string_bytes, arith, rules}
 use Rattle.graph_plan.specs.Graphs.{name_in}
 use Rattle.graph_plan.proofs.Naming.{if_named}
 use Rattle.graph_plan.proofs.named.name_in.Goals as goal
