@@ -1,5 +1,5 @@
 -- What the searches of a file for a table and for a row find.
-use Rattle.std.proofs.Common.{◌≡◌, ℕ, ◌<◌, ◌≤◌, inl, inr, true, false, eqb, List, [], ◌∷◌, length, Option, Some, None, refl, arith}
+use Rattle.std.proofs.Common.{◌≡◌, ℕ, ◌<◌, inl, inr, true, eqb, List, [], ◌∷◌, length, Option, Some, None, refl, arith}
 use Rattle.std.specs.Prelude.{MatchOption, IfSome, IfNone, slice_get}
 use Rattle.std.specs.Str.{bytes_eq}
 use Rattle.std.proofs.lemmas.Bool.{cases_Bool, eqb-true}
@@ -33,21 +33,21 @@ is_called_there tables name index i t =
 
 found_table : (tables : List Table) (name : List ℕ) (index place : ℕ) → IsTableAt tables name index place → IsOnlyTable tables name index place → IsFoundTable tables name index place
 found_table tables name index place t one = record {
-    there = t.there;
-    found = find_first (is_called name index) tables (record { name = []; index = 0; rows = [] }) place t.there (is_called_there tables name index place t)
+  there = t.there;
+  found = find_first (is_called name index) tables (record { name = []; index = 0; rows = [] }) place t.there (is_called_there tables name index place t)
       (λ i low. elim (cases_Bool (is_called name index (table_at tables i))) [
         | inl is ↦ let same : i ≡ place = one i (table_there tables name index i (omega (arith, low, t.there)) is) in absurd (omega (arith, same, low))
         | inr not ↦ not
       ]);
-  }
+}
 
 no_table : (tables : List Table) (name : List ℕ) (index : ℕ) → HasNoTable tables name index → table_called tables name index ≡ None
 no_table tables name index none =
     find_none (is_called name index) tables (record { name = []; index = 0; rows = [] })
-      (λ i lt. elim (cases_Bool (is_called name index (table_at tables i))) [
-        | inl is ↦ absurd (none i (table_there tables name index i lt is))
-        | inr not ↦ not
-      ])
+    (λ i lt. elim (cases_Bool (is_called name index (table_at tables i))) [
+      | inl is ↦ absurd (none i (table_there tables name index i lt is))
+      | inr not ↦ not
+    ])
 
 -- a search for a table that finds the only one, or none
 pub table_by_place : (tables : List Table) (name : List ℕ) (index : ℕ) (found : Option ℕ) → IfSome found (IsTableAt tables name index) → IfSome found (IsOnlyTable tables name index)
@@ -62,9 +62,9 @@ pub row_by_place : (table : Table) (from kind : ℕ) (found : Option ℕ) → If
     → MatchOption found (row_of table from kind ≡ None) (IsFoundRow table from kind)
 row_by_place table from kind None t none = find_none_from (is_of_kind kind) table.rows (record { words = [] }) from none
 row_by_place table from kind (Some place) t none = record {
-    there = t.there;
-    found = find_first_from (is_of_kind kind) table.rows (record { words = [] }) from place t.later t.there t.kind_is t.others;
-  }
+  there = t.there;
+  found = find_first_from (is_of_kind kind) table.rows (record { words = [] }) from place t.later t.there t.kind_is t.others;
+}
 
 -- ---- the first row
 

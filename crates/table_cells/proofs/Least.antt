@@ -1,5 +1,5 @@
 -- The least of the refusals that hold of something, from those of its parts.
-use Rattle.std.proofs.Common.{◌≡◌, ℕ, ◌<◌, ◌≤◌, ◌⊎◌, inl, inr, true, false, Option, Some, None, sym, subst, arith}
+use Rattle.std.proofs.Common.{◌≡◌, ◌<◌, ◌≤◌, ◌⊎◌, inl, inr, Option, Some, None, sym, subst, arith}
 use Rattle.std.proofs.lemmas.Bool.{cases_lt, lt-ltb, le-ltb}
 use Rattle.line_words.specs.Refused.{rank}
 use Rattle.line_words.specs.declared.refusals.Why.{Why}
@@ -21,19 +21,19 @@ lower_first a b le = rw (le-ltb (rank b) (rank a) le)
 least_both : (A B : Why → Type 0) (a b : Why) → IsLeast A a → IsLeast B b → IsLeast (Either A B) (lower a b)
 least_both A B a b x y = elim (cases_lt (rank b) (rank a)) [
   | inl lt ↦ subst (IsLeast (Either A B)) (sym (lower_second a b lt)) (record {
-      holds = inr y.holds;
-      least = λ other h. elim h [
-        | inl p ↦ let le : rank a ≤ rank other = x.least other p in omega (arith, lt, le)
-        | inr q ↦ y.least other q
-      ];
-    })
+    holds = inr y.holds;
+    least = λ other h. elim h [
+      | inl p ↦ let le : rank a ≤ rank other = x.least other p in omega (arith, lt, le)
+      | inr q ↦ y.least other q
+    ];
+  })
   | inr le ↦ subst (IsLeast (Either A B)) (sym (lower_first a b le)) (record {
-      holds = inl x.holds;
-      least = λ other h. elim h [
-        | inl p ↦ x.least other p
-        | inr q ↦ let more : rank b ≤ rank other = y.least other q in omega (arith, le, more)
-      ];
-    })
+    holds = inl x.holds;
+    least = λ other h. elim h [
+      | inl p ↦ x.least other p
+      | inr q ↦ let more : rank b ≤ rank other = y.least other q in omega (arith, le, more)
+    ];
+  })
 ]
 
 -- the least of what holds of one or of the other is the lower of their least ones
@@ -43,19 +43,19 @@ least_either A B None None x y = λ why h. elim h [
   | inr q ↦ y why q
 ]
 least_either A B None (Some b) x y = record {
-    holds = inr y.holds;
-    least = λ other h. elim h [
-      | inl p ↦ absurd (x other p)
-      | inr q ↦ y.least other q
-    ];
-  }
+  holds = inr y.holds;
+  least = λ other h. elim h [
+    | inl p ↦ absurd (x other p)
+    | inr q ↦ y.least other q
+  ];
+}
 least_either A B (Some a) None x y = record {
-    holds = inl x.holds;
-    least = λ other h. elim h [
-      | inl p ↦ x.least other p
-      | inr q ↦ absurd (y other q)
-    ];
-  }
+  holds = inl x.holds;
+  least = λ other h. elim h [
+    | inl p ↦ x.least other p
+    | inr q ↦ absurd (y other q)
+  ];
+}
 least_either A B (Some a) (Some b) x y = least_both A B a b x y
 
 -- the least of what holds, said in another way

@@ -1,5 +1,5 @@
 -- What a search of a list from the front finds.
-use Rattle.std.proofs.Common.{◌≡◌, ℕ, zero, suc, ◌+◌, ◌-◌, ◌<◌, ◌≤◌, Bool, true, false, List, [], ◌∷◌, length, get_or, drop, Option, Some, None, refl, ap, ◌∙◌, arith}
+use Rattle.std.proofs.Common.{◌≡◌, ℕ, zero, suc, ◌+◌, ◌-◌, ◌<◌, ◌≤◌, Bool, true, false, List, [], ◌∷◌, length, get_or, drop, Some, None, refl, ap, ◌∙◌, arith}
 use Rattle.std.specs.Prelude.{find, slice_get}
 use Rattle.std.proofs.lemmas.List.{get_or-drop, length-drop}
 use Rattle.std.proofs.lemmas.List.Folds.{find_at}
@@ -28,7 +28,7 @@ pub find_first_from : {X : Type 0} (p : X → Bool) (xs : List X) (d : X) (from 
 find_first_from {X} p xs d from place later lt passes between =
     let here : get_or (drop from xs) (place - from) d ≡ get_or xs place d = get_or-drop from xs (place - from) d ∙ ap (λ (i : ℕ). get_or xs i d) (omega (arith, later)) in
     find_first p (drop from xs) d (place - from) (omega (arith, length-drop from xs, later, lt)) (ap p here ∙ passes)
-      (λ i low. ap p (get_or-drop from xs i d) ∙ between (from + i) (omega arith) (omega (arith, low, later)))
+    (λ i low. ap p (get_or-drop from xs i d) ∙ between (from + i) (omega arith) (omega (arith, low, later)))
     ∙ ap (λ (x : X). Some x) here
 
 -- no place passes from one on

@@ -50,12 +50,12 @@ fn amount_fault(taking: Taking, amount: i128) -> Option<Why>
 pub fn cell_fault(cell: Option<&str>, taking: Taking) -> Option<Why>
     ensures { IsLeastOrNone (CellBreaks taking (option_map (λ c. c.now) cell.entry)) result }
 {
-    match cell {
-        Some(word) => match decimal(word) {
-            Ok(amount) => amount_fault(taking, amount),
-            Err(fault) => Some(refusal_for(fault)),
-        },
-        None => Some(Why::NoRow),
+    let Some(word) = cell else {
+        return Some(Why::NoRow);
+    };
+    match decimal(word) {
+        Ok(amount) => amount_fault(taking, amount),
+        Err(fault) => Some(refusal_for(fault)),
     }
 }
 

@@ -25,7 +25,11 @@ fn numbers(rt: HostRuntime) -> Result<(), Fail> {
         (None, false, Some(Why::NoRow), 0),
     ] {
         let word = cell.unwrap_or("");
-        assert!(rt; cell_fault(cell, Taking { scale: 0, cut }) == fault, "{}", word);
+        assert!(rt;
+            cell_fault(cell, Taking { scale: 0, cut }) == fault,
+            "{}",
+            word
+        );
         assert!(rt; amount_in(cell) == amount, "{}", word);
     }
     Ok(())
