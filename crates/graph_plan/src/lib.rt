@@ -6,7 +6,9 @@
 #![tactic(auto)]
 
 mod graphs;
+mod items;
 mod kinds;
+mod named;
 
 pub use graphs::with_graphs;
 pub use kinds::{message_kinds, task_kinds};

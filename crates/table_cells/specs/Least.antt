@@ -1,5 +1,5 @@
 -- The least of the refusals that hold of something.
-use Rattle.std.specs.Prelude.{◌≤◌, ℕ, Option, None, Some, nat_lt, if◌then◌else◌}
+use Rattle.std.specs.Prelude.{◌≤◌, Option, None, Some, nat_lt, if◌then◌else◌}
 use Rattle.line_words.specs.Refused.{rank}
 use Rattle.line_words.specs.declared.refusals.Why.{Why}
 

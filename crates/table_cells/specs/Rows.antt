@@ -1,5 +1,5 @@
 -- Which table is meant, and which row of it is that of a type of task or message.
-use Rattle.std.specs.Prelude.{◌≡◌, ℕ, ◌<◌, List, length, drop, Bool, ◌&&◌, ◌==◌, Option, None, Some, find}
+use Rattle.std.specs.Prelude.{◌≡◌, ℕ, ◌<◌, List, [], ◌∷◌, length, drop, Bool, ◌&&◌, ◌==◌, Option, None, Some, find}
 use Rattle.std.specs.Str.{bytes_eq}
 use Rattle.tgff_reader.specs.Looking.{table_at, row_at, is_of_kind}
 use Rattle.tgff_reader.specs.declared.file.Table.{Table}

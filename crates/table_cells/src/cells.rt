@@ -48,20 +48,20 @@ fn amount_fault(taking: Taking, amount: i128) -> Option<Why>
 /// is no number or one below zero, `NotWhole` where it has a fraction that isn't cut off, `TooBig` where it is above 2^40
 /// at the scale. Of several it is the lowest.
 pub fn cell_fault(cell: Option<&str>, taking: Taking) -> Option<Why>
-    ensures { IsLeastOrNone (CellBreaks taking (option_map (λ c. c.now) cell)) result }
+    ensures { IsLeastOrNone (CellBreaks taking (option_map (λ c. c.now) cell.entry)) result }
 {
-    match cell {
-        Some(word) => match decimal(word) {
-            Ok(amount) => amount_fault(taking, amount),
-            Err(fault) => Some(refusal_for(fault)),
-        },
-        None => Some(Why::NoRow),
+    let Some(word) = cell else {
+        return Some(Why::NoRow);
+    };
+    match decimal(word) {
+        Ok(amount) => amount_fault(taking, amount),
+        Err(fault) => Some(refusal_for(fault)),
     }
 }
 
 /// The number of a cell, in units of 10 ^ -12, or 0 where there is none.
 pub fn amount_in(cell: Option<&str>) -> i128
-    ensures { result ≡ amount_in (option_map (λ c. c.now) cell) }
+    ensures { result ≡ amount_in (option_map (λ c. c.now) cell.entry) }
 {
     match cell {
         Some(word) => decimal(word).unwrap_or(0),
@@ -72,7 +72,7 @@ pub fn amount_in(cell: Option<&str>) -> i128
 /// What the cell is refused for that marks its row: `NoRow` where there is none, `BadNumber` or `TooBig` where it is no
 /// number. Any number may stand there.
 pub fn mark_fault(cell: Option<&str>) -> Option<Why>
-    ensures { IsLeastOrNone (MarkBreaks (option_map (λ c. c.now) cell)) result }
+    ensures { IsLeastOrNone (MarkBreaks (option_map (λ c. c.now) cell.entry)) result }
 {
     match cell {
         Some(word) => match decimal(word) {
@@ -85,7 +85,7 @@ pub fn mark_fault(cell: Option<&str>) -> Option<Why>
 
 /// Whether a mark says that its row counts: a number other than 0.
 pub fn is_marked(cell: Option<&str>) -> bool
-    ensures { result ≡ is_marked (option_map (λ c. c.now) cell) }
+    ensures { result ≡ is_marked (option_map (λ c. c.now) cell.entry) }
 {
     match cell {
         Some(word) => match decimal(word) {

@@ -3,10 +3,9 @@
 ghost use Rattle.std.specs.Prelude.{◌≡◌, ◌<◌, length, None, MatchOption};
 ghost use Rattle.std.specs.Option.{option_map};
 ghost use Rattle.tgff_reader.specs.Looking.{table_at};
-ghost use Rattle.table_cells.specs.Cells.{cell_of};
 ghost use Rattle.table_cells.specs.Rows.{table_called, row_of, first_cell_of, IsFoundTable, IsFoundRow};
 
-use tgff_reader::{Row, Tgff};
+use tgff_reader::Tgff;
 
 /// The place of the table of a name and an index, where there is one.
 pub fn find_table(tgff: &Tgff, name: &str, index: u64) -> Option<usize>
@@ -23,23 +22,14 @@ pub fn find_row(tgff: &Tgff, table: usize, from: u64, kind: u64) -> Option<usize
     tgff.find_row(table, from as usize, kind)
 }
 
-/// The word in a column of a row, where the row has one there.
-fn cell_of(row: &Row, column: usize) -> Option<&str>
-    ensures { option_map (λ c. c.now) result ≡ cell_of row.now column }
-{
-    match row.words.list().get(column) {
-        Some(word) => Some(word.list()),
-        None => None,
-    }
-}
-
 /// The word in a column of the first row of a table, where there is one.
+#[tactic(auto, using(crate::proofs::Found::first_there, crate::proofs::Found::first_missing))]
 pub fn first_cell(tgff: &Tgff, table: usize, column: usize) -> Option<&str>
     requires { table < length tgff.now.tables }
     ensures { option_map (λ c. c.now) result ≡ first_cell_of (table_at tgff.now.tables table) column }
 {
-    match tgff.tables.list()[table].rows.list().first() {
-        Some(row) => cell_of(row, column),
-        None => None,
+    if tgff.tables.list()[table].rows.list().is_empty() {
+        return None;
     }
+    tgff.cell(table, 0, column)
 }
