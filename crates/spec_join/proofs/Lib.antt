@@ -6,7 +6,9 @@ pub mod Sending
 pub mod Senders
 pub mod Merges
 pub mod Ending
+pub mod Front
 pub mod Tying
 pub mod Weighing
 pub mod Fitting
 pub mod Breaking
+pub mod MessageKinds
