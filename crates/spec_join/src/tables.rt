@@ -1,7 +1,7 @@
 //! Carries out the `table` lines. What a line is refused for is found before anything is made of its table, so that
 //! afterwards only memory may run out: then options of the first tasks may stand already.
 
-ghost use Rattle.std.specs.Prelude.{◌≡◌, ◌<◌, ◌≤◌, ◌^◌, length, true, is_some, Any, All, Contains, IfOk, OnOk, IfErr};
+ghost use Rattle.std.specs.Prelude.{◌≡◌, ◌<◌, ◌≤◌, ◌^◌, ◌++◌, length, true, is_some, Any, All, Contains, IfOk, OnOk, IfErr};
 ghost use Rattle.std.specs.Option.{option_map};
 ghost use Rattle.names.specs.Names.{number_of};
 ghost use Rattle.spec_graph.specs.Refusals.{IsMapped};
@@ -101,6 +101,7 @@ impl Joiner<'_> {
         requires room { length self.old.plan.options < 16384 }
         ensures { OnOk result (self.new ≡ with_plan self.old (with_option self.old.plan (choice_from self.old resource.now keys.now t (row_at (table_at self.old.tables table) row)) (weights_from self.old keys.now (row_at (table_at self.old.tables table) row)))) }
     {
+        self.plan.facts();
         let place = self.resource_there(resource);
         let time = self.time_from(table, row, keys);
         let weights = self.weights_from(table, row, keys)?;

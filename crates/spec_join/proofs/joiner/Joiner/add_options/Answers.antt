@@ -1,0 +1,15 @@
+use Rattle.std.proofs.Common.{◌<◌, length, arith}
+use Rattle.spec_join.proofs.Making.{addable, made_more}
+use Rattle.spec_join.proofs.joiner.Joiner.add_options.Goals as goal
+
+pub add_option-requires-clause-unbroken : goal.add_option-requires-clause-unbroken
+add_option-requires-clause-unbroken c = (addable c.args.self.now c.loop-t.self c.args.table c.args.resource.now c.args.keys.now c.loop-t.t ? c.requires.unbroken c.requires.free c.loop-t.invariant).unbroken
+
+pub add_option-requires-clause-new : goal.add_option-requires-clause-new
+add_option-requires-clause-new c = (addable c.args.self.now c.loop-t.self c.args.table c.args.resource.now c.args.keys.now c.loop-t.t ? c.requires.unbroken c.requires.free c.loop-t.invariant).new
+
+pub add_option-requires-clause-room : goal.add_option-requires-clause-room
+add_option-requires-clause-room c = (addable c.args.self.now c.loop-t.self c.args.table c.args.resource.now c.args.keys.now c.loop-t.t ? c.requires.unbroken c.requires.free c.loop-t.invariant).room
+
+pub loop-t-preserved : goal.loop-t-preserved
+loop-t-preserved c = made_more c.args.self.now c.loop-t.self c.add_option.new.self c.args.table c.args.resource.now c.args.keys.now c.loop-t.t c.loop-t.invariant c.in_ok-add_option.ensures
