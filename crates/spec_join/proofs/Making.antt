@@ -21,9 +21,9 @@ use Rattle.arch_reader.specs.declared.statement.KeyColumn.{KeyColumn}
 use Rattle.tgff_reader.specs.Looking.{table_at}
 use Rattle.tgff_reader.specs.declared.file.Table.{Table}
 use Rattle.tgff_reader.specs.declared.file.Row.{Row}
-use Rattle.table_cells.specs.Least.{IsLeast, IsLeastOrNone}
+use Rattle.table_cells.specs.Least.{IsLeast}
 use Rattle.table_cells.specs.Cells.{cell_of, amount_in, ReadingBreaks, CellBreaks, refusal_for}
-use Rattle.table_cells.specs.Rows.{first_cell_of}
+use Rattle.table_cells.specs.Rows.{table_called, first_cell_of, IsFoundTable}
 use Rattle.table_cells.specs.declared.cells.Taking.{Taking}
 use Rattle.spec_join.specs.Joining.{Joining}
 use Rattle.spec_join.specs.Effects.{with_plan}
@@ -208,22 +208,20 @@ abbrev made_count : Joining → Table → Name → List KeyColumn → ℕ → �
 made_count s table resource keys t = length (made_choices s table resource keys t)
 
 -- the more tasks, the more options
+grows_by : (s : Joining) (table : Table) (resource : Name) (keys : List KeyColumn) (t n : ℕ) → (t ≤ n → made_count s table resource keys t ≤ made_count s table resource keys n) → t ≤ suc n → (n < t) ⊎ (t ≤ n) → made_count s table resource keys t ≤ made_count s table resource keys (suc n)
+grows_by s table resource keys t n ih l (inl x) =
+    let e : t ≡ suc n = omega (arith, l, x) in
+    subst (λ (k : ℕ). made_count s table resource keys k ≤ made_count s table resource keys (suc n)) (sym e) (omega arith)
+grows_by s table resource keys t n ih l (inr x) =
+    let one : List Choice = one_of (choice_from s resource keys n) (chosen_row s table keys n) in
+    let more : made_count s table resource keys n ≤ length (made_choices s table resource keys n ++ one) = omega (arith, length-append (made_choices s table resource keys n) one) in
+    omega (arith, ih x, more)
+
 made_grows : (s : Joining) (table : Table) (resource : Name) (keys : List KeyColumn) (t n : ℕ) → t ≤ n → made_count s table resource keys t ≤ made_count s table resource keys n
 made_grows s table resource keys t zero l =
     let e : t ≡ 0 = omega (arith, l) in
     subst (λ (k : ℕ). made_count s table resource keys k ≤ made_count s table resource keys 0) (sym e) (omega arith)
-made_grows s table resource keys t (suc n) l = go (cases_lt n t)
-  where
-    more : made_count s table resource keys n ≤ made_count s table resource keys (suc n)
-    more = omega (arith, length-append (made_choices s table resource keys n) (one_of (choice_from s resource keys n) (chosen_row s table keys n)))
-
-    go : (n < t) ⊎ (t ≤ n) → made_count s table resource keys t ≤ made_count s table resource keys (suc n)
-    go (inl x) =
-        let e : t ≡ suc n = omega (arith, l, x) in
-        subst (λ (k : ℕ). made_count s table resource keys k ≤ made_count s table resource keys (suc n)) (sym e) (omega arith)
-    go (inr x) =
-        let h : made_count s table resource keys t ≤ made_count s table resource keys n = made_grows s table resource keys t n x in
-        omega (arith, h, more)
+made_grows s table resource keys t (suc n) l = grows_by s table resource keys t n (made_grows s table resource keys t n) l (cases_lt n t)
 
 one_made : (f : Row → Choice) (found : Option Row) → is_some found ≡ true → length (one_of f found) ≡ 1
 one_made f None h = absurd (false≢true h)
@@ -272,10 +270,9 @@ addable old mid n resource keys t l broken free e =
 
 -- ---- a line as a whole
 
--- where no refusal was found, nothing is refused
-pub none_refused : (Holds : Why → Type 0) (found : Option Why) → ((why : Why) → found ≡ Some why → ⊥) → IsLeastOrNone Holds found → (why : Why) → Holds why → ⊥
-none_refused Holds None h none = none
-none_refused Holds (Some why) h least = absurd (h why refl)
+-- a table that was found, in what the code has of the tables
+pub table_found : (s : Joining) (tables : List Table) (name : List ℕ) (index place : ℕ) → tables ≡ s.tables → IsFoundTable tables name index place → table_called s.tables name index ≡ Some (table_at s.tables place)
+table_found s tables name index place e h = subst (λ (ts : List Table). table_called ts name index ≡ Some (table_at ts place)) e h.found
 
 -- what the line of a table that was found is refused for
 pub line_refused : (s : Joining) (found : Option Table) (table : Table) (resource : Name) (keys places : List KeyColumn) (why : Why) → found ≡ Some table → IsLeast (LineBreaks s table resource keys places) why → IsLeast (TableBreaks s found resource keys places) why
