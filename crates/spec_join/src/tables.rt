@@ -2,7 +2,6 @@
 //! afterwards only memory may run out: then options of the first tasks may stand already.
 
 ghost use Rattle.std.specs.Prelude.{◌≡◌, ◌<◌, ◌≤◌, ◌^◌, ◌++◌, length, true, is_some, Any, All, Contains, IfOk, OnOk, IfErr};
-ghost use Rattle.std.specs.Option.{option_map};
 ghost use Rattle.names.specs.Names.{number_of};
 ghost use Rattle.spec_graph.specs.Refusals.{IsMapped};
 ghost use Rattle.tgff_reader.specs.Looking.{table_at, row_at};
@@ -138,7 +137,12 @@ impl Joiner<'_> {
     }
 
     /// Adds the options of all tasks of the graphs.
-    fn add_options(&mut self, table: usize, resource: &str, keys: &[KeyColumn]) -> Result<(), AllocError>
+    fn add_options(
+        &mut self,
+        table: usize,
+        resource: &str,
+        keys: &[KeyColumn],
+    ) -> Result<(), AllocError>
         requires table { table < length self.old.tables }
         requires there { Contains self.old.plan.resources resource.now }
         requires known { All (IsKnownKey self.old.plan.objectives) keys.now }

@@ -1,4 +1,4 @@
-use Rattle.std.proofs.Common.{◌≡◌, ◌<◌, length, arith, rules, sym, ap, ◌∙◌, to_z, of_z}
+use Rattle.std.proofs.Common.{◌≡◌, arith, rules, sym, ap, ◌∙◌, to_z, of_z}
 use Rattle.std.specs.Int.{w128}
 use Rattle.tgff_reader.specs.Looking.{table_at, row_at}
 use Rattle.table_cells.specs.Cells.{amount_in}
@@ -11,4 +11,4 @@ weight_for-weight-requires c =
     let amount = to_z w128 (of_z w128 c.amount_in-amount.result) in
     let same : amount ≡ c.amount_in-amount.result = search rules in
     key_fits s (row_at (table_at s.tables c.args.table) c.args.row) c.args.keys.now c.loop-key.key-index c.key-item.result c.list-name.result.now amount
-        (omega arith) c.key-item.is c.list-name.ensures (sym c.is_table_key.ensures ∙ c.if-is_table_key.false) (same ∙ c.amount_in-amount.ensures ∙ ap amount_in c.cell.ensures) c.requires.known c.requires.unbroken
+    (omega arith) c.key-item.is c.list-name.ensures (sym c.is_table_key.ensures ∙ c.if-is_table_key.false) (same ∙ c.amount_in-amount.ensures ∙ ap amount_in c.cell.ensures) c.requires.known c.requires.unbroken
