@@ -1,10 +1,11 @@
 -- What a table makes: the weights of its rows, and the options of the first tasks of the graphs.
-use Rattle.std.proofs.Common.{◌≡◌, ℕ, ℤ, pos, zero, suc, ◌+◌, ◌≤◌, ◌<◌, ◌^◌, Bool, true, false, cond, List, [], ◌∷◌, ◌++◌, length, get_or, take, Option, None, Some, Result, Ok, Err, refl, sym, ap, subst, ◌∙◌, arith, add-one, append_assoc, length-append, All, Any, ◌⊎◌, inl, inr, codes}
+use Rattle.std.proofs.Common.{◌≡◌, ℕ, ℤ, pos, zero, suc, ◌+◌, ◌≤◌, ◌<◌, ◌^◌, Bool, true, false, cond, List, [], ◌∷◌, ◌++◌, length, get_or, set, take, fold, Option, None, Some, Result, Ok, Err, refl, sym, ap, subst, ◌∙◌, arith, add-one, append_assoc, length-append, All, Any, ◌⊎◌, inl, inr, codes}
 use Rattle.std.specs.Prelude.{is_some}
 use Rattle.std.specs.Option.{option_and_then}
 use Rattle.std.proofs.lemmas.Bool.{cases_lt, false≢true}
 use Rattle.std.proofs.lemmas.List.{get_or_default}
 use Rattle.std.proofs.lemmas.List.Elements.{All-nil, All-cons, All-append, All-weaker}
+use Rattle.std.proofs.lemmas.List.Sums.{fold_more}
 use Rattle.names.specs.Names.{number_of}
 use Rattle.spec_model.specs.Spec.{Name, SpecValue, Choice}
 use Rattle.spec_graph.specs.Refusals.{IsOfPair, IsMapped, HasBig, HasBigOption, IsOptionRefused}
@@ -25,10 +26,10 @@ use Rattle.table_cells.specs.Least.{IsLeast}
 use Rattle.table_cells.specs.Cells.{cell_of, amount_in, ReadingBreaks, CellBreaks, refusal_for}
 use Rattle.table_cells.specs.Rows.{table_called, first_cell_of, IsFoundTable}
 use Rattle.table_cells.specs.declared.cells.Taking.{Taking}
-use Rattle.spec_join.specs.Joining.{Joining}
+use Rattle.spec_join.specs.Joining.{Joining, weight_of, no_weights}
 use Rattle.spec_join.specs.Effects.{with_plan}
 use Rattle.spec_join.specs.Fits.{IsWeighable, IsKnownKey, IsKnownPlace}
-use Rattle.spec_join.specs.Tables.{column_of, time_taking, weight_taking, if_counts, does_count, task_row, chosen_row, weights_from, time_in_column, time_from, choice_from, one_of, made_choices, made_weights, with_made, with_places, with_table, OfRow, TimeColumnBreaks, KeyBreaks, ValuesBreak, RowBreaks, HasBelow, TaskBreaks, IsTakenTwice, PlaceBreaks, OptionsBreak, LineBreaks, TableBreaks}
+use Rattle.spec_join.specs.Tables.{column_of, time_taking, weight_taking, weighed_from, if_counts, does_count, task_row, chosen_row, weights_from, time_in_column, time_from, choice_from, one_of, made_choices, made_weights, with_made, with_places, with_table, OfRow, TimeColumnBreaks, KeyBreaks, ValuesBreak, RowBreaks, HasBelow, TaskBreaks, IsTakenTwice, PlaceBreaks, OptionsBreak, LineBreaks, TableBreaks}
 
 -- ---- cells that aren't refused
 
@@ -68,6 +69,26 @@ key_fits s row keys i k name amount l e en t ea known h =
     let small : at_scale (weight_taking s k.key).scale (amount_in (cell_of row k.column)) ≤ 2 ^ 40 = cell_small (weight_taking s k.key) (cell_of row k.column) (λ why x. none_at (KeyBreaks s row why) keys i k l e (h why) (own, x)) in
     subst (λ (n : Name). IsWeighable s.plan.objectives s.scales (record { key = n; amount = amount })) (sym en)
     (subst (λ (a : ℤ). IsWeighable s.plan.objectives s.scales (record { key = k.key; amount = a })) (sym ea) (record { known = there own; small = small }))
+
+-- a key that names an objective sets its weight from the cell
+objective_key : (s : Joining) (row : Row) (weights : List ℕ) (k : KeyColumn) → is_table_key k.key ≡ false → weighed_from s row weights k ≡ set weights (number_of s.plan.objectives k.key) (weight_of s.scales (number_of s.plan.objectives k.key) (amount_in (cell_of row k.column)))
+objective_key s row weights k t = ap (λ (b : Bool). cond b weights (set weights (number_of s.plan.objectives k.key) (weight_of s.scales (number_of s.plan.objectives k.key) (amount_in (cell_of row k.column))))) t
+
+-- one more key's weight is set, in what the code has of it
+pub weighed_more : (s : Joining) (row : Row) (keys : List KeyColumn) (i : ℕ) (k : KeyColumn) (name : Name) (amount : ℤ) (weights new : List ℕ) (objective value : ℕ) → i < length keys → k ≡ get_or keys i k → name ≡ k.key → is_table_key name ≡ false → amount ≡ amount_in (cell_of row k.column)
+    → objective ≡ number_of s.plan.objectives name → value ≡ weight_of s.scales (number_of s.plan.objectives name) amount → new ≡ set weights objective value
+    → weights ≡ fold (weighed_from s row) (no_weights s) (take i keys) → new ≡ fold (weighed_from s row) (no_weights s) (take (i + 1) keys)
+weighed_more s row keys i k name amount weights new objective value l e en t ea eo ev es v =
+    let before : List ℕ = fold (weighed_from s row) (no_weights s) (take i keys) in
+    es
+    ∙ ap (λ (ws : List ℕ). set ws objective value) v
+    ∙ ap (λ (j : ℕ). set before j value) eo
+    ∙ ap (λ (w : ℕ). set before (number_of s.plan.objectives name) w) ev
+    ∙ ap (λ (a : ℤ). set before (number_of s.plan.objectives name) (weight_of s.scales (number_of s.plan.objectives name) a)) ea
+    ∙ ap (λ (n : Name). set before (number_of s.plan.objectives n) (weight_of s.scales (number_of s.plan.objectives n) (amount_in (cell_of row k.column)))) en
+    ∙ sym (objective_key s row before k (subst (λ (n : Name). is_table_key n ≡ false) en t))
+    ∙ ap (weighed_from s row before) e
+    ∙ sym (fold_more (weighed_from s row) (no_weights s) keys i k l)
 
 -- the amount in the cell of the first row that a word `OBJ@N` names fits, where some of the words were carried out
 pub place_fits : (old mid : Joining) (tables : List Table) (n : ℕ) (resource : Name) (places : List KeyColumn) (i : ℕ) (k : KeyColumn) (name : Name) (amount : ℤ) → i < length places → k ≡ get_or places i k → name ≡ k.key → tables ≡ mid.tables → amount ≡ amount_in (first_cell_of (table_at tables n) k.column)
