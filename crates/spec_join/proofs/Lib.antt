@@ -12,3 +12,4 @@ pub mod Weighing
 pub mod Fitting
 pub mod Breaking
 pub mod MessageKinds
+pub mod Making
