@@ -18,6 +18,7 @@ use Rattle.arch_reader.specs.Arch.{ArchValue, statement_of, statements_in}
 use Rattle.arch_reader.specs.declared.statement.ArchLine.{ArchLine}
 use Rattle.arch_reader.specs.declared.statement.Statement.{Statement}
 use Rattle.arch_reader.specs.declared.statement.Statement.TheVariants.{Task, Message, Map}
+use Rattle.tgff_reader.specs.Facts.{TgffValue}
 use Rattle.spec_join.specs.Joining.{Joining, start}
 use Rattle.spec_join.specs.Effects.{effect}
 use Rattle.spec_join.specs.Refusals.{IsPast, Breaks, IsLeast}
@@ -133,9 +134,9 @@ stopped ls k l old (Broken why) lt e eo none r =
     )
 
 -- what stops at the end
-pub stopped_at_end : (file : ArchValue) (s : Joining) (stop : Stop) → s ≡ after (statements_in file.lines) (length file.lines) → NoneBreaks (statements_in file.lines) (length file.lines) → RefusesEnd s.plan stop → JoinReads file (Err (fault_at Arch file.end_line stop))
-stopped_at_end file s NoMemory e none r = tt
-stopped_at_end file s (Broken why) e none r = (refl, inr (record { line_is = refl; before = none; here = subst (λ (x : Joining). RefusesEnd x.plan (Broken why)) e r }))
+pub stopped_at_end : (tgff : TgffValue) (file : ArchValue) (s : Joining) (stop : Stop) → s ≡ after (statements_in file.lines) (length file.lines) → NoneBreaks (statements_in file.lines) (length file.lines) → RefusesEnd s.plan stop → JoinReads tgff file (Err (fault_at Arch file.end_line stop))
+stopped_at_end tgff file s NoMemory e none r = tt
+stopped_at_end tgff file s (Broken why) e none r = (refl, inr (record { line_is = refl; before = none; here = subst (λ (x : Joining). RefusesEnd x.plan (Broken why)) e r }))
 
 -- nothing is refused
 pub joined : (file : ArchValue) (ls : List ArchLine) (s : Joining) (spec : SpecValue) → ls ≡ file.lines → s ≡ after_all ls → NoneBreaks (statements_in ls) (length ls) → AcceptsEnd s.plan → spec ≡ finished s.plan → IsJoined file spec
@@ -148,7 +149,7 @@ joined file ls s spec e m none a v =
     }
 
 -- the end is refused, in what the code has of the file
-pub ended : (file : ArchValue) (ls : List ArchLine) (line : ℕ) (s : Joining) (stop : Stop) (fault : ReadFault) → ls ≡ file.lines → line ≡ file.end_line → s ≡ after_all ls → NoneBreaks (statements_in ls) (length ls) → RefusesEnd s.plan stop → fault ≡ fault_at Arch line stop → JoinReads file (Err fault)
-ended file ls line s stop fault e el m none r ef =
-    let h : JoinReads file (Err (fault_at Arch file.end_line stop)) = stopped_at_end file s stop (m ∙ ap after_all e) (subst (λ (xs : List ArchLine). NoneBreaks (statements_in xs) (length xs)) e none) r in
-    subst (λ (f : ReadFault). JoinReads file (Err f)) (sym (ef ∙ ap (λ (n : ℕ). fault_at Arch n stop) el)) h
+pub ended : (tgff : TgffValue) (file : ArchValue) (ls : List ArchLine) (line : ℕ) (s : Joining) (stop : Stop) (fault : ReadFault) → ls ≡ file.lines → line ≡ file.end_line → s ≡ after_all ls → NoneBreaks (statements_in ls) (length ls) → RefusesEnd s.plan stop → fault ≡ fault_at Arch line stop → JoinReads tgff file (Err fault)
+ended tgff file ls line s stop fault e el m none r ef =
+    let h : JoinReads tgff file (Err (fault_at Arch file.end_line stop)) = stopped_at_end tgff file s stop (m ∙ ap after_all e) (subst (λ (xs : List ArchLine). NoneBreaks (statements_in xs) (length xs)) e none) r in
+    subst (λ (f : ReadFault). JoinReads tgff file (Err f)) (sym (ef ∙ ap (λ (n : ℕ). fault_at Arch n stop) el)) h

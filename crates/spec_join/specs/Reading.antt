@@ -6,6 +6,7 @@ use Rattle.line_words.specs.declared.refusals.Why.{Why}
 use Rattle.line_words.specs.declared.refusals.FileTag.TheVariants.{Arch}
 use Rattle.line_words.specs.declared.refusals.ReadFault.{ReadFault}
 use Rattle.line_words.specs.declared.refusals.ReadFault.TheVariants as faults
+use Rattle.tgff_reader.specs.Facts.{TgffValue}
 use Rattle.arch_reader.specs.Seen.{seen}
 use Rattle.arch_reader.specs.Arch.{ArchValue, statements_in}
 use Rattle.arch_reader.specs.declared.statement.ArchLine.{ArchLine}
@@ -60,7 +61,7 @@ pub record IsJoined (file : ArchValue) (spec : SpecValue) : Type 0 where
   pub value : spec ≡ finished (after_all file.lines).plan
 
 -- what joining answers; memory may run out
-abbrev pub JoinReads : ArchValue → Result SpecValue ReadFault → Type 0
-JoinReads file (Ok spec) = IsJoined file spec
-JoinReads file (Err (faults.Refused r)) = (r.file ≡ Arch) × (IsRefusedAt file.lines r.line r.why ⊎ IsRefusedAtEnd file r.line r.why)
-JoinReads file (Err faults.NoMemory) = Unit {0}
+abbrev pub JoinReads : TgffValue → ArchValue → Result SpecValue ReadFault → Type 0
+JoinReads tgff file (Ok spec) = IsJoined file spec
+JoinReads tgff file (Err (faults.Refused r)) = (r.file ≡ Arch) × (IsRefusedAt file.lines r.line r.why ⊎ IsRefusedAtEnd file r.line r.why)
+JoinReads tgff file (Err faults.NoMemory) = Unit {0}

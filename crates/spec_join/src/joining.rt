@@ -13,6 +13,7 @@ use arch_reader::{ArchFile, ArchLine};
 use line_words::{FileTag, ReadFault, Stop};
 use spec_graph::Spec;
 use std::alloc::Global;
+use tgff_reader::Tgff;
 
 /// Carries out the statements of a file in their order.
 fn carry_all(alloc: Global, lines: &[ArchLine]) -> Result<Joiner, ReadFault>
@@ -55,9 +56,10 @@ fn finish(joiner: Joiner) -> Result<Spec, Stop>
 /// as `TooBig` where a traffic weight times a quantity is above 2^40, then as `Limit` of
 /// `Variables`, then of `Terms`. Otherwise the answer is the specification that the statements
 /// state.
-pub fn join(alloc: Global, arch: &ArchFile) -> Result<Spec, ReadFault>
-    ensures reads { JoinReads arch.now result }
+pub fn join(alloc: Global, tgff: &Tgff, arch: &ArchFile) -> Result<Spec, ReadFault>
+    ensures reads { JoinReads tgff.now arch.now result }
 {
+    tgff.facts();
     arch.facts();
     let joiner = carry_all(alloc, arch.lines.list())?;
     match finish(joiner) {
