@@ -2,21 +2,18 @@
 //! `bench/meshes`.
 #![tactic(auto)]
 
-ghost use Rattle.std.specs.Prelude.{◌≡◌, ◌≤◌, length};
+ghost use Rattle.std.specs.Prelude.{◌≡◌, length};
 ghost use Rattle.spec_model.specs.Spec.{design_variables};
 
 use desk_io::{Desk, RealDesk};
 use genotype::{Genotype, read_genotype};
 use sat_decoder::Decoder;
 use spec_graph::Spec;
-use spec_join::read_spec;
+use spec_join::{Loaded, read_spec};
 use std::alloc::{AllocError, Global};
 use std::env;
 use std::process::ExitCode;
 use std::rt::Env;
-
-/// The greatest length of an architecture file, in bytes.
-const MAX_BYTES: usize = 16_777_216;
 
 /// The bytes of a file, or `None` where they can't be had.
 fn load<D: Desk>(alloc: Global, desk: &mut D, name: &str) -> Option<Vec<u8>> {
@@ -57,11 +54,8 @@ fn count(alloc: Global, spec: &Spec, geno: &[u8]) -> Option<u64> {
 }
 
 /// The same of the texts of both files.
-fn count_all(alloc: Global, arch: &[u8], geno: &[u8]) -> Option<u64> {
-    if arch.len() > MAX_BYTES {
-        return None;
-    }
-    let Ok(spec) = read_spec(alloc, arch) else {
+fn count_all(alloc: Global, arch: Vec<u8>, geno: &[u8]) -> Option<u64> {
+    let Ok(spec) = read_spec(alloc, &None, &Loaded::Bytes(arch)) else {
         return None;
     };
     count(alloc, &spec, geno)
@@ -92,7 +86,7 @@ fn measure<D: Desk>(alloc: Global, words: &[String], desk: &mut D) -> Option<u64
     let Some(geno) = load(alloc, desk, geno.as_str()) else {
         return None;
     };
-    count_all(alloc, &arch, &geno)
+    count_all(alloc, arch, &geno)
 }
 
 fn main(rt: HostRuntime) -> ExitCode {

@@ -1,4 +1,4 @@
--- What is said of an architecture file and a genotype file.
+-- What is said of a file of task graphs and tables, an architecture file and a genotype file.
 use Rattle.std.specs.Prelude.{◌≡◌, ℕ, List, [], ◌∷◌, ◌++◌, Bool, Option, Some, None, Result, Ok, Err, length, if◌then◌else◌, codes, decimal, ◌⊎◌}
 use Rattle.desk_io.specs.Files.{Files, content}
 use Rattle.line_words.specs.Text.{lines}
@@ -7,13 +7,14 @@ use Rattle.line_words.specs.Reads.{Reads}
 use Rattle.line_words.specs.declared.refusals.Why.{Why}
 use Rattle.line_words.specs.declared.refusals.Why.TheVariants.{Limit}
 use Rattle.line_words.specs.declared.refusals.Refusal.{Refusal}
-use Rattle.line_words.specs.declared.refusals.FileTag.TheVariants.{Genotype}
+use Rattle.line_words.specs.declared.refusals.FileTag.{FileTag}
+use Rattle.line_words.specs.declared.refusals.FileTag.TheVariants.{Tgff, Genotype}
 use Rattle.line_words.specs.declared.refusals.ReadFault.{ReadFault}
 use Rattle.line_words.specs.declared.refusals.ReadFault.TheVariants as faults
 use Rattle.spec_model.specs.Spec.{SpecValue, bits_of, design_variables}
 use Rattle.spec_model.specs.Genotypes.{GeneValue, natural, IsFirstValid, HasNoValid}
 use Rattle.spec_model.specs.Vectors.{vector_of}
-use Rattle.spec_join.specs.Whole.{ReadsArch}
+use Rattle.spec_join.specs.Whole.{ReadsSpec}
 use Rattle.genotype.specs.Statements.{genotype_rules, genes_of, as_seen}
 use Rattle.result_text.specs.Spelling.{implementation_text}
 use Rattle.run_words.specs.Decoding.{is_dash}
@@ -22,7 +23,7 @@ use Rattle.dse_run.specs.declared.status.Status.{Status}
 use Rattle.dse_run.specs.declared.status.Status.TheVariants.{Done, No, Usage, Input}
 
 abbrev pub usage_text : List ℕ
-usage_text = codes "usage: dse decode - ARCH GENO\n"
+usage_text = codes "usage: dse decode TGFF ARCH GENO\n"
 
 -- which limit a file passes, where it is refused for one
 abbrev pub limit_text : Why → List ℕ
@@ -77,22 +78,33 @@ abbrev pub ChoosesGenotype : SpecValue → List ℕ → Option (List ℕ) → St
 ChoosesGenotype s name None status text = DecodesTo s (natural (design_variables s)) status text
 ChoosesGenotype s name (Some bytes) status text = ReadsGenotypeTo s name bytes status text
 
--- what is answered to what the architecture file reads as; the refusals of the genotype file come after its own
-abbrev pub AnswersArch : List ℕ → List ℕ → Option (List ℕ) → Result SpecValue ReadFault → Status → List ℕ → Type 0
-AnswersArch arch_name geno_name geno (Ok s) status text = ChoosesGenotype s geno_name geno status text
-AnswersArch arch_name geno_name geno (Err fault) status text = Refuses arch_name fault status text
+-- the word of the file of task graphs and tables, or else of the architecture file
+abbrev pub word_of : List ℕ → List ℕ → FileTag → List ℕ
+word_of tgff_name arch_name Tgff = tgff_name
+word_of tgff_name arch_name _ = arch_name
 
--- what is answered to the contents of an architecture file and, if one is named, of a genotype file
-pub record ReadsTo (arch_name geno_name arch : List ℕ) (geno : Option (List ℕ)) (status : Status) (text : List ℕ) : Type 0 where
+-- one of the two files that make the specification is refused, by its word
+abbrev pub RefusesReading : List ℕ → List ℕ → ReadFault → Status → List ℕ → Type 0
+RefusesReading tgff_name arch_name (faults.Refused r) status text = Refuses (word_of tgff_name arch_name r.file) (faults.Refused r) status text
+RefusesReading tgff_name arch_name faults.NoMemory status text = ⊥
+
+-- what is answered to what these two files read as; the refusals of the genotype file come after theirs
+abbrev pub AnswersReading : List ℕ → List ℕ → List ℕ → Option (List ℕ) → Result SpecValue ReadFault → Status → List ℕ → Type 0
+AnswersReading tgff_name arch_name geno_name geno (Ok s) status text = ChoosesGenotype s geno_name geno status text
+AnswersReading tgff_name arch_name geno_name geno (Err fault) status text = RefusesReading tgff_name arch_name fault status text
+
+-- what is answered to the contents of a file of task graphs and tables, if one is named, of an architecture file and, if
+-- one is named, of a genotype file
+pub record ReadsTo (tgff_name arch_name geno_name : List ℕ) (tgff : Option (List ℕ)) (arch : List ℕ) (geno : Option (List ℕ)) (status : Status) (text : List ℕ) : Type 0 where
   pub reading : Result SpecValue ReadFault
-  pub reads : ReadsArch arch reading
-  pub answers : AnswersArch arch_name geno_name geno reading status text
+  pub reads : ReadsSpec tgff arch reading
+  pub answers : AnswersReading tgff_name arch_name geno_name geno reading status text
 
--- the content of the genotype file, if one is named
-abbrev pub geno_content : Files → List ℕ → Option (List ℕ)
-geno_content all name = if is_dash name then None else Some (content all name)
+-- the content of a file, if one is named
+abbrev pub content_if_named : Files → List ℕ → Option (List ℕ)
+content_if_named all name = if is_dash name then None else Some (content all name)
 
 -- what is answered to a request over these files
 abbrev pub AnswersTo : Option RequestValue → Files → Status → List ℕ → Type 0
 AnswersTo None all status text = (status ≡ Usage) × (text ≡ usage_text)
-AnswersTo (Some (decode arch geno)) all status text = ReadsTo arch geno (content all arch) (geno_content all geno) status text
+AnswersTo (Some (decode tgff arch geno)) all status text = ReadsTo tgff arch geno (content_if_named all tgff) (content all arch) (content_if_named all geno) status text

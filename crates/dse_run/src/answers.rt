@@ -1,23 +1,22 @@
-//! What is said of an architecture file and a genotype file: why one is refused, or the first valid implementation in
-//! the genotype's order, with its vector.
+//! What is said of the files of a request: why one is refused, or the first valid implementation in the genotype's
+//! order, with its vector.
 
-ghost use Rattle.std.specs.Prelude.{◌≡◌, ◌≢◌, ◌<◌, ◌≤◌, ◌++◌, [], ℕ, List, Option, map, length, IfOk, OnOk, MatchOption, option_map};
+ghost use Rattle.std.specs.Prelude.{◌≡◌, ◌≢◌, ◌++◌, [], map, length, IfOk, OnOk, MatchOption, option_map};
 ghost use Rattle.spec_model.specs.Spec.{bits_of, design_variables};
 ghost use Rattle.spec_model.specs.Genotypes.{natural, HasNoValid};
 ghost use Rattle.spec_model.specs.Vectors.{vector_of};
 ghost use Rattle.sat_decoder.specs.Decoding.{IsFirstDesign};
 ghost use Rattle.dse_run.specs.Loading.{items_of};
 ghost use Rattle.dse_run.specs.Run.{IsSaid};
-ghost use Rattle.dse_run.specs.Answers.{ReadsTo, ReadsGenotypeTo, ChoosesGenotype, DecodesTo, Refuses, limit_text, place_text, reason_text, input_text};
+ghost use Rattle.dse_run.specs.Answers.{AnswersReading, ReadsGenotypeTo, ChoosesGenotype, DecodesTo, Refuses, RefusesReading, word_of, limit_text, place_text, reason_text, input_text};
 
 use crate::status::Status;
 use genotype::{Genotype, read_genotype};
 use impl_rules::{Design, vector_at};
-use line_words::{FileTag, ReadFault, Refusal, What, Why, put_whole};
+use line_words::{FileTag, ReadFault, Refusal, Why, put_whole};
 use result_text::print_design;
 use sat_decoder::{Decoded, Decoder};
 use spec_graph::Spec;
-use spec_join::read_spec;
 use std::alloc::{AllocError, Global};
 
 /// The first valid design in the genotype's order, or `None` exactly where none is valid.
@@ -210,50 +209,63 @@ fn answer_spec(
     }
 }
 
-/// The answer of the files that are named, as the text to be said. The architecture file is at most 16,777,216 bytes long.
-pub(crate) fn answer_files(
+/// The word of the file of task graphs and tables, or else of the architecture file.
+fn word_of<'a>(tgff_name: &'a str, arch_name: &'a str, file: FileTag) -> &'a str
+    ensures { result.now ≡ word_of tgff_name.entry.now arch_name.entry.now file }
+{
+    match file {
+        FileTag::Tgff => tgff_name,
+        _ => arch_name,
+    }
+}
+
+/// The answer where one of the two files that make the specification is refused.
+fn refuse_reading(
     alloc: Global,
+    tgff_name: &str,
+    arch_name: &str,
+    fault: ReadFault,
+    out: &mut Vec<u8>,
+) -> Result<Status, AllocError>
+    requires fresh { out.old.items ≡ [] }
+    ensures answer { IfOk result (λ status. RefusesReading tgff_name.now arch_name.now fault status out.new.items) }
+    ensures plain { IfOk result IsSaid }
+    ensures not_usage { IfOk result (λ status. status ≢ Status.Usage) }
+{
+    match fault {
+        ReadFault::Refused(refusal) => {
+            let name = word_of(tgff_name, arch_name, refusal.file);
+            let status = refuse(alloc, name, fault, out)?;
+            Ok(status)
+        }
+        ReadFault::NoMemory => Err(AllocError),
+    }
+}
+
+/// The answer of what the two files read as that make the specification, and of the genotype file, as the text to be
+/// said.
+pub(crate) fn answer_reading(
+    alloc: Global,
+    tgff_name: &str,
     arch_name: &str,
     geno_name: &str,
-    arch: &[u8],
+    reading: Result<Spec, ReadFault>,
     geno: &Option<Vec<u8>>,
     out: &mut Vec<u8>,
 ) -> Result<Status, AllocError>
     requires fresh { out.old.items ≡ [] }
-    requires short { length arch.now ≤ 16777216 }
-    ensures answer { IfOk result (λ status. ReadsTo arch_name.now geno_name.now arch.now (option_map items_of geno.now) status out.new.items) }
+    ensures answer { IfOk result (λ status. AnswersReading tgff_name.now arch_name.now geno_name.now (option_map items_of geno.now) reading status out.new.items) }
     ensures plain { IfOk result IsSaid }
     ensures not_usage { IfOk result (λ status. status ≢ Status.Usage) }
 {
-    match read_spec(alloc, arch) {
+    match reading {
         Ok(spec) => {
             let status = answer_spec(alloc, &spec, geno_name, geno, out)?;
             Ok(status)
         }
         Err(fault) => {
-            let status = refuse(alloc, arch_name, fault, out)?;
+            let status = refuse_reading(alloc, tgff_name, arch_name, fault, out)?;
             Ok(status)
         }
     }
-}
-
-/// The answer where the architecture file is too long to be read.
-pub(crate) fn refuse_long(
-    alloc: Global,
-    arch_name: &str,
-    geno_name: &str,
-    out: &mut Vec<u8>,
-) -> Result<Status, AllocError>
-    requires fresh { out.old.items ≡ [] }
-    ensures answer { IfOk result (λ status. (arch : List ℕ) (geno : Option (List ℕ)) → 16777216 < length arch → ReadsTo arch_name.now geno_name.now arch geno status out.new.items) }
-    ensures plain { IfOk result IsSaid }
-    ensures not_usage { IfOk result (λ status. status ≢ Status.Usage) }
-{
-    let refusal = Refusal {
-        file: FileTag::Arch,
-        line: 0,
-        why: Why::Limit(What::FileBytes),
-    };
-    let status = refuse(alloc, arch_name, ReadFault::Refused(refusal), out)?;
-    Ok(status)
 }

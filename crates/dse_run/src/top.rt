@@ -5,18 +5,17 @@ ghost use Rattle.std.specs.String.{string_bytes};
 ghost use Rattle.desk_io.specs.Files.{Files, content, Says};
 ghost use Rattle.desk_io.specs.Causes.{Rose, HasCause};
 ghost use Rattle.run_words.specs.Requests.{request};
-ghost use Rattle.dse_run.specs.Answers.{AnswersTo, ReadsTo, geno_content};
-ghost use Rattle.dse_run.specs.Loading.{IsLoaded, items_of};
+ghost use Rattle.spec_join.specs.Whole.{IsLoaded, IsLoadedIfNamed};
+ghost use Rattle.dse_run.specs.Answers.{AnswersTo, ReadsTo, content_if_named};
+ghost use Rattle.dse_run.specs.Loading.{items_of};
 ghost use Rattle.dse_run.specs.Run.{IsSaid, IsCut, Said};
 
-use crate::answers::{answer_files, refuse_long};
+use crate::answers::answer_reading;
 use crate::status::Status;
 use desk_io::{Desk, DeskError};
 use run_words::{Request, read_words};
+use spec_join::{Loaded, MAX_BYTES, read_spec};
 use std::alloc::Global;
-
-/// The greatest length of an architecture file, in bytes.
-const MAX_BYTES: u64 = 16_777_216;
 
 /// The whole content of a file of this length.
 fn fill_whole<D: Desk>(
@@ -37,25 +36,38 @@ fn fill_whole<D: Desk>(
     Ok(bytes)
 }
 
-/// The content of an architecture file, or `None` where it is too long to be read.
-fn load_arch<D: Desk>(alloc: Global, desk: &mut D, name: &str) -> Result<Option<Vec<u8>>, DeskError>
-    ensures loaded { IfOk result (λ found. IfSome (D.files desk.old) (λ all. IsLoaded found (content all name.now))) }
-    ensures short { IfOk result (λ found. IfSome found (λ bytes. length bytes.items ≤ 16777216)) }
+/// What is loaded of a file that may be too long to be read.
+fn load_short<D: Desk>(alloc: Global, desk: &mut D, name: &str) -> Result<Loaded, DeskError>
+    ensures loaded { IfOk result (λ loaded. IfSome (D.files desk.old) (λ all. IsLoaded loaded (content all name.now))) }
     ensures files { D.files desk.new ≡ D.files desk.old }
     ensures said { D.said desk.new ≡ D.said desk.old }
     ensures cause { HasCause (D.faults desk.old) (D.faults desk.new) result }
 {
     let len = desk.length(name)?;
     if len > MAX_BYTES {
-        return Ok(None);
+        return Ok(Loaded::TooLong);
     }
     let bytes = fill_whole(alloc, desk, name, len)?;
-    Ok(Some(bytes))
+    Ok(Loaded::Bytes(bytes))
+}
+
+/// The same of a file of task graphs and tables, or `None` where none is named.
+fn load_tgff<D: Desk>(alloc: Global, desk: &mut D, name: &str) -> Result<Option<Loaded>, DeskError>
+    ensures loaded { IfOk result (λ found. IfSome (D.files desk.old) (λ all. IsLoadedIfNamed found (content_if_named all name.now))) }
+    ensures files { D.files desk.new ≡ D.files desk.old }
+    ensures said { D.said desk.new ≡ D.said desk.old }
+    ensures cause { HasCause (D.faults desk.old) (D.faults desk.new) result }
+{
+    if name == "-" {
+        return Ok(None);
+    }
+    let loaded = load_short(alloc, desk, name)?;
+    Ok(Some(loaded))
 }
 
 /// The content of a genotype file, or `None` where none is named.
 fn load_geno<D: Desk>(alloc: Global, desk: &mut D, name: &str) -> Result<Option<Vec<u8>>, DeskError>
-    ensures loaded { IfOk result (λ found. IfSome (D.files desk.old) (λ all. option_map items_of found ≡ geno_content all name.now)) }
+    ensures loaded { IfOk result (λ found. IfSome (D.files desk.old) (λ all. option_map items_of found ≡ content_if_named all name.now)) }
     ensures files { D.files desk.new ≡ D.files desk.old }
     ensures said { D.said desk.new ≡ D.said desk.old }
     ensures cause { HasCause (D.faults desk.old) (D.faults desk.new) result }
@@ -68,28 +80,29 @@ fn load_geno<D: Desk>(alloc: Global, desk: &mut D, name: &str) -> Result<Option<
     Ok(Some(bytes))
 }
 
-/// The answer of the files that are named. Both are read whole before either is refused.
+/// The answer of the files that are named. All are read whole before one is refused.
 fn decode<D: Desk>(
     alloc: Global,
+    tgff_name: &str,
     arch_name: &str,
     geno_name: &str,
     desk: &mut D,
     out: &mut Vec<u8>,
 ) -> Result<Status, DeskError>
     requires { out.old.items ≡ [] }
-    ensures answer { IfOk result (λ status. IfSome (D.files desk.old) (λ all. ReadsTo arch_name.now geno_name.now (content all arch_name.now) (geno_content all geno_name.now) status out.new.items)) }
+    ensures answer { IfOk result (λ status. IfSome (D.files desk.old) (λ all. ReadsTo tgff_name.now arch_name.now geno_name.now (content_if_named all tgff_name.now) (content all arch_name.now) (content_if_named all geno_name.now) status out.new.items)) }
     ensures plain { IfOk result IsSaid }
     ensures not_usage { IfOk result (λ status. status ≢ Status.Usage) }
     ensures files { D.files desk.new ≡ D.files desk.old }
     ensures said { D.said desk.new ≡ D.said desk.old }
     ensures cause { HasCause (D.faults desk.old) (D.faults desk.new) result }
 {
-    let arch = load_arch(alloc, desk, arch_name)?;
+    let tgff = load_tgff(alloc, desk, tgff_name)?;
+    let arch = load_short(alloc, desk, arch_name)?;
     let geno = load_geno(alloc, desk, geno_name)?;
-    match arch {
-        Some(bytes) => Ok(answer_files(alloc, arch_name, geno_name, &bytes, &geno, out)?),
-        None => Ok(refuse_long(alloc, arch_name, geno_name, out)?),
-    }
+    let reading = read_spec(alloc, &tgff, &arch);
+    let status = answer_reading(alloc, tgff_name, arch_name, geno_name, reading, &geno, out)?;
+    Ok(status)
 }
 
 /// The answer of a command line.
@@ -108,15 +121,16 @@ fn respond<D: Desk>(
     ensures cause { HasCause (D.faults desk.old) (D.faults desk.new) result }
 {
     match read_words(alloc, words)? {
-        Some(Request::Decode { arch, geno }) => decode(
+        Some(Request::Decode { tgff, arch, geno }) => decode(
             alloc,
+            tgff.as_str(),
             arch.as_str(),
             geno.as_str(),
             desk,
             out,
         ),
         None => {
-            out.extend_from_slice(b"usage: dse decode - ARCH GENO\n")?;
+            out.extend_from_slice(b"usage: dse decode TGFF ARCH GENO\n")?;
             Ok(Status::Usage)
         }
     }

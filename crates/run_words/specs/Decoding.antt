@@ -21,13 +21,13 @@ is_file text = is_name text && not (is_dash text)
 abbrev pub decode_table : Table
 decode_table = record { places = codes "tgff" ∷ codes "arch" ∷ codes "geno" ∷ []; options = [] }
 
--- `-` for the task graphs, a file for the architecture, and a file or `-` for the genotype
+-- a file or `-` for the task graphs and tables, a file for the architecture, and a file or `-` for the genotype
 abbrev pub are_taken : Text → Text → Text → Bool
-are_taken tgff arch geno = is_dash tgff && (is_file arch && is_name geno)
+are_taken tgff arch geno = is_name tgff && (is_file arch && is_name geno)
 
 -- the request of the names at the places
 abbrev pub decode_with : Option Text → Option Text → Option Text → Option RequestValue
-decode_with (Some tgff) (Some arch) (Some geno) = if are_taken tgff arch geno then Some (decode arch geno) else None
+decode_with (Some tgff) (Some arch) (Some geno) = if are_taken tgff arch geno then Some (decode tgff arch geno) else None
 decode_with _ _ _ = None
 
 -- the request of the values of a line

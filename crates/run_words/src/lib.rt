@@ -18,9 +18,11 @@ use std::alloc::{AllocError, Global};
 /// What a command line asks for.
 #[derive(Debug, Drop)]
 pub enum Request {
-    /// `decode - ARCH GENO`: the first valid implementation of an architecture file in the order of a genotype file,
-    /// or in the natural order where that is `-`.
+    /// `decode TGFF ARCH GENO`: the first valid implementation of a file of task graphs and tables and an architecture
+    /// file, in the order of a genotype file, or in the natural order where that is `-`.
     Decode {
+        /// The file of task graphs and tables, or `-` for no graphs and no tables.
+        tgff: String,
         /// The architecture file.
         arch: String,
         /// The genotype file, or `-`.
@@ -52,7 +54,7 @@ fn is_file(text: &str) -> bool
 fn are_taken(tgff: &str, arch: &str, geno: &str) -> bool
     ensures { result ≡ are_taken tgff.now arch.now geno.now }
 {
-    if !is_dash(tgff) {
+    if !is_name(tgff) {
         return false;
     }
     if !is_file(arch) {
@@ -82,9 +84,10 @@ fn decode_with(
     if !are_taken(tgff, arch, geno) {
         return Ok(None);
     }
+    let tgff = String::from_str(alloc, tgff)?;
     let arch = String::from_str(alloc, arch)?;
     let geno = String::from_str(alloc, geno)?;
-    Ok(Some(Request::Decode { arch, geno }))
+    Ok(Some(Request::Decode { tgff, arch, geno }))
 }
 
 /// What the words after `decode` give its places, or `None` where they are no line of it.

@@ -11,7 +11,9 @@ fn asked(alloc: Global, line: &str) -> Result<String, Fail> {
         words.push(String::from_str(alloc, word)?)?;
     }
     match read_words(alloc, &words)? {
-        Some(Request::Decode { arch, geno }) => Ok(format!(in alloc; "{arch} {geno}")?),
+        Some(Request::Decode { tgff, arch, geno }) => Ok(format!(in alloc;
+            "{tgff} {arch} {geno}"
+        )?),
         None => Ok(String::from_str(alloc, "none")?),
     }
 }
@@ -20,13 +22,19 @@ fn asked(alloc: Global, line: &str) -> Result<String, Fail> {
 fn asks_what_each_line_says(rt: HostRuntime) -> Result<(), Fail> {
     let alloc = rt.alloc();
     for (line, expected) in [
-        ("decode - A -", "A -"),
+        ("decode T A -", "T A -"),
+        ("decode - A -", "- A -"),
         ("decode - A", "none"),
+        ("decode T - -", "none"),
         ("decode - - -", "none"),
-        ("decode -- - A -", "A -"),
-        ("decode - A G", "A G"),
-        ("decode - A - --budget 0", "none"),
-        ("decode - A - --proof A", "none"),
+        ("decode  A -", "none"),
+        ("decode -- - A -", "- A -"),
+        ("decode -- T A -", "T A -"),
+        ("decode - A G", "- A G"),
+        ("decode T A G", "T A G"),
+        ("decode T A G H", "none"),
+        ("decode T A - --budget 0", "none"),
+        ("decode T A - --proof A", "none"),
     ] {
         assert!(rt; asked(alloc, line)?.as_str() == expected);
     }

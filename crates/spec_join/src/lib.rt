@@ -29,4 +29,4 @@ mod weights;
 mod whole;
 
 pub use joining::join;
-pub use whole::read_spec;
+pub use whole::{Loaded, MAX_BYTES, read_spec};

@@ -1,24 +1,96 @@
-//! Reading as a whole: an architecture file, and the specification that its statements make.
+//! Reading as a whole: a file of task graphs and tables, an architecture file, and the specification that they make.
+//!
+//! `read_spec` judges both files in this order, so that each refusal of the first one comes before all of the second
+//! one, also where the second one is too long. What their bytes read as stands in `specs/Whole.antt`.
 
-ghost use Rattle.std.specs.Prelude.{◌≤◌, length};
+ghost use Rattle.std.specs.Prelude.{◌≡◌, ◌<◌, ◌≤◌, ℕ, List, length, Option, Some, IfOk, OnErr, IfErr};
+ghost use Rattle.line_words.specs.declared.refusals.ReadFault.TheVariants as faults;
+ghost use Rattle.spec_join.specs.Whole.{IsLoaded, IsLoadedIfNamed, ReadsTgff, ReadsArch, ReadsSpec, refused_as_long};
 
 use crate::join;
 use arch_reader::read_arch;
-use line_words::ReadFault;
+use line_words::{FileTag, ReadFault, Refusal, What, Why};
 use spec_graph::Spec;
 use std::alloc::Global;
-use tgff_reader::Tgff;
+use tgff_reader::{Tgff, read_tgff};
 
-/// Reads an architecture file of at most 16,777,216 bytes, and joins its statements to a specification. It is refused
-/// for the first rule of its own that it breaks, or where it breaks none, for the first that its statements break
-/// together.
-pub fn read_spec(alloc: Global, bytes: &[u8]) -> Result<Spec, ReadFault>
-    requires { length bytes.now ≤ 16777216 }
-    
+/// The greatest length of a file, in bytes.
+pub const MAX_BYTES: u64 = 16_777_216;
+
+/// What was loaded of a file.
+#[derive(Debug, Drop)]
+pub enum Loaded {
+    /// Nothing, since the file has more than 16,777,216 bytes.
+    TooLong,
+    /// All of its bytes.
+    Bytes(Vec<u8>),
+}
+
+/// What a file is refused for that is too long.
+fn too_long(file: FileTag) -> ReadFault
+    ensures { result ≡ faults.Refused (refused_as_long file) }
 {
-    let file = match read_arch(alloc, bytes) {
-        Ok(file) => file,
-        Err(fault) => return Err(fault),
-    };
-    join(alloc, &Tgff::none(alloc), &file)
+    ReadFault::Refused(Refusal {
+        file,
+        line: 0,
+        why: Why::Limit(What::FileBytes),
+    })
+}
+
+/// The bytes of a file that isn't too long.
+fn short_bytes(loaded: &Loaded, file: FileTag) -> Result<&[u8], ReadFault>
+    ensures short { IfOk result (λ bytes. length bytes.now ≤ 16777216) }
+    ensures whole { IfOk result (λ bytes. (content : List ℕ) → IsLoaded loaded.entry.now content → content ≡ bytes.now) }
+    ensures long { OnErr result ((content : List ℕ) → IsLoaded loaded.entry.now content → 16777216 < length content) }
+    ensures refused { IfErr result (λ fault. fault ≡ faults.Refused (refused_as_long file)) }
+{
+    match loaded {
+        Loaded::TooLong => Err(too_long(file)),
+        Loaded::Bytes(bytes) => {
+            if bytes.len() as u64 > MAX_BYTES {
+                return Err(too_long(file));
+            }
+            Ok(bytes.as_slice())
+        }
+    }
+}
+
+/// The graphs and tables of a file.
+fn read_named(alloc: Global, loaded: &Loaded) -> Result<Tgff, ReadFault>
+    ensures { (bytes : List ℕ) → IsLoaded loaded.now bytes → ReadsTgff (Some bytes) result }
+{
+    let bytes = short_bytes(loaded, FileTag::Tgff)?;
+    read_tgff(alloc, bytes)
+}
+
+/// The graphs and tables of a file, if one is named.
+fn read_graphs(alloc: Global, loaded: &Option<Loaded>) -> Result<Tgff, ReadFault>
+    ensures { (named : Option (List ℕ)) → IsLoadedIfNamed loaded.now named → ReadsTgff named result }
+{
+    match loaded {
+        Some(loaded) => read_named(alloc, loaded),
+        None => Ok(Tgff::none(alloc)),
+    }
+}
+
+/// The specification of an architecture file with graphs and tables.
+fn read_joined(alloc: Global, tgff: &Tgff, loaded: &Loaded) -> Result<Spec, ReadFault>
+    ensures { (bytes : List ℕ) → IsLoaded loaded.now bytes → ReadsArch tgff.now bytes result }
+{
+    let bytes = short_bytes(loaded, FileTag::Arch)?;
+    let file = read_arch(alloc, bytes)?;
+    join(alloc, tgff, &file)
+}
+
+/// Reads a file of task graphs and tables, if one is named, and an architecture file, and joins both to a
+/// specification.
+///
+/// The first file is refused where it has more than 16,777,216 bytes, at line 0, or else for the first of its rules
+/// that it breaks. Where it isn't refused, the architecture file is refused likewise, and where that isn't either, for
+/// the first that its statements break together with the graphs and tables.
+pub fn read_spec(alloc: Global, tgff: &Option<Loaded>, arch: &Loaded) -> Result<Spec, ReadFault>
+    ensures { (named : Option (List ℕ)) (bytes : List ℕ) → IsLoadedIfNamed tgff.now named → IsLoaded arch.now bytes → ReadsSpec named bytes result }
+{
+    let graphs = read_graphs(alloc, tgff)?;
+    read_joined(alloc, &graphs, arch)
 }
