@@ -10,3 +10,4 @@ pub mod Tying
 pub mod Weighing
 pub mod Fitting
 pub mod Breaking
+pub mod Lowest
