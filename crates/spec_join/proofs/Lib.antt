@@ -11,3 +11,6 @@ pub mod Weighing
 pub mod Fitting
 pub mod Breaking
 pub mod Lowest
+pub mod Refused
+pub mod Keys
+pub mod Setting
