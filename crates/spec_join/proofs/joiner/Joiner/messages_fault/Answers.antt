@@ -13,6 +13,6 @@ loop-m-preserved c =
 pub returns : goal.returns
 returns c =
     let s = c.args.self.now in
-    let all : c.len-m-end.result ≡ length s.message_kinds = c.len-m-end.ensures ∙ ap (λ (j : Joining). length j.message_kinds) c.self.view_is in
+    let all : c.len-m-end.result ≡ length s.message_kinds = omega (arith, ap (λ (j : Joining). length j.message_kinds) c.self.view_is) in
     let end : c.loop-m.m ≡ length s.message_kinds = omega arith in
     subst (λ (n : ℕ). IsLeastBelow (MessageBreaks s (table_at s.tables c.args.table) c.args.column c.args.rows) n c.loop-m.fault) end c.loop-m.invariant

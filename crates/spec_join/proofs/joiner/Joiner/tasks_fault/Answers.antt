@@ -13,6 +13,6 @@ loop-t-preserved c =
 pub returns : goal.returns
 returns c =
     let s = c.args.self.now in
-    let all : c.len-t-end.result ≡ length s.task_kinds = c.len-t-end.ensures ∙ ap (λ (j : Joining). length j.task_kinds) c.self.view_is in
+    let all : c.len-t-end.result ≡ length s.task_kinds = omega (arith, ap (λ (j : Joining). length j.task_kinds) c.self.view_is) in
     let end : c.loop-t.t ≡ length s.task_kinds = omega arith in
     subst (λ (n : ℕ). IsLeastBelow (TaskBreaks s (table_at s.tables c.args.table) c.args.keys.now) n c.loop-t.fault) end c.loop-t.invariant
