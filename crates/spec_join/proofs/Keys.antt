@@ -1,6 +1,6 @@
 -- The column of a key, found by a search from the front.
-use Rattle.std.proofs.Common.{◌≡◌, ℕ, ◌+◌, ◌<◌, ◌≤◌, true, false, List, length, get_or, take, Option, Some, None, ap, sym, subst, ◌∙◌, arith, All}
-use Rattle.std.specs.Prelude.{find, option_map}
+use Rattle.std.proofs.Common.{◌≡◌, ℕ, ◌<◌, ◌≤◌, true, false, List, length, get_or, take, Some, None, ap, sym, subst, ◌∙◌, arith, All}
+use Rattle.std.specs.Prelude.{option_map}
 use Rattle.std.proofs.lemmas.List.{get_or-take, length-take-le, take_all}
 use Rattle.spec_model.specs.Spec.{Name}
 use Rattle.arch_reader.specs.Tests.{has_key, column_key}

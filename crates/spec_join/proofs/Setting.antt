@@ -1,7 +1,6 @@
 -- The quantities that a `quantity table` line sets, message by message.
-use Rattle.std.proofs.Common.{◌≡◌, ℕ, suc, ◌+◌, ◌<◌, List, length, Option, Some, None, sym, ap, subst, ◌∙◌, add-one}
+use Rattle.std.proofs.Common.{◌≡◌, ℕ, ◌+◌, ◌<◌, length, Option, Some, None, sym, ap, subst, ◌∙◌, add-one}
 use Rattle.line_words.specs.declared.refusals.Why.{Why}
-use Rattle.spec_model.specs.Spec.{SpecValue}
 use Rattle.tgff_reader.specs.Looking.{table_at}
 use Rattle.tgff_reader.specs.declared.file.Table.{Table}
 use Rattle.table_cells.specs.Least.{IsLeastOrNone}

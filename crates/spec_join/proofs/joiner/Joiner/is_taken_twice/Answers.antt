@@ -1,4 +1,4 @@
-use Rattle.std.proofs.Common.{◌≡◌, IsTrue, ◌↔◌, subst}
+use Rattle.std.proofs.Common.{IsTrue, ◌↔◌, subst}
 use Rattle.tgff_reader.specs.Looking.{table_at, row_at}
 use Rattle.spec_graph.specs.Refusals.{IsMapped}
 use Rattle.spec_join.specs.Joining.{Joining}

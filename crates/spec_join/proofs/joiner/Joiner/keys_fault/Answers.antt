@@ -1,4 +1,4 @@
-use Rattle.std.proofs.Common.{◌≡◌, arith}
+use Rattle.std.proofs.Common.{arith}
 use Rattle.tgff_reader.specs.Looking.{table_at, row_at}
 use Rattle.spec_join.specs.Tables.{KeyBreaks}
 use Rattle.spec_join.proofs.Lowest.{least_in_more, least_in_all}

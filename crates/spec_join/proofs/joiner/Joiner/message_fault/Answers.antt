@@ -1,4 +1,4 @@
-use Rattle.std.proofs.Common.{◌≡◌, Option, refl}
+use Rattle.std.proofs.Common.{refl}
 use Rattle.tgff_reader.specs.Looking.{table_at, row_at}
 use Rattle.table_cells.specs.Cells.{cell_of}
 use Rattle.spec_join.specs.Quantities.{message_row, quantity_taking, QuantityBreaks}

@@ -1,4 +1,4 @@
-use Rattle.std.proofs.Common.{◌≡◌, ℕ, List, length, Option, subst, sym, ap, ◌∙◌, arith}
+use Rattle.std.proofs.Common.{◌≡◌, ℕ, length, subst, ap, arith}
 use Rattle.tgff_reader.specs.Looking.{table_at}
 use Rattle.spec_join.specs.Joining.{Joining}
 use Rattle.spec_join.specs.Quantities.{MessageBreaks}

@@ -1,7 +1,6 @@
-use Rattle.std.proofs.Common.{◌≡◌, List, ℕ, ap, sym, ◌∙◌}
+use Rattle.std.proofs.Common.{◌≡◌, ap, ◌∙◌}
 use Rattle.tgff_reader.specs.Looking.{table_at}
 use Rattle.table_cells.specs.Rows.{first_cell_of}
-use Rattle.table_cells.specs.declared.cells.Taking.{Taking}
 use Rattle.spec_join.specs.Joining.{Joining}
 use Rattle.spec_join.specs.Tables.{weight_taking}
 use Rattle.spec_join.proofs.Refused.{least_of_cell}

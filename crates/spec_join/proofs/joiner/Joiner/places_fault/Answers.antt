@@ -1,4 +1,4 @@
-use Rattle.std.proofs.Common.{◌≡◌, sym, subst, arith}
+use Rattle.std.proofs.Common.{sym, subst, arith}
 use Rattle.tgff_reader.specs.Looking.{table_at}
 use Rattle.spec_join.specs.Fits.{IsKnownPlace}
 use Rattle.spec_join.specs.Tables.{PlaceBreaks}

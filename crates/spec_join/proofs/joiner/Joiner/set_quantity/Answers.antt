@@ -1,4 +1,4 @@
-use Rattle.std.proofs.Common.{◌≡◌, ◌≤◌, ◌^◌, sym, subst, ℕ}
+use Rattle.std.proofs.Common.{◌≤◌, ◌^◌, sym, subst, ℕ}
 use Rattle.tgff_reader.specs.Looking.{table_at, row_at}
 use Rattle.spec_join.specs.Quantities.{message_row}
 use Rattle.spec_join.proofs.Refused.{small_quantity}
