@@ -12,7 +12,9 @@ use Rattle.spec_model.specs.Spec.{Name}
 use Rattle.line_words.specs.Text.{is_word_byte}
 use Rattle.arch_reader.specs.Words.{IsWord}
 use Rattle.arch_reader.specs.Numbers.{at_scale}
-use Rattle.arch_reader.specs.Seen.{scale_or_0, seen, objectives_in}
+use Rattle.std.specs.Option.{option_or}
+use Rattle.arch_reader.specs.Seen.{scale_or_0, seen, objectives_in, clock_in, after as seen_after}
+use Rattle.tgff_reader.specs.Facts.{TgffValue}
 use Rattle.arch_reader.specs.Tests.{objective_called, is_declared, is_above, weights_of}
 use Rattle.arch_reader.specs.Arch.{AllPass, Passes, statement_of, statements_in}
 use Rattle.arch_reader.specs.declared.statement.ArchLine.{ArchLine}
@@ -21,11 +23,11 @@ use Rattle.arch_reader.specs.declared.seen.Objective.{Objective as Declared}
 use Rattle.arch_reader.specs.declared.seen.Seen.{Seen}
 use Rattle.arch_reader.specs.declared.statement.Statement.{Statement}
 use Rattle.arch_reader.specs.declared.statement.Statement.TheVariants.{Objective, Clock, Resource, Link, Traffic, Task, Message, Merge, Map, Table, Quantity, QuantityTable, Hops, Delay, Deadline}
-use Rattle.spec_join.specs.Joining.{Joining, start, declared, plan_with, objective_name, objective_scale, time_at, time_or_0}
+use Rattle.spec_join.specs.Joining.{Joining, SettingsValue, settings_of, with_declared, plan_with, objective_name, objective_scale, objective_floor, time_at, time_or_0}
 use Rattle.spec_join.specs.Reading.{after}
 use Rattle.spec_join.specs.Fits.{IsFit, IsDeclarable, AreWeighable}
 use Rattle.spec_join.proofs.Tying.{IsTied, tied}
-use Rattle.spec_join.proofs.Weighing.{weighable, declared_of, not_declared, not_above}
+use Rattle.spec_join.proofs.Weighing.{weighable, known_keys, known_places, declared_of, not_declared, not_above}
 
 left_false : (a b : Bool) → (a || b) ≡ false → a ≡ false
 left_false true b h = h
@@ -119,7 +121,11 @@ fits before s (Delay message amount) t p = timed (seen before) s amount t.clock 
 fits before s (Deadline task at) t p = timed (seen before) s at t.clock p.time_is_small
 fits before s (Objective name scale floor) t p = tt
 fits before s (Clock scale floor) t p = tt
-fits before s (Table name index resource keys weights_at) t p = tt
+fits before s (Table name index resource keys weights_at) t p = record {
+  there = there (seen before).resources s.plan.resources resource t.resources p.resources_are_known;
+  keys_known = known_keys (seen before).objectives t.later s.plan.objectives keys t.objectives p.keys_are_known;
+  places_known = known_places (seen before).objectives t.later s.plan.objectives weights_at t.objectives p.places_are_known;
+}
 fits before s (QuantityTable name index column rows) t p = tt
 fits before s (Hops message limit) t p = tt
 
@@ -134,7 +140,7 @@ unknown_apart [] name h c = omega (arith, c.1)
 unknown_apart (o ∷ os) name h c = apart_by o os name (unknown_apart os name) (bytes_eq o.name name) refl h c
 
 -- a statement of a file declares an objective where those before it are declared
-pub declarable : (before : List Statement) (st : Statement) → Passes before st → IsDeclarable (start (seen before).objectives) st
+pub declarable : (before : List Statement) (st : Statement) → Passes before st → IsDeclarable (settings_of (seen before)) st
 declarable before (Objective name scale floor) p = record {
   named = named_of name p.name_is_word;
   new = unknown_apart (seen before).objectives name (not_false (is_none (objective_called (seen before).objectives name)) p.name_is_new);
@@ -159,35 +165,39 @@ declarable before (Delay message amount) p = tt
 declarable before (Deadline task at) p = tt
 
 -- the statement at a place fits what those before it made
-pub fits_at : (ls : List ArchLine) (k : ℕ) (l : ArchLine) (s : Joining) → AllPass [] ls → k < length ls → l ≡ get_or ls k l → s ≡ after (statements_in ls) k → IsFit s l.statement
-fits_at ls k l s a lt e es =
+pub fits_at : (tgff : TgffValue) (ls : List ArchLine) (k : ℕ) (l : ArchLine) (s : Joining) → AllPass [] ls → k < length ls → l ≡ get_or ls k l → s ≡ after tgff (statements_in ls) k → IsFit s l.statement
+fits_at tgff ls k l s a lt e es =
     let sts = statements_in ls in
     let before = before_place ls k in
-    let t : IsTied (seen before) (after sts k) = subst (λ (b : List Statement). IsTied (seen b) (after sts k)) (take-map statement_of k ls) (tied sts k) in
+    let t : IsTied (seen before) (after tgff sts k) = subst (λ (b : List Statement). IsTied (seen b) (after tgff sts k)) (take-map statement_of k ls) (tied tgff sts k) in
     let p : Passes before l.statement = subst (λ (x : ArchLine). Passes before x.statement) (sym e) (passes_at ls k l a lt) in
-    subst (λ (x : Joining). IsFit x l.statement) (sym es) (fits before (after sts k) l.statement t p)
+    subst (λ (x : Joining). IsFit x l.statement) (sym es) (fits before (after tgff sts k) l.statement t p)
 
 -- the statement at a place declares an objective where those before it are declared
-pub declarable_at : (ls : List ArchLine) (k : ℕ) (l : ArchLine) (s : Joining) → AllPass [] ls → k < length ls → l ≡ get_or ls k l → s ≡ start (seen (before_place ls k)).objectives → IsDeclarable s l.statement
+pub declarable_at : (ls : List ArchLine) (k : ℕ) (l : ArchLine) (s : SettingsValue) → AllPass [] ls → k < length ls → l ≡ get_or ls k l → s ≡ settings_of (seen (before_place ls k)) → IsDeclarable s l.statement
 declarable_at ls k l s a lt e es =
     let before = before_place ls k in
     let p : Passes before l.statement = subst (λ (x : ArchLine). Passes before x.statement) (sym e) (passes_at ls k l a lt) in
-    subst (λ (x : Joining). IsDeclarable x l.statement) (sym es) (declarable before l.statement p)
+    subst (λ (x : SettingsValue). IsDeclarable x l.statement) (sym es) (declarable before l.statement p)
 
-abbrev started : List Name → List ℕ → Joining
-started names scales = record { plan = plan_with names; scales = scales; clock = None; hops = 2 ^ 63 - 1; delay = 0 }
+abbrev set_with : List Name → List ℕ → List Bool → Option ℕ → SettingsValue
+set_with names scales floors clock = record { plan = plan_with names; scales = scales; floors = floors; clock = clock }
 
--- more objectives behind others
-more_declared : (os new : List Declared) → declared (start os) new ≡ start (os ++ new)
-more_declared os new =
-    ap (λ (ns : List Name). started ns (map objective_scale os ++ map objective_scale new)) (sym (map-append objective_name os new))
-    ∙ ap (λ (cs : List ℕ). started (map objective_name (os ++ new)) cs) (sym (map-append objective_scale os new))
+-- what one more statement says, behind what was seen
+more_declared : (s : Seen) (st : Statement) → with_declared (settings_of s) st ≡ settings_of (seen_after s st)
+more_declared s st =
+    let os = s.objectives in
+    let new = objectives_in st in
+    let clock = option_or s.clock (clock_in st) in
+    ap (λ (ns : List Name). set_with ns (map objective_scale os ++ map objective_scale new) (map objective_floor os ++ map objective_floor new) clock) (sym (map-append objective_name os new))
+    ∙ ap (λ (cs : List ℕ). set_with (map objective_name (os ++ new)) cs (map objective_floor os ++ map objective_floor new) clock) (sym (map-append objective_scale os new))
+    ∙ ap (λ (fs : List Bool). set_with (map objective_name (os ++ new)) (map objective_scale (os ++ new)) fs clock) (sym (map-append objective_floor os new))
 
-pub declared_at : (ls : List ArchLine) (k : ℕ) (l : ArchLine) (old new : Joining) → k < length ls → l ≡ get_or ls k l → old ≡ start (seen (before_place ls k)).objectives → new ≡ declared old (objectives_in l.statement) → new ≡ start (seen (before_place ls (k + 1))).objectives
+pub declared_at : (ls : List ArchLine) (k : ℕ) (l : ArchLine) (old new : SettingsValue) → k < length ls → l ≡ get_or ls k l → old ≡ settings_of (seen (before_place ls k)) → new ≡ with_declared old l.statement → new ≡ settings_of (seen (before_place ls (k + 1)))
 declared_at ls k l old new lt e eo en =
-    let os = (seen (before_place ls k)).objectives in
+    let s = seen (before_place ls k) in
     en
-    ∙ ap (λ (s : Joining). declared s (objectives_in l.statement)) eo
-    ∙ more_declared os (objectives_in l.statement)
-    ∙ ap (λ (x : ArchLine). start (os ++ objectives_in x.statement)) e
-    ∙ ap (λ (x : Seen). start x.objectives) (sym (seen_at-more ls k l lt))
+    ∙ ap (λ (x : SettingsValue). with_declared x l.statement) eo
+    ∙ more_declared s l.statement
+    ∙ ap (λ (x : ArchLine). settings_of (seen_after s x.statement)) e
+    ∙ ap settings_of (sym (seen_at-more ls k l lt))

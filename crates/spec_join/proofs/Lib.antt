@@ -6,11 +6,14 @@ pub mod Sending
 pub mod Senders
 pub mod Merges
 pub mod Ending
+pub mod Front
 pub mod Tying
 pub mod Weighing
 pub mod Fitting
 pub mod Breaking
 pub mod Lowest
-pub mod Refused
+pub mod TableLines
 pub mod Keys
-pub mod Setting
+pub mod QuantityLines
+pub mod MessageKinds
+pub mod Making

@@ -5,6 +5,7 @@ use Rattle.spec_graph.specs.Plan.{finished}
 use Rattle.arch_reader.specs.declared.statement.KeyAmount.{KeyAmount}
 use Rattle.arch_reader.specs.declared.statement.Statement.{Statement}
 use Rattle.arch_reader.specs.declared.statement.Statement.TheVariants.{Objective, Resource, Link, Traffic, Task, Message, Merge, Map, Quantity, Hops, Delay, Deadline}
+use Rattle.tgff_reader.specs.Facts.{TgffValue}
 use Rattle.spec_join.specs.Reading.{after}
 
 -- `KEY=N`, a whole number of units
@@ -34,6 +35,9 @@ file = Objective (codes "cost") (Some 1) false
     ∷ Merge (codes "bus") (codes "e" ∷ codes "f" ∷ [])
     ∷ []
 
+abbrev no_graphs : TgffValue
+no_graphs = record { graphs = []; tables = [] }
+
 abbrev plan : SpecValue
 plan = record {
   tasks = codes "x" ∷ codes "y" ∷ codes "z" ∷ [];
@@ -53,9 +57,9 @@ plan = record {
   traffic_weights = (10 ∷ 7 ∷ []) ∷ [];
 }
 
-states : (after file 20).plan ≡ plan
+states : (after no_graphs file 20).plan ≡ plan
 states = refl
 
 -- each hop limit is cut to one less than the number of resources
-cut : (finished (after file 20).plan).messages ≡ record { sender = 1; receivers = 2 ∷ []; limit = 1; delay = 0; quantity = 1 } ∷ record { sender = 0; receivers = 1 ∷ 2 ∷ []; limit = 1; delay = 6; quantity = 5 } ∷ []
+cut : (finished (after no_graphs file 20).plan).messages ≡ record { sender = 1; receivers = 2 ∷ []; limit = 1; delay = 0; quantity = 1 } ∷ record { sender = 0; receivers = 1 ∷ 2 ∷ []; limit = 1; delay = 6; quantity = 5 } ∷ []
 cut = refl

@@ -5,14 +5,21 @@ use Rattle.std.specs.Option.{option_or}
 use Rattle.std.proofs.lemmas.List.{append-nil, take-append-drop}
 use Rattle.std.proofs.lemmas.Grind.{flat_map-append}
 use Rattle.spec_model.specs.Spec.{Name}
-use Rattle.arch_reader.specs.Seen.{objectives_in, resources_in, links_in, clock_in, clock_of, seen}
+use Rattle.arch_reader.specs.declared.statement.KeyColumn.{KeyColumn}
+use Rattle.tgff_reader.specs.Facts.{TgffValue}
+use Rattle.tgff_reader.specs.declared.file.Table.{Table as TgffTable}
+use Rattle.table_cells.specs.Rows.{table_called}
+use Rattle.arch_reader.specs.Seen.{scale_or_0, objectives_in, resources_in, links_in, clock_in, clock_of, seen}
 use Rattle.arch_reader.specs.declared.seen.Objective.{Objective as Declared}
 use Rattle.arch_reader.specs.declared.seen.Seen.{Seen}
 use Rattle.arch_reader.specs.declared.statement.Statement.{Statement}
 use Rattle.arch_reader.specs.declared.statement.Statement.TheVariants.{Objective, Clock, Resource, Link, Traffic, Task, Message, Merge, Map, Table, Quantity, QuantityTable, Hops, Delay, Deadline}
-use Rattle.spec_join.specs.Joining.{Joining, start, objective_name, objective_scale}
-use Rattle.spec_join.specs.Effects.{effect}
+use Rattle.spec_join.specs.Joining.{Joining, start, plan_with, objective_name, objective_scale}
+use Rattle.spec_join.specs.Tables.{with_table}
+use Rattle.spec_join.specs.Quantities.{with_quantity_table}
+use Rattle.spec_join.specs.Effects.{effect, with_plan}
 use Rattle.spec_join.specs.Reading.{after}
+use Rattle.spec_join.proofs.Front.{graphs_keep}
 
 -- what a statement makes has what it declares, and the objectives as they were
 pub record Keeps (s t : Joining) (st : Statement) : Type 0 where
@@ -41,6 +48,15 @@ silent s t st o c r l k er el ek = record {
   clock = k ∙ sym (or_none s.clock) ∙ ap (option_or s.clock) (sym ek);
 }
 
+-- a table line declares nothing
+table_keeps : (s : Joining) (t : Option TgffTable) (name : Name) (index : ℕ) (resource : Name) (keys places : List KeyColumn) → Keeps s (with_plan s (with_table s t resource keys places)) (Table name index resource keys places)
+table_keeps s None name index resource keys places = silent s _ (Table name index resource keys places) refl refl refl refl refl refl refl refl
+table_keeps s (Some t) name index resource keys places = silent s _ (Table name index resource keys places) refl refl refl refl refl refl refl refl
+
+quantities_keep : (s : Joining) (t : Option TgffTable) (name : Name) (index column : ℕ) (rows : Option ℕ) → Keeps s (with_plan s (with_quantity_table s t column rows)) (QuantityTable name index column rows)
+quantities_keep s None name index column rows = silent s _ (QuantityTable name index column rows) refl refl refl refl refl refl refl refl
+quantities_keep s (Some t) name index column rows = silent s _ (QuantityTable name index column rows) refl refl refl refl refl refl refl refl
+
 pub keeps : (s : Joining) (st : Statement) → Keeps s (effect s st) st
 keeps s (Objective name scale floor) = silent s _ (Objective name scale floor) refl refl refl refl refl refl refl refl
 keeps s (Clock scale floor) = record { objectives = refl; scales = refl; resources = sym (append-nil s.plan.resources); links = sym (append-nil s.plan.links); clock = refl }
@@ -51,9 +67,9 @@ keeps s (Task name) = silent s _ (Task name) refl refl refl refl refl refl refl 
 keeps s (Message name sender receivers) = silent s _ (Message name sender receivers) refl refl refl refl refl refl refl refl
 keeps s (Merge name messages) = silent s _ (Merge name messages) refl refl refl refl refl refl refl refl
 keeps s (Map task resource time weights) = silent s _ (Map task resource time weights) refl refl refl refl refl refl refl refl
-keeps s (Table name index resource keys weights_at) = silent s _ (Table name index resource keys weights_at) refl refl refl refl refl refl refl refl
+keeps s (Table name index resource keys weights_at) = table_keeps s (table_called s.tables name index) name index resource keys weights_at
 keeps s (Quantity message amount) = silent s _ (Quantity message amount) refl refl refl refl refl refl refl refl
-keeps s (QuantityTable name index column rows) = silent s _ (QuantityTable name index column rows) refl refl refl refl refl refl refl refl
+keeps s (QuantityTable name index column rows) = quantities_keep s (table_called s.tables name index) name index column rows
 keeps s (Hops None limit) = silent s _ (Hops None limit) refl refl refl refl refl refl refl refl
 keeps s (Hops (Some message) limit) = silent s _ (Hops (Some message) limit) refl refl refl refl refl refl refl refl
 keeps s (Delay None amount) = silent s _ (Delay None amount) refl refl refl refl refl refl refl refl
@@ -93,14 +109,15 @@ pub record IsTied (was : Seen) (s : Joining) : Type 0 where
 halves : (sts : List Statement) (k : ℕ) → (seen sts).objectives ≡ (seen (take k sts)).objectives ++ (seen (drop k sts)).objectives
 halves sts k = ap (flat_map objectives_in) (sym (take-append-drop k sts)) ∙ flat_map-append objectives_in (take k sts) (drop k sts)
 
-pub tied : (sts : List Statement) (k : ℕ) → IsTied (seen (take k sts)) (after sts k)
-tied sts k =
-    let r = keeps_all (start (seen sts).objectives) (take k sts) in
+pub tied : (tgff : TgffValue) (sts : List Statement) (k : ℕ) → IsTied (seen (take k sts)) (after tgff sts k)
+tied tgff sts k =
+    let r = keeps_all (start tgff (seen sts)) (take k sts) in
+    let g = graphs_keep (scale_or_0 (seen sts).clock) (plan_with (map objective_name (seen sts).objectives)) tgff.graphs in
     record {
       later = (seen (drop k sts)).objectives;
-      objectives = r.objectives ∙ ap (map objective_name) (halves sts k);
+      objectives = r.objectives ∙ g.objectives ∙ ap (map objective_name) (halves sts k);
       scales = r.scales ∙ ap (map objective_scale) (halves sts k);
-      resources = r.resources;
-      links = r.links;
+      resources = r.resources ∙ ap (λ (ns : List Name). ns ++ flat_map resources_in (take k sts)) g.resources;
+      links = r.links ∙ ap (λ (ns : List Name). ns ++ flat_map links_in (take k sts)) g.links;
       clock = r.clock;
     }

@@ -1,6 +1,8 @@
 -- Words whose weights the reader of the file tested.
 use Rattle.std.proofs.Common.{◌≡◌, ℕ, ℤ, suc, ◌+◌, ◌≤◌, ◌^◌, Bool, true, false, cond, not, List, [], ◌∷◌, ◌++◌, get_or, map, Some, refl, sym, ap, subst, ◌∙◌, arith, All, Contains}
-use Rattle.std.specs.Prelude.{is_none}
+use Rattle.std.specs.Prelude.{is_none, ◌&&◌}
+use Rattle.std.proofs.lemmas.List.{map-append}
+use Rattle.std.proofs.lemmas.List.Elements.{Contains-append_left}
 use Rattle.std.specs.List.{list_any}
 use Rattle.std.specs.Option.{option_map_or}
 use Rattle.std.specs.Str.{bytes_eq}
@@ -10,11 +12,13 @@ use Rattle.std.proofs.lemmas.List.Folds.{list_any_at, Any-from_list_any}
 use Rattle.names.specs.Names.{number_of}
 use Rattle.spec_model.specs.Spec.{Name}
 use Rattle.arch_reader.specs.Numbers.{at_scale, greatest}
-use Rattle.arch_reader.specs.Tests.{objective_called, is_unknown_weight, is_big_weight, is_above_for, is_above, is_declared}
+use Rattle.arch_reader.specs.Tests.{objective_called, is_unknown_weight, is_big_weight, is_above_for, is_above, is_declared, is_unknown, is_unknown_key, is_unknown_place}
 use Rattle.arch_reader.specs.declared.seen.Objective.{Objective as Declared}
+use Rattle.arch_reader.specs.Words.{is_table_key}
 use Rattle.arch_reader.specs.declared.statement.KeyAmount.{KeyAmount}
+use Rattle.arch_reader.specs.declared.statement.KeyColumn.{KeyColumn}
 use Rattle.spec_join.specs.Joining.{objective_name, objective_scale}
-use Rattle.spec_join.specs.Fits.{IsWeighable}
+use Rattle.spec_join.specs.Fits.{IsWeighable, IsKnownKey, IsKnownPlace}
 
 -- where no element passes, each fails
 pub any_false : {X : Type 0} (p : X → Bool) (xs : List X) → list_any p xs ≡ false → All (λ x. p x ≡ false) xs
@@ -83,3 +87,31 @@ weighable os later names scales ws en es u b = λ k d l. one (get_or ws k d) (an
     one w x y =
         let f = found os later w.key w.amount x y in
         subst (λ (ns : List Name). IsWeighable ns scales w) (sym en) (subst (λ (cs : List ℕ). IsWeighable (map objective_name (os ++ later)) cs w) (sym es) (record { known = f.known; small = f.small }))
+
+-- ---- the keys of a table line
+
+known_in : (os : List Declared) (key : Name) → is_unknown os key ≡ false → Contains (map objective_name os) key
+known_in [] key h = absurd (false≢true (sym h))
+known_in (o ∷ os) key h = known_by o os key (known_in os key) (bytes_eq o.name key) refl h
+  where
+    known_by : (o : Declared) (os : List Declared) (key : Name) → (is_unknown os key ≡ false → Contains (map objective_name os) key) → (b : Bool) → bytes_eq o.name key ≡ b → is_unknown (o ∷ os) key ≡ false → Contains (map objective_name (o ∷ os)) key
+    known_by o os key ih true e u = (0, omega arith, (bytes_eq-Decides o.name key).0 e)
+    known_by o os key ih false e u =
+        let c = ih (ap (λ (b : Bool). is_none (cond b (Some o) (objective_called os key))) (sym e) ∙ u) in
+        (suc c.0, omega (arith, c.1), c.2)
+
+-- a name that is no objective's so far may be one later, but one that is stays so
+known_later : (os later : List Declared) (names : List Name) (key : Name) → names ≡ map objective_name (os ++ later) → is_unknown os key ≡ false → Contains names key
+known_later os later names key e h =
+    let c = known_in os key h in
+    subst (λ (ns : List Name). Contains ns key) (sym (e ∙ map-append objective_name os later)) (Contains-append_left (map objective_name os) (map objective_name later) key c)
+
+not_both : (a b : Bool) → (not a && b) ≡ false → a ≡ false → b ≡ false
+not_both true b h e = absurd (false≢true (sym e))
+not_both false b h e = h
+
+pub known_keys : (os later : List Declared) (names : List Name) (keys : List KeyColumn) → names ≡ map objective_name (os ++ later) → list_any (is_unknown_key os) keys ≡ false → All (IsKnownKey names) keys
+known_keys os later names keys e h = λ k d l t. known_later os later names (get_or keys k d).key e (not_both (is_table_key (get_or keys k d).key) (is_unknown os (get_or keys k d).key) (any_false (is_unknown_key os) keys h k d l) t)
+
+pub known_places : (os later : List Declared) (names : List Name) (places : List KeyColumn) → names ≡ map objective_name (os ++ later) → list_any (is_unknown_place os) places ≡ false → All (IsKnownPlace names) places
+known_places os later names places e h = λ k d l. known_later os later names (get_or places k d).key e (any_false (is_unknown_place os) places h k d l)

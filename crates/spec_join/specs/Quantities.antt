@@ -32,7 +32,7 @@ with_quantity column m None messages = messages
 with_quantity column m (Some row) messages = with_changed messages m (changes.Quantity (at_scale 0 (amount_in (cell_of row column))))
 
 -- the messages, of which the first ones have the quantities of their rows
-pub with_quantities : Joining → Table → ℕ → Option ℕ → ℕ → List Message
+abbrev pub with_quantities : Joining → Table → ℕ → Option ℕ → ℕ → List Message
 with_quantities s table column rows zero = s.plan.messages
 with_quantities s table column rows (suc m) = with_quantity column m (message_row s table rows m) (with_quantities s table column rows m)
 

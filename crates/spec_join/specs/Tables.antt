@@ -100,12 +100,12 @@ one_of f None = []
 one_of f (Some row) = f row ∷ []
 
 -- the options of the first tasks of the graphs
-pub made_choices : Joining → Table → Name → List KeyColumn → ℕ → List Choice
+abbrev pub made_choices : Joining → Table → Name → List KeyColumn → ℕ → List Choice
 made_choices s table resource keys zero = []
 made_choices s table resource keys (suc t) = made_choices s table resource keys t ++ one_of (choice_from s resource keys t) (chosen_row s table keys t)
 
 -- and their weights
-pub made_weights : Joining → Table → List KeyColumn → ℕ → List (List ℕ)
+abbrev pub made_weights : Joining → Table → List KeyColumn → ℕ → List (List ℕ)
 made_weights s table keys zero = []
 made_weights s table keys (suc t) = made_weights s table keys t ++ one_of (weights_from s keys) (chosen_row s table keys t)
 

@@ -35,9 +35,9 @@ fn carry_all<'a>(alloc: Global, tgff: &'a Tgff, lines: &[ArchLine]) -> Result<Jo
 /// The specification that the plan becomes.
 #[tactic(auto, using(crate::proofs::Ending::end_refused, crate::proofs::Ending::end_accepted))]
 fn finish(joiner: Joiner<'_>) -> Result<Spec, Stop>
-    ensures finished { IfOk result (λ spec. spec ≡ finished joiner.plan) }
-    ensures accepted { OnOk result (AcceptsEnd joiner.plan) }
-    ensures refused { IfErr result (RefusesEnd joiner.plan) }
+    ensures finished { IfOk result (λ spec. spec ≡ finished joiner.entry.plan) }
+    ensures accepted { OnOk result (AcceptsEnd joiner.entry.plan) }
+    ensures refused { IfErr result (RefusesEnd joiner.entry.plan) }
 {
     match joiner.plan.finish() {
         Ok(spec) => Ok(spec),

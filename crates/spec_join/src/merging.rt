@@ -1,6 +1,7 @@
 //! Carries out the statements that merge messages.
 
-ghost use Rattle.std.specs.Prelude.{◌≡◌, ◌<◌, ◌↔◌, IsTrue, length, map, All, Contains, IfOk, OnOk, IfErr};
+ghost use Rattle.std.specs.Prelude.{◌≡◌, ◌==◌, ◌<◌, ◌↔◌, IsTrue, length, map, All, Contains, IfOk, OnOk, IfErr};
+ghost use Rattle.std.specs.List.{list_any};
 ghost use Rattle.names.specs.Names.{number_of};
 ghost use Rattle.spec_graph.specs.Lists.{message_number};
 ghost use Rattle.spec_graph.specs.Merged.{is_unlisted};
@@ -17,16 +18,18 @@ use line_words::{Stop, Why};
 use spec_graph::{MsgNo, TaskNo};
 use std::alloc::AllocError;
 
+/// Whether one of the numbers listed is that of message m.
+fn is_listed(listed: &[MsgNo], m: usize) -> bool
+    ensures { result ≡ list_any (λ message. message.0 == m) listed.now }
+{
+    listed.iter().any(|message| message.0 as usize == m)
+}
+
 /// Whether none of the numbers listed is that of message m.
 fn is_unlisted(listed: &[MsgNo], m: usize) -> bool
     ensures { result ≡ is_unlisted (map message_number listed.now) m }
 {
-    for message in listed {
-        if message.0 as usize == m {
-            return false;
-        }
-    }
-    true
+    !is_listed(listed, m)
 }
 
 impl Joiner<'_> {

@@ -5,6 +5,6 @@ use Rattle.spec_join.proofs.joining.carry_all.Given as goal
 
 abbrev pub invariant-loop-line : goal.invariant-loop-line
 invariant-loop-line l = record {
-  made : l.joiner ≡ after (statements_in l.lines) l.line-index;
-  none : NoneBreaks (statements_in l.lines) l.line-index;
+  made : l.joiner ≡ after l.tgff (statements_in l.lines) l.line-index;
+  none : NoneBreaks l.tgff (statements_in l.lines) l.line-index;
 }

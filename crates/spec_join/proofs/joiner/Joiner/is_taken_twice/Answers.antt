@@ -3,7 +3,7 @@ use Rattle.tgff_reader.specs.Looking.{table_at, row_at}
 use Rattle.spec_graph.specs.Refusals.{IsMapped}
 use Rattle.spec_join.specs.Joining.{Joining}
 use Rattle.spec_join.specs.Tables.{chosen_row}
-use Rattle.spec_join.proofs.Refused.{taken_of}
+use Rattle.spec_join.proofs.TableLines.{taken_of}
 use Rattle.spec_join.proofs.joiner.Joiner.is_taken_twice.Goals as goal
 
 pub returns-in-Some : goal.returns-in-Some

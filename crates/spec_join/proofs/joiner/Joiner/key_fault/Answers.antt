@@ -3,7 +3,7 @@ use Rattle.arch_reader.specs.Words.{is_table_key}
 use Rattle.tgff_reader.specs.Looking.{table_at, row_at}
 use Rattle.table_cells.specs.Cells.{cell_of}
 use Rattle.spec_join.specs.Tables.{weight_taking}
-use Rattle.spec_join.proofs.Refused.{least_of_cell, least_of_key}
+use Rattle.spec_join.proofs.TableLines.{least_of_cell, least_of_key}
 use Rattle.spec_join.proofs.joiner.Joiner.key_fault.Goals as goal
 
 pub returns : goal.returns

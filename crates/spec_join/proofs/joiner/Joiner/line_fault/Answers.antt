@@ -1,5 +1,5 @@
 use Rattle.tgff_reader.specs.Looking.{table_at}
-use Rattle.spec_join.proofs.Refused.{least_of_line}
+use Rattle.spec_join.proofs.TableLines.{least_of_line}
 use Rattle.spec_join.proofs.joiner.Joiner.line_fault.Goals as goal
 
 pub returns : goal.returns

@@ -1,5 +1,5 @@
 use Rattle.tgff_reader.specs.Looking.{table_at, row_at}
-use Rattle.spec_join.proofs.Refused.{least_of_mark}
+use Rattle.spec_join.proofs.TableLines.{least_of_mark}
 use Rattle.spec_join.proofs.joiner.Joiner.mark_column_fault.Goals as goal
 
 pub returns-in-Some : goal.returns-in-Some

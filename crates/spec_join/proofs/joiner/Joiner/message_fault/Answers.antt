@@ -3,7 +3,7 @@ use Rattle.tgff_reader.specs.Looking.{table_at, row_at}
 use Rattle.table_cells.specs.Cells.{cell_of}
 use Rattle.spec_join.specs.Quantities.{message_row, quantity_taking, QuantityBreaks}
 use Rattle.spec_join.proofs.Lowest.{least_of_row}
-use Rattle.spec_join.proofs.Refused.{least_of_cell}
+use Rattle.spec_join.proofs.TableLines.{least_of_cell}
 use Rattle.spec_join.proofs.joiner.Joiner.message_fault.Goals as goal
 
 pub returns-in-Some : goal.returns-in-Some

@@ -3,7 +3,7 @@ use Rattle.tgff_reader.specs.Looking.{table_at}
 use Rattle.table_cells.specs.Rows.{first_cell_of}
 use Rattle.spec_join.specs.Joining.{Joining}
 use Rattle.spec_join.specs.Tables.{weight_taking}
-use Rattle.spec_join.proofs.Refused.{least_of_cell}
+use Rattle.spec_join.proofs.TableLines.{least_of_cell}
 use Rattle.spec_join.proofs.joiner.Joiner.place_fault.Goals as goal
 
 pub returns : goal.returns

@@ -2,7 +2,7 @@ use Rattle.std.proofs.Common.{◌≡◌, Some, subst}
 use Rattle.tgff_reader.specs.Looking.{table_at}
 use Rattle.table_cells.specs.Rows.{table_called}
 use Rattle.spec_join.specs.Joining.{Joining}
-use Rattle.spec_join.proofs.Setting.{accepted_by}
+use Rattle.spec_join.proofs.QuantityLines.{accepted_by}
 use Rattle.spec_join.proofs.joiner.Joiner.quantity_table.Goals as goal
 
 pub returns-clause-accepted : goal.returns-clause-accepted

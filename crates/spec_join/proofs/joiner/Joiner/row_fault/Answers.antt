@@ -1,7 +1,7 @@
 use Rattle.std.proofs.Common.{◌≡◌, true, sym, ◌∙◌}
 use Rattle.tgff_reader.specs.Looking.{table_at, row_at}
 use Rattle.spec_join.specs.Tables.{does_count}
-use Rattle.spec_join.proofs.Refused.{least_of_counted}
+use Rattle.spec_join.proofs.TableLines.{least_of_counted}
 use Rattle.spec_join.proofs.joiner.Joiner.row_fault.Goals as goal
 
 pub returns : goal.returns

@@ -1,6 +1,6 @@
 use Rattle.std.proofs.Common.{length, ap, arith}
 use Rattle.spec_join.specs.Joining.{Joining}
-use Rattle.spec_join.proofs.Setting.{set_more, unbroken_at}
+use Rattle.spec_join.proofs.QuantityLines.{set_more, unbroken_at}
 use Rattle.spec_join.proofs.joiner.Joiner.set_quantities.Goals as goal
 
 pub set_quantity-requires-clause-unbroken : goal.set_quantity-requires-clause-unbroken

@@ -1,5 +1,5 @@
 use Rattle.std.proofs.Common.{◌≡◌}
-use Rattle.spec_join.proofs.Setting.{set_first}
+use Rattle.spec_join.proofs.QuantityLines.{set_first}
 use Rattle.spec_join.proofs.joiner.Joiner.set_quantities.Given as goal
 
 abbrev pub invariant-loop-m : goal.invariant-loop-m

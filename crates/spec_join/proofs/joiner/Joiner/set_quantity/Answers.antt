@@ -1,7 +1,7 @@
 use Rattle.std.proofs.Common.{◌≤◌, ◌^◌, sym, subst, ℕ}
 use Rattle.tgff_reader.specs.Looking.{table_at, row_at}
 use Rattle.spec_join.specs.Quantities.{message_row}
-use Rattle.spec_join.proofs.Refused.{small_quantity}
+use Rattle.spec_join.proofs.TableLines.{small_quantity}
 use Rattle.spec_join.proofs.joiner.Joiner.set_quantity.Goals as goal
 
 pub quantity_from-quantity-requires-clause-small : goal.quantity_from-quantity-requires-clause-small

@@ -3,7 +3,7 @@ use Rattle.arch_reader.specs.Seen.{scale_or_0}
 use Rattle.tgff_reader.specs.Looking.{table_at, row_at}
 use Rattle.table_cells.specs.declared.cells.Taking.{Taking}
 use Rattle.spec_join.specs.Joining.{Joining}
-use Rattle.spec_join.proofs.Refused.{least_of_time}
+use Rattle.spec_join.proofs.TableLines.{least_of_time}
 use Rattle.spec_join.proofs.joiner.Joiner.time_fault.Goals as goal
 
 abbrev at_that : ℕ → Taking
