@@ -11,5 +11,9 @@ pub mod Tying
 pub mod Weighing
 pub mod Fitting
 pub mod Breaking
+pub mod Lowest
+pub mod TableLines
+pub mod Keys
+pub mod QuantityLines
 pub mod MessageKinds
 pub mod Making

@@ -1,6 +1,6 @@
 //! What a `table` line is refused for, found before anything is made of the table.
 
-ghost use Rattle.std.specs.Prelude.{◌≡◌, ◌<◌, ◌↔◌, IsTrue, length, true, is_some, None, Any, All, Contains, MatchOption};
+ghost use Rattle.std.specs.Prelude.{◌≡◌, ◌<◌, ◌≤◌, ◌↔◌, IsTrue, length, true, is_some, None, Any, All, Contains, MatchOption};
 ghost use Rattle.std.specs.Option.{option_map};
 ghost use Rattle.spec_model.specs.Spec.{Name};
 ghost use Rattle.spec_graph.specs.Refusals.{IsMapped};
@@ -8,7 +8,7 @@ ghost use Rattle.arch_reader.specs.Words.{is_table_key};
 ghost use Rattle.tgff_reader.specs.Looking.{table_at, row_at};
 ghost use Rattle.table_cells.specs.Least.{IsLeastOrNone};
 ghost use Rattle.table_cells.specs.Cells.{cell_of};
-ghost use Rattle.spec_join.specs.Tables.{column_of, rows_of, weight_taking, does_count, task_row, chosen_row, made_choices, MarkColumnBreaks, TimeColumnBreaks, KeyBreaks, ValuesBreak, RowBreaks, HasBelow, TaskBreaks, IsTakenTwice, PlaceBreaks, OptionsBreak, LineBreaks, IsRowAt};
+ghost use Rattle.spec_join.specs.Tables.{column_of, rows_of, weight_taking, does_count, task_row, chosen_row, choice_from, one_of, made_choices, MarkColumnBreaks, TimeColumnBreaks, KeyBreaks, ValuesBreak, RowBreaks, HasBelow, TaskBreaks, IsTakenTwice, PlaceBreaks, OptionsBreak, LineBreaks, IsRowAt};
 ghost use Rattle.spec_join.specs.Fits.{IsKnownKey, IsKnownPlace, IsFitTable};
 
 use crate::joiner::Joiner;
@@ -191,6 +191,16 @@ impl Joiner<'_> {
         fault
     }
 
+    /// What the cell of a word `OBJ@N` is refused for.
+    fn place_fault(&self, table: usize, place: &KeyColumn) -> Option<Why>
+        requires table { table < length self.now.tables }
+        requires known { IsKnownPlace self.now.plan.objectives place.now }
+        ensures { IsLeastOrNone (λ why. PlaceBreaks self.now (table_at self.now.tables table) why place.now) result }
+    {
+        let cell = first_cell(self.tgff, table, place.column as usize);
+        cell_fault(cell, self.weight_taking(place.key.list()))
+    }
+
     /// What the weights of the resource are refused for.
     fn places_fault(&self, table: usize, places: &[KeyColumn]) -> Option<Why>
         requires table { table < length self.now.tables }
@@ -199,9 +209,7 @@ impl Joiner<'_> {
     {
         let mut fault = None;
         for place in places {
-            let cell = first_cell(self.tgff, table, place.column as usize);
-            let taking = self.weight_taking(place.key.list());
-            fault = lower_of(fault, cell_fault(cell, taking));
+            fault = lower_of(fault, self.place_fault(table, place));
         }
         fault
     }
@@ -224,6 +232,7 @@ impl Joiner<'_> {
         requires task { t < length self.now.task_kinds }
         ensures { IsTrue result ↔ ((is_some (chosen_row self.now (table_at self.now.tables table) keys.now t) ≡ true) × IsMapped self.now.plan t resource.0) }
     {
+        self.plan.facts();
         match self.chosen_row(table, keys, t) {
             Some(_) => self.plan.is_mapped(TaskNo(t as u32), resource),
             None => false,
@@ -245,16 +254,28 @@ impl Joiner<'_> {
         false
     }
 
+    /// How many options a task is to get: one or none.
+    fn count_of(&self, table: usize, keys: &[KeyColumn], t: usize) -> usize
+        requires table { table < length self.now.tables }
+        requires task { t < length self.now.task_kinds }
+        ensures few { result ≤ 1 }
+        ensures count { (resource : Name) → result ≡ length (one_of (choice_from self.now resource keys.now t) (chosen_row self.now (table_at self.now.tables table) keys.now t)) }
+    {
+        match self.chosen_row(table, keys, t) {
+            Some(_) => 1,
+            None => 0,
+        }
+    }
+
     /// How many tasks are to get an option.
     fn count_chosen(&self, table: usize, keys: &[KeyColumn]) -> usize
         requires table { table < length self.now.tables }
-        ensures { (resource : Name) → result ≡ length (made_choices self.now (table_at self.now.tables table) resource keys.now (length self.now.task_kinds)) }
+        ensures few { result ≤ length self.now.task_kinds }
+        ensures count { (resource : Name) → result ≡ length (made_choices self.now (table_at self.now.tables table) resource keys.now (length self.now.task_kinds)) }
     {
         let mut count = 0;
         for t in 0..self.task_kinds.len() {
-            if self.chosen_row(table, keys, t).is_some() {
-                count += 1;
-            }
+            count += self.count_of(table, keys, t);
         }
         count
     }
@@ -265,10 +286,13 @@ impl Joiner<'_> {
         requires there { Contains self.now.plan.resources resource.now }
         ensures { IsLeastOrNone (OptionsBreak self.now (table_at self.now.tables table) resource.now keys.now) result }
     {
+        self.plan.facts();
         if self.has_taken_twice(table, resource, keys) {
             return Some(Why::RepeatedName);
         }
-        if self.plan.options() + self.count_chosen(table, keys) > MAX_OPTIONS {
+        let before = self.plan.options();
+        let made = self.count_chosen(table, keys);
+        if before + made > MAX_OPTIONS {
             return Some(Why::Limit(What::Options));
         }
         None
