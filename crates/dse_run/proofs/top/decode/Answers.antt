@@ -1,6 +1,7 @@
 use Rattle.std.proofs.Common.{◌≡◌, ◌∙◌, ℕ, List, Option, Some, None, Result, IfSome, option_map, subst}
 use Rattle.std.specs.Global.{Vec}
 use Rattle.desk_io.specs.Files.{Files, content}
+use Rattle.line_words.specs.declared.refusals.ReadFault.{ReadFault}
 use Rattle.spec_model.specs.Spec.{SpecValue}
 use Rattle.spec_join.specs.Whole.{IsLoaded, IsLoadedIfNamed, ReadsSpec}
 use Rattle.spec_join.specs.declared.whole.Loaded.{Loaded}
