@@ -5,9 +5,8 @@ ghost use Rattle.std.specs.Prelude.{◌≡◌, ◌<◌, ◌≤◌, ◌^◌, ◌+
 ghost use Rattle.names.specs.Names.{number_of};
 ghost use Rattle.spec_graph.specs.Refusals.{IsMapped};
 ghost use Rattle.tgff_reader.specs.Looking.{table_at, row_at};
-ghost use Rattle.spec_join.specs.Joining.{weight_of};
 ghost use Rattle.spec_join.specs.Effects.{effect, with_plan, with_option};
-ghost use Rattle.spec_join.specs.Fits.{IsFit, IsKnownKey, IsKnownPlace, IsWeighable};
+ghost use Rattle.spec_join.specs.Fits.{IsFit, IsKnownKey, IsKnownPlace};
 ghost use Rattle.spec_join.specs.Stops.{Refuses, Accepts};
 ghost use Rattle.spec_join.specs.Tables.{time_from, weights_from, choice_from, chosen_row, one_of, with_made, with_places, KeyBreaks, ValuesBreak, HasBelow, TaskBreaks, IsTakenTwice, PlaceBreaks, OptionsBreak};
 ghost use Rattle.line_words.specs.declared.refusals.Why.{Why};
@@ -15,8 +14,7 @@ ghost use Rattle.arch_reader.specs.declared.statement.Statement.{Statement};
 
 use crate::joiner::Joiner;
 use crate::table_faults::{column_of, is_table_key};
-use crate::weights::Weight;
-use arch_reader::{KeyColumn, at_scale};
+use arch_reader::KeyColumn;
 use line_words::{Stop, Why};
 use spec_graph::{BuildFault, TaskNo};
 use std::alloc::AllocError;
@@ -33,23 +31,6 @@ impl Joiner<'_> {
         match column_of(keys, "time") {
             Some(column) => self.time_at(amount_in(self.cell(table, row, column))),
             None => 0,
-        }
-    }
-
-    /// An amount as a weight for an objective.
-    fn weight_for(&self, objective: &str, amount: i128) -> Weight
-        requires { IsWeighable self.now.plan.objectives self.now.scales (record { key = objective.now; amount = amount }) }
-        ensures objective { result.objective ≡ number_of self.now.plan.objectives objective.now }
-        ensures there { result.objective < length self.now.plan.objectives }
-        ensures value { result.value ≡ weight_of self.now.scales (number_of self.now.plan.objectives objective.now) amount }
-        ensures small { result.value ≤ 2 ^ 40 }
-    {
-        match self.plan.find_objective(objective) {
-            Some(number) => Weight {
-                objective: number,
-                value: at_scale(self.scales[number], amount) as u64,
-            },
-            None => unreachable!(),
         }
     }
 

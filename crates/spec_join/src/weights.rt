@@ -17,6 +17,23 @@ pub(crate) struct Weight {
 }
 
 impl Joiner<'_> {
+    /// An amount as a weight for an objective.
+    pub(crate) fn weight_for(&self, objective: &str, amount: i128) -> Weight
+        requires { IsWeighable self.now.plan.objectives self.now.scales (record { key = objective.now; amount = amount }) }
+        ensures objective { result.objective ≡ number_of self.now.plan.objectives objective.now }
+        ensures there { result.objective < length self.now.plan.objectives }
+        ensures value { result.value ≡ weight_of self.now.scales (number_of self.now.plan.objectives objective.now) amount }
+        ensures small { result.value ≤ 2 ^ 40 }
+    {
+        match self.plan.find_objective(objective) {
+            Some(number) => Weight {
+                objective: number,
+                value: at_scale(self.scales[number], amount) as u64,
+            },
+            None => unreachable!(),
+        }
+    }
+
     /// The weight that a word states.
     pub(crate) fn weight(&self, word: &KeyAmount) -> Weight
         requires { IsWeighable self.now.plan.objectives self.now.scales word.now }
@@ -25,13 +42,7 @@ impl Joiner<'_> {
         ensures value { result.value ≡ weight_of self.now.scales (number_of self.now.plan.objectives word.now.key) word.now.amount }
         ensures small { result.value ≤ 2 ^ 40 }
     {
-        match self.plan.find_objective(word.key.list()) {
-            Some(objective) => Weight {
-                objective,
-                value: at_scale(self.scales[objective], word.amount) as u64,
-            },
-            None => unreachable!(),
-        }
+        self.weight_for(word.key.list(), word.amount)
     }
 
     /// A weight of 0 for each objective.

@@ -17,8 +17,7 @@ invariant_of-result c =
     let messages : length c.in_ok-plan.plan.messages ≡ length (with_graphs clock p gs).messages = ap (λ (s : SpecValue). length s.messages) made in
     let tasks : length c.in_ok-plan.plan.tasks ≡ length (with_graphs clock p gs).tasks = ap (λ (s : SpecValue). length s.tasks) made in
     let kinds : length c.in_ok-message_kinds.message_kinds.items ≡ length (message_kinds gs) = ap length c.in_ok-message_kinds.ensures in
-    let types : length c.in_ok-task_kinds.task_kinds.items ≡ length (task_kinds gs) = ap length c.in_ok-task_kinds.ensures in
-    (
+    let types : length c.in_ok-task_kinds.task_kinds.items ≡ length (task_kinds gs) = ap length c.in_ok-task_kinds.ensures in (
       c.settings.invariant.0 ∙ sym objectives,
       c.settings.invariant.1 ∙ sym objectives,
       omega (arith, kinds, messages, none, as_many_messages clock p gs),
