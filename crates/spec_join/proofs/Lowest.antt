@@ -1,5 +1,5 @@
 -- The lowest refusal of what stands in a list or below a number, from those of its parts.
-use Rattle.std.proofs.Common.{◌≡◌, ℕ, ◌+◌, ◌<◌, ◌≤◌, ◌⊎◌, inl, inr, List, length, get_or, take, Option, Some, None, sym, ap, subst, ◌∙◌, arith, All, Any}
+use Rattle.std.proofs.Common.{◌≡◌, ℕ, ◌+◌, ◌<◌, ◌≤◌, ◌⊎◌, inl, inr, List, length, get_or, take, Option, Some, sym, ap, subst, ◌∙◌, arith, All, Any}
 use Rattle.std.proofs.lemmas.Bool.{cases_lt}
 use Rattle.std.proofs.lemmas.List.{take_more, take_all, get_or-take, length-take-le, get_or_default}
 use Rattle.std.proofs.lemmas.List.Elements.{All-push}
@@ -90,17 +90,6 @@ least_below_more P n a b r lower x y =
     (λ why. more_below (P why) n)
     (λ why. less_below (P why) n)
     (least_either (λ why. HasBelow n (P why)) (λ why. P why n) a b x y))
-
--- no number below 0
-pub least_below_none : (P : Why → ℕ → Type 0) → IsLeastBelow P 0 None
-least_below_none P why (k, lt, p) = absurd (omega (arith, lt))
-
--- no number has a property, and neither has one more
-pub none_below_more : (P : ℕ → Type 0) (n : ℕ) → (HasBelow n P → ⊥) → (P n → ⊥) → HasBelow (n + 1) P → ⊥
-none_below_more P n h last x = elim (less_below P n x) [
-  | inl low ↦ h low
-  | inr p ↦ last p
-]
 
 -- ---- rows
 

@@ -1,14 +1,11 @@
 -- What cells, rows and lines are refused for, from what the code finds.
-use Rattle.std.proofs.Common.{◌≡◌, ℕ, ℤ, pos, suc, ◌+◌, ◌<◌, ◌≤◌, ◌^◌, ◌⊎◌, inl, inr, Bool, true, false, List, length, Option, Some, None, Result, Ok, Err, refl, sym, ap, subst, ◌∙◌, arith, add-one, length-append, Any, codes, IsTrue, ◌↔◌}
+use Rattle.std.proofs.Common.{◌≡◌, ℕ, ℤ, pos, ◌≤◌, ◌^◌, ◌⊎◌, inl, inr, Bool, true, false, List, length, Option, Some, None, Result, Ok, Err, refl, sym, ap, subst, Any, codes, IsTrue, ◌↔◌}
 use Rattle.std.specs.Prelude.{is_some}
-use Rattle.std.proofs.lemmas.Bool.{cases_lt, false≢true}
+use Rattle.std.proofs.lemmas.Bool.{cases_lt}
 use Rattle.line_words.specs.Decimal.{decimal_of}
 use Rattle.line_words.specs.declared.numbers.NumberFault.{NumberFault}
 use Rattle.line_words.specs.declared.refusals.Why.{Why}
-use Rattle.line_words.specs.declared.refusals.Why.TheVariants.{NoRow, RepeatedName, TooBig, Limit}
-use Rattle.line_words.specs.declared.refusals.What.TheVariants.{Options}
-use Rattle.line_words.specs.Refused.{rank}
-use Rattle.names.specs.Names.{number_of}
+use Rattle.line_words.specs.declared.refusals.Why.TheVariants.{NoRow, TooBig}
 use Rattle.spec_model.specs.Spec.{Name}
 use Rattle.spec_graph.specs.Refusals.{IsMapped}
 use Rattle.arch_reader.specs.Numbers.{at_scale, read_or}
@@ -20,7 +17,7 @@ use Rattle.table_cells.proofs.Least.{least_either, least_same}
 use Rattle.table_cells.specs.Cells.{cell_of, amount_in, CellBreaks, ReadingBreaks, MarkBreaks, refusal_for}
 use Rattle.table_cells.specs.declared.cells.Taking.{Taking}
 use Rattle.spec_join.specs.Joining.{Joining}
-use Rattle.spec_join.specs.Tables.{MarkColumnBreaks, TimeColumnBreaks, KeyBreaks, ValuesBreak, RowBreaks, TaskBreaks, PlaceBreaks, CellsBreak, OptionsBreak, LineBreaks, IsTakenTwice, HasBelow, time_taking, weight_taking, column_of, does_count, chosen_row, choice_from, one_of, made_choices, OfRow}
+use Rattle.spec_join.specs.Tables.{MarkColumnBreaks, TimeColumnBreaks, KeyBreaks, ValuesBreak, RowBreaks, TaskBreaks, PlaceBreaks, CellsBreak, OptionsBreak, LineBreaks, HasBelow, time_taking, weight_taking, column_of, does_count, chosen_row, OfRow}
 use Rattle.spec_join.specs.Quantities.{QuantityBreaks}
 use Rattle.arch_reader.specs.Words.{is_table_key}
 
@@ -36,10 +33,6 @@ least_of_mark column n row cell a e f h = subst (λ (o : Option ℕ). IsLeastOrN
 pub least_of_time : (s : Joining) (column : Option ℕ) (n : ℕ) (row : Row) (made : Taking) (cell : Option (List ℕ)) (a : Option Why) → column ≡ Some n → made ≡ time_taking s → cell ≡ cell_of row n → IsLeastOrNone (CellBreaks made cell) a
     → IsLeastOrNone (TimeColumnBreaks s column row) a
 least_of_time s column n row made cell a e t f h = subst (λ (o : Option ℕ). IsLeastOrNone (TimeColumnBreaks s o row) a) (sym e) (least_of_cell made (time_taking s) (cell_of row n) cell a t f h)
-
--- a key of a table's own isn't refused for a weight
-pub least_of_own_key : (s : Joining) (row : Row) (k : KeyColumn) → is_table_key k.key ≡ true → IsLeastOrNone (λ why. KeyBreaks s row why k) None
-least_of_own_key s row k own why h = false≢true (sym h.0 ∙ own)
 
 pub least_of_key : (s : Joining) (row : Row) (k : KeyColumn) (a : Option Why) → is_table_key k.key ≡ false → IsLeastOrNone (CellBreaks (weight_taking s k.key) (cell_of row k.column)) a → IsLeastOrNone (λ why. KeyBreaks s row why k) a
 least_of_key s row k None other h = λ why x. h why x.1
@@ -62,14 +55,6 @@ pub small_quantity : (column : ℕ) (found : Option Row) (row : Row) → found �
 small_quantity column found row e none = small_amount (record { scale = 0; cut = true }) (cell_of row column) (subst (λ (o : Option Row). (why : Why) → OfRow (QuantityBreaks column) o why → ⊥) e none)
 
 -- ---- rows
-
--- a row that doesn't count is refused for its mark alone
-pub least_of_skipped : (s : Joining) (keys : List KeyColumn) (row : Row) (valid : Option ℕ) (a : Option Why) → valid ≡ column_of keys (codes "valid") → does_count keys row ≡ false → IsLeastOrNone (MarkColumnBreaks valid row) a → IsLeastOrNone (RowBreaks s keys row) a
-least_of_skipped s keys row valid a v skips h =
-    least_same (MarkColumnBreaks (column_of keys (codes "valid")) row) (RowBreaks s keys row) a (λ why. inl) (λ why x. elim x [
-      | inl mark ↦ mark
-      | inr counts ↦ absurd (false≢true (sym skips ∙ counts.0))
-    ]) (subst (λ (o : Option ℕ). IsLeastOrNone (MarkColumnBreaks o row) a) v h)
 
 -- one that counts is refused for its mark, its time or a weight
 pub least_of_counted : (s : Joining) (keys : List KeyColumn) (row : Row) (valid time : Option ℕ) (a b d inner r : Option Why) → valid ≡ column_of keys (codes "valid") → time ≡ column_of keys (codes "time") → does_count keys row ≡ true
@@ -100,48 +85,6 @@ taken_of found row Mapped r e mapped = (λ x. (ap is_some e, mapped.0 x), λ h. 
 -- task t is to get an option and has one already on the resource of this number
 abbrev pub IsTakenAt : Joining → Table → ℕ → List KeyColumn → ℕ → Type 0
 IsTakenAt s table place keys t = (is_some (chosen_row s table keys t) ≡ true) × IsMapped s.plan t place
-
-pub taken_by_name : (s : Joining) (table : Table) (resource : Name) (keys : List KeyColumn) (place n : ℕ) → place ≡ number_of s.plan.resources resource → HasBelow n (IsTakenAt s table place keys) → HasBelow n (IsTakenTwice s table resource keys)
-taken_by_name s table resource keys place n e h = subst (λ (r : ℕ). HasBelow n (IsTakenAt s table r keys)) e h
-
-pub taken_by_number : (s : Joining) (table : Table) (resource : Name) (keys : List KeyColumn) (place n : ℕ) → place ≡ number_of s.plan.resources resource → HasBelow n (IsTakenTwice s table resource keys) → HasBelow n (IsTakenAt s table place keys)
-taken_by_number s table resource keys place n e h = subst (λ (r : ℕ). HasBelow n (IsTakenAt s table r keys)) (sym e) h
-
--- the options of one more task
-pub made_more : (s : Joining) (table : Table) (resource : Name) (keys : List KeyColumn) (t count one : ℕ) → count ≡ length (made_choices s table resource keys t) → one ≡ length (one_of (choice_from s resource keys t) (chosen_row s table keys t))
-    → count + one ≡ length (made_choices s table resource keys (t + 1))
-made_more s table resource keys t count one e f =
-    let sum : length (made_choices s table resource keys (suc t)) ≡ length (made_choices s table resource keys t) + length (one_of (choice_from s resource keys t) (chosen_row s table keys t))
-    = length-append (made_choices s table resource keys t) (one_of (choice_from s resource keys t) (chosen_row s table keys t)) in
-    let up : length (made_choices s table resource keys (t + 1)) ≡ length (made_choices s table resource keys (suc t)) = ap (λ (k : ℕ). length (made_choices s table resource keys k)) (add-one t) in
-    omega (arith, e, f, sum, up)
-
--- the pairs are refused before the number
-pub least_repeated : (s : Joining) (table : Table) (resource : Name) (keys : List KeyColumn) → HasBelow (length s.task_kinds) (IsTakenTwice s table resource keys) → IsLeastOrNone (OptionsBreak s table resource keys) (Some RepeatedName)
-least_repeated s table resource keys h = record { holds = h; least = above }
-  where
-    above : (other : Why) → OptionsBreak s table resource keys other → rank RepeatedName ≤ rank other
-    above RepeatedName x = omega arith
-    above (Limit Options) x = omega arith
-    above (Limit _) x = absurd x
-    above _ x = absurd x
-
-pub least_too_many : (s : Joining) (table : Table) (resource : Name) (keys : List KeyColumn) → (HasBelow (length s.task_kinds) (IsTakenTwice s table resource keys) → ⊥)
-    → 16384 < length s.plan.options + length (made_choices s table resource keys (length s.task_kinds)) → IsLeastOrNone (OptionsBreak s table resource keys) (Some (Limit Options))
-least_too_many s table resource keys none many = record { holds = many; least = above }
-  where
-    above : (other : Why) → OptionsBreak s table resource keys other → rank (Limit Options) ≤ rank other
-    above RepeatedName x = absurd (none x)
-    above (Limit Options) x = omega arith
-    above (Limit _) x = absurd x
-    above _ x = absurd x
-
-pub least_of_no_option : (s : Joining) (table : Table) (resource : Name) (keys : List KeyColumn) → (HasBelow (length s.task_kinds) (IsTakenTwice s table resource keys) → ⊥)
-    → length s.plan.options + length (made_choices s table resource keys (length s.task_kinds)) ≤ 16384 → IsLeastOrNone (OptionsBreak s table resource keys) None
-least_of_no_option s table resource keys none few RepeatedName x = none x
-least_of_no_option s table resource keys none few (Limit Options) x = omega (arith, few, x)
-least_of_no_option s table resource keys none few (Limit _) x = x
-least_of_no_option s table resource keys none few _ x = x
 
 -- ---- lines
 
