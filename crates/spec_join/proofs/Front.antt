@@ -1,7 +1,7 @@
 -- What a plan keeps of what stood before the graphs, and how much the graphs add.
-use Rattle.std.proofs.Common.{◌≡◌, ℕ, ◌+◌, ◌≤◌, List, [], ◌∷◌, ◌++◌, length, map, Option, refl, ap, ◌∙◌, arith, length-append}
+use Rattle.std.proofs.Common.{◌≡◌, ℕ, ◌+◌, List, [], ◌∷◌, length, map, refl, arith, length-append}
 use Rattle.std.proofs.lemmas.List.{length-map}
-use Rattle.spec_model.specs.Spec.{Name, SpecValue}
+use Rattle.spec_model.specs.Spec.{SpecValue}
 use Rattle.tgff_reader.specs.declared.file.Graph.{Graph}
 use Rattle.graph_plan.specs.Graphs.{task_in, message_of, with_graph, with_graphs, kind_of_task, kind_of_arc, kinds_of_tasks, kinds_of_arcs, task_kinds, message_kinds}
 

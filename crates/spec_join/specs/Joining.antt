@@ -1,5 +1,5 @@
 -- What a file of task graphs and tables and the statements of an architecture file have made so far.
-use Rattle.std.specs.Prelude.{ℕ, ℤ, ◌++◌, ◌-◌, ◌^◌, List, [], ◌∷◌, Bool, Option, None, Some, length, map, fold, replicate, slice_index_or, slice_set}
+use Rattle.std.specs.Prelude.{ℕ, ℤ, ◌++◌, ◌-◌, ◌^◌, List, Bool, Option, None, Some, length, map, fold, replicate, slice_index_or, slice_set}
 use Rattle.std.specs.Option.{option_or}
 use Rattle.names.specs.Names.{number_of}
 use Rattle.spec_model.specs.Spec.{Name, SpecValue, Message, empty_spec, message_at}

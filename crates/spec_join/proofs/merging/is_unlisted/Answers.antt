@@ -1,4 +1,4 @@
-use Rattle.std.proofs.Common.{Bool, not, map, ap, sym, ◌∙◌}
+use Rattle.std.proofs.Common.{not, ap, sym, ◌∙◌}
 use Rattle.arch_reader.proofs.Cutting.{list_any-map}
 use Rattle.spec_graph.specs.Lists.{message_number}
 use Rattle.spec_graph.specs.Merged.{is_number}

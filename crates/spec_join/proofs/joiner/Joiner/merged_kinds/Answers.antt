@@ -1,4 +1,4 @@
-use Rattle.std.proofs.Common.{◌≡◌, ◌<◌, ℕ, List, length, Option, None, get_or, sym, ◌∙◌, ap, subst, map, arith}
+use Rattle.std.proofs.Common.{◌≡◌, ◌<◌, ℕ, List, length, Option, get_or, sym, ◌∙◌, ap, map, arith}
 use Rattle.spec_graph.specs.Lists.{message_number}
 use Rattle.spec_graph.specs.Merged.{is_unlisted}
 use Rattle.spec_join.specs.Joining.{Joining}

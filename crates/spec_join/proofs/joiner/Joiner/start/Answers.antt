@@ -1,7 +1,7 @@
-use Rattle.std.proofs.Common.{◌≡◌, ℕ, ◌≤◌, List, length, Bool, Option, ap, sym, ◌∙◌, arith}
-use Rattle.spec_model.specs.Spec.{Name, SpecValue}
+use Rattle.std.proofs.Common.{◌≡◌, length, ap, sym, ◌∙◌, arith}
+use Rattle.spec_model.specs.Spec.{SpecValue}
 use Rattle.graph_plan.specs.Graphs.{with_graphs, task_kinds, message_kinds}
-use Rattle.spec_join.specs.Joining.{SettingsValue, settings_of}
+use Rattle.spec_join.specs.Joining.{SettingsValue}
 use Rattle.spec_join.proofs.Front.{graphs_keep, as_many_tasks, as_many_messages}
 use Rattle.spec_join.proofs.joiner.Joiner.start.Goals as goal
 
