@@ -1,5 +1,5 @@
 -- A log has too few derived lines for the greatest budget.
-use Rattle.std.proofs.Common.{◌≡◌, ℕ, suc, ◌^◌, ◌+◌, ◌<◌, ◌≤◌, Bool, true, cond, List, [], ◌∷◌, ◌++◌, length, refl, sym, ap, ◌∙◌, arith, All}
+use Rattle.std.proofs.Common.{◌≡◌, ℕ, suc, ◌^◌, ◌<◌, ◌≤◌, Bool, true, cond, List, [], ◌∷◌, ◌++◌, length, refl, ap, ◌∙◌, arith, All}
 use Rattle.std.specs.List.{count_by}
 use Rattle.spec_model.proofs.Counts.{count-append, count-cons}
 use Rattle.pb_rules.specs.Frames.{Line, is_derived, derived_count}

@@ -1,5 +1,5 @@
 -- What is said of a file of task graphs and tables, an architecture file and a genotype file.
-use Rattle.std.specs.Prelude.{◌≡◌, ℕ, List, [], ◌∷◌, ◌++◌, Bool, Option, Some, None, Result, Ok, Err, length, if◌then◌else◌, codes, decimal, ◌⊎◌}
+use Rattle.std.specs.Prelude.{◌≡◌, ℕ, List, [], ◌++◌, Bool, Option, Some, None, Result, Ok, Err, length, if◌then◌else◌, codes, decimal, ◌⊎◌}
 use Rattle.desk_io.specs.Files.{Files, content}
 use Rattle.line_words.specs.Text.{lines}
 use Rattle.line_words.specs.Refused.{number_of, name_of, what_name}

@@ -1,4 +1,4 @@
-use Rattle.std.proofs.Common.{◌≡◌, ◌^◌, ◌<◌, rules, length, arith, subst, ap}
+use Rattle.std.proofs.Common.{◌^◌, ◌<◌, length, arith, subst, ap}
 use Rattle.ordered_solver.specs.Answers.{new_lines}
 use Rattle.pb_rules.specs.Frames.{derived_count}
 use Rattle.sat_decoder.specs.Decoding.{LineCountSays}

@@ -1,4 +1,4 @@
-use Rattle.std.proofs.Common.{◌≡◌, rules}
+use Rattle.std.proofs.Common.{rules}
 use Rattle.spec_model.specs.Spec.{bits_of}
 use Rattle.spec_model.specs.Vectors.{vector_at}
 use Rattle.dse_run.proofs.Numbers.{numbers_more}
