@@ -2,8 +2,9 @@
 //! `bench/meshes`.
 #![tactic(auto)]
 
-ghost use Rattle.std.specs.Prelude.{◌≡◌, length};
+ghost use Rattle.std.specs.Prelude.{◌≡◌, length, IfOk};
 ghost use Rattle.spec_model.specs.Spec.{design_variables};
+ghost use Rattle.decode_bench.specs.Counting.{IsCountFor};
 
 use desk_io::{Desk, RealDesk};
 use genotype::{Genotype, read_genotype};
@@ -30,16 +31,17 @@ fn load<D: Desk>(alloc: Global, desk: &mut D, name: &str) -> Option<Vec<u8>> {
 }
 
 /// How many conflicts there are before the first valid design, or before it is clear that there is none.
-fn conflicts(alloc: Global, spec: &Spec, genotype: &Genotype) -> Result<u64, AllocError>
+fn conflicts(alloc: Global, spec: &Spec, genotype: &Genotype) -> Result<usize, AllocError>
     requires { length genotype.now ≡ design_variables spec.now }
+    ensures { IfOk result (IsCountFor spec.now genotype.now) }
 {
     let mut decoder = Decoder::new(alloc, spec)?;
     let _decoded = decoder.decode(alloc, genotype, u64::MAX)?;
-    Ok(decoder.log().learned())
+    Ok(decoder.log().steps())
 }
 
 /// The same of a specification along a genotype's text, or along the natural genotype where there is none.
-fn count(alloc: Global, spec: &Spec, geno: &[u8]) -> Option<u64> {
+fn count(alloc: Global, spec: &Spec, geno: &[u8]) -> Option<usize> {
     let variables = spec.design_variables();
     if geno.is_empty() {
         let Ok(genotype) = Genotype::natural(alloc, variables) else {
@@ -54,7 +56,7 @@ fn count(alloc: Global, spec: &Spec, geno: &[u8]) -> Option<u64> {
 }
 
 /// The same of the texts of both files.
-fn count_all(alloc: Global, arch: Vec<u8>, geno: &[u8]) -> Option<u64> {
+fn count_all(alloc: Global, arch: Vec<u8>, geno: &[u8]) -> Option<usize> {
     let Ok(spec) = read_spec(alloc, &None, &Loaded::Bytes(arch)) else {
         return None;
     };
@@ -76,7 +78,7 @@ fn words(rt: &(impl Env + AllocGlobal)) -> Option<Vec<String>> {
 }
 
 /// What the files of a command line `ARCH GENO` come to.
-fn measure<D: Desk>(alloc: Global, words: &[String], desk: &mut D) -> Option<u64> {
+fn measure<D: Desk>(alloc: Global, words: &[String], desk: &mut D) -> Option<usize> {
     let [arch, geno] = words else {
         return None;
     };
