@@ -1,5 +1,5 @@
 -- What blocks say of designs, and that they make a frame.
-use Rattle.std.specs.Prelude.{◌≡◌, ◌≢◌, ◌↔◌, ℕ, ◌<◌, List, length}
+use Rattle.std.specs.Prelude.{◌≡◌, ◌≢◌, ◌↔◌, ℕ, ◌<◌, ◌≤◌, List, length}
 use Rattle.pb_rules.specs.Linear.{IsModel}
 use Rattle.pb_rules.specs.Frames.{IsFrame}
 use Rattle.spec_model.specs.Spec.{SpecValue, Bits, all_variables}

@@ -26,6 +26,7 @@ pub fn below_somewhere(alloc: Global, spec: &Spec, cover_no: u64) -> Result<Cons
     requires few { cover_no < 2 ^ 58 }
     ensures { IfOk result (λ c. c ≡ below_somewhere spec.now cover_no) }
 {
+    spec.facts();
     let mut terms = Vec::new(alloc);
     for j in 0..spec.objectives() {
         terms.push(Term {
@@ -50,6 +51,7 @@ pub fn below_number(
     requires few { cover_no < 2 ^ 58 }
     ensures { IfOk result (λ c. c ≡ below_number spec.now cover_no j number) }
 {
+    spec.facts();
     let gap = weight_sum(spec, j) - number + 1;
     let mut terms = unused_terms(alloc, spec, j)?;
     terms.push(Term {
