@@ -182,6 +182,7 @@ module _ (s : SpecValue) (b : ℕ) (v : List ℕ) (f : Bits) (long : length v �
   }
 
 pub uncovered_extend : UncoveredExtend
-uncovered_extend s b v f long within =
-    (λ x covers. models_are_uncovered s b v x.values long x.model (subst (λ (u : List ℕ). IsAtMost v u) (sym (same_vector s b x.values f x.agree)) covers),
-    λ h. extends s b v f long within h)
+uncovered_extend s b v f long within = (
+  λ x covers. models_are_uncovered s b v x.values long x.model (subst (λ (u : List ℕ). IsAtMost v u) (sym (same_vector s b x.values f x.agree)) covers),
+  λ h. extends s b v f long within h,
+)

@@ -11,8 +11,9 @@ ghost use Rattle.block_encode.specs.Block.{IsWithinWeights, block_of};
 
 mod bounds;
 pub mod laws;
+#[cfg(test)]
+mod tests;
 mod weights;
-
 
 use crate::bounds::{below_number, below_somewhere};
 use pb_constraints::Constraint;
