@@ -56,11 +56,9 @@ fn block_of_one(
     block(alloc, spec, cover_no, &[number])
 }
 
-#[test]
-fn one_block(rt: HostRuntime) -> Result<(), Fail> {
-    let alloc = rt.alloc();
-    let spec = two_resources(&rt, alloc)?;
-    let block = block_of_one(&rt, alloc, &spec, 1, 3)?;
+/// The block of the first cover with number 3.
+fn is_first_block(rt: &impl Abort, alloc: Global, spec: &Spec) -> Result<(), AllocError> {
+    let block = block_of_one(rt, alloc, spec, 1, 3)?;
     let somewhere = [Term {
         coef: 1,
         lit: Lit::yes(4),
@@ -84,5 +82,13 @@ fn one_block(rt: HostRuntime) -> Result<(), Fail> {
     assert_eq!(rt; block[0].degree(), 1);
     assert_eq!(rt; block[1].terms(), number.as_slice());
     assert_eq!(rt; block[1].degree(), 4);
+    Ok(())
+}
+
+#[test]
+fn one_block(rt: HostRuntime) -> Result<(), Fail> {
+    let alloc = rt.alloc();
+    let spec = two_resources(&rt, alloc)?;
+    is_first_block(&rt, alloc, &spec)?;
     Ok(())
 }
