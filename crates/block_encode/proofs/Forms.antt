@@ -6,8 +6,9 @@ use Rattle.std.proofs.lemmas.Bool.{ltb-true}
 use Rattle.std.proofs.lemmas.List.Elements.{All-append, All-cons, All-from_recursion}
 use Rattle.std.proofs.lemmas.List.Sums.{sum_by-cons, sum_by-append}
 use Rattle.pb_rules.specs.declared.Term.{Term}
-use Rattle.pb_rules.specs.Linear.{Linear, IsNormal, total}
+use Rattle.pb_rules.specs.Linear.{Linear, IsNormal, VarsBelow, total}
 use Rattle.pb_rules.proofs.Rows.{From, from-pairs}
+use Rattle.pb_constraints.specs.Sets.{IsBelow}
 use Rattle.spec_model.specs.Spec.{SpecValue, below, those, design_variables, all_variables}
 use Rattle.spec_model.specs.Vectors.{weight}
 use Rattle.spec_model.specs.WellFormed.{IsWellFormed}
@@ -17,6 +18,7 @@ use Rattle.spec_model.proofs.Those.{sum_by-those_more}
 use Rattle.encode_model.specs.Rising.{RisesWithin}
 use Rattle.encode_model.proofs.Rising.{rises-numbers}
 use Rattle.block_encode.specs.Block.{total_weight, below_var, is_below, below_somewhere, has_weight, unused, unused_terms, gap, below_number, below_place, block_of}
+use Rattle.block_encode.specs.Laws.{variables_to, BlocksAreInRange}
 use Rattle.block_encode.proofs.Adding.{sum-more, total-small}
 
 -- terms of rising variables from a on, below b
@@ -31,6 +33,10 @@ wider a b c d (t ∷ ts) hl hr h = (omega (arith, hl, h.0), wider (t.lit.var + 1
 then_one : (a b : ℕ) (ts : List Term) (t : Term) → Within a b ts → b ≤ t.lit.var → Within a (t.lit.var + 1) (ts ++ t ∷ [])
 then_one a b [] t h l = (omega (arith, h, l), omega arith)
 then_one a b (u ∷ ts) t h l = (h.0, then_one (u.lit.var + 1) b ts t h.1 l)
+
+least : (a b : ℕ) (ts : List Term) → Within a b ts → a ≤ b
+least a b [] h = h
+least a b (t ∷ ts) h = omega (arith, h.0, least (t.lit.var + 1) b ts h.1)
 
 from_of : (a b : ℕ) (ts : List Term) → Within a b ts → From a ts
 from_of a b [] h = tt
@@ -83,15 +89,19 @@ unfolding unused total_weight
 unused_total s j =
     omega (arith, sum_by_map (λ (t : Term). t.coef) (unused s j) (those (has_weight s j) (design_variables s)), some_of_sum (weight s j) (has_weight s j) (design_variables s))
 
-pub number_normal : (s : SpecValue) (b j n g : ℕ) (ts : List Term) → IsWellFormed s → g ≡ gap s j n → ts ≡ (below_number s b j n).terms → IsNormal ts g
+number_within : (s : SpecValue) (b j n : ℕ) → Within 0 (below_var s b j + 1) (below_number s b j n).terms
 unfolding all_variables
+number_within s b j n =
+    then_one 0 (design_variables s) (unused_terms s j) (record { coef = gap s j n; lit = record { var = below_var s b j; yes = false } }) (unused_within s j 0 (design_variables s) (those (has_weight s j) (design_variables s)) (rises-numbers (has_weight s j) (design_variables s))) (omega arith)
+
+pub number_normal : (s : SpecValue) (b j n g : ℕ) (ts : List Term) → IsWellFormed s → g ≡ gap s j n → ts ≡ (below_number s b j n).terms → IsNormal ts g
 number_normal s b j n g ts wf eg et =
     let own : Term = record { coef = gap s j n; lit = record { var = below_var s b j; yes = false } } in
     let whole : ℕ = total_weight s j in
     subst (λ (x : ℕ). IsNormal ts x) (sym eg) (subst (λ (us : List Term). IsNormal us (gap s j n)) (sym et)
     (normal 0 (below_var s b j + 1) (gap s j n) (unused_terms s j ++ own ∷ [])
     (All-append (λ (t : Term). 0 < t.coef) (unused_terms s j) (own ∷ []) (unused_positive s j (design_variables s)) (All-from_recursion (λ (t : Term). 0 < t.coef) (own ∷ []) (omega arith, tt)))
-    (then_one 0 (design_variables s) (unused_terms s j) own (unused_within s j 0 (design_variables s) (those (has_weight s j) (design_variables s)) (rises-numbers (has_weight s j) (design_variables s))) (omega arith))
+    (number_within s b j n)
     (omega (arith, sum_by-append (λ (t : Term). t.coef) (unused_terms s j) (own ∷ []), sum_by-cons (λ (t : Term). t.coef) own [], unused_total s j, total-small s j wf))
     (omega (arith, total-small s j wf))))
 
@@ -101,3 +111,22 @@ unfolding block_of below_place
 block_normal s b v wf =
     All-cons (λ (c : Linear). IsNormal c.terms c.degree) (below_somewhere s b) (map (below_place s b v) (below (length v))) (somewhere_normal s b (below_somewhere s b).terms wf refl)
     (All-ones (λ (c : Linear). IsNormal c.terms c.degree) (below_place s b v) (length v) (λ j l. number_normal s b j (slice_index v j) (gap s j (slice_index v j)) (below_place s b v j).terms wf refl refl))
+
+-- the variables of the block
+vars_below : (a b n : ℕ) (ts : List Term) → b ≤ n → Within a b ts → VarsBelow n ts
+vars_below a b n [] l h k d m = absurd (omega (arith, m))
+vars_below a b n (t ∷ ts) l h zero d m = omega (arith, l, least (t.lit.var + 1) b ts h.1)
+vars_below a b n (t ∷ ts) l h (suc k) d m = vars_below (t.lit.var + 1) b n ts l h.1 k d (omega (arith, m))
+
+-- one block more
+to_next : (b k n : ℕ) → 0 < b → n + (b - 1) * k + k ≡ n + b * k
+to_next zero k n h = absurd (omega (arith, h))
+to_next (suc b) k n h = grind arith
+
+pub block_in_range : BlocksAreInRange
+unfolding block_of below_place
+block_in_range s b v from long =
+    let k : ℕ = length s.objectives in
+    let next = to_next b k (all_variables s) from in
+    All-cons (IsBelow (variables_to s b)) (below_somewhere s b) (map (below_place s b v) (below (length v))) (vars_below (below_var s b 0) (below_var s b (0 + k)) (variables_to s b) (below_somewhere s b).terms (omega (arith, next)) (own_within s b 0 k))
+    (All-ones (IsBelow (variables_to s b)) (below_place s b v) (length v) (λ j l. vars_below 0 (below_var s b j + 1) (variables_to s b) (below_place s b v j).terms (omega (arith, next, l, long)) (number_within s b j (slice_index v j))))

@@ -1,7 +1,8 @@
 -- What blocks say of designs, and that they make a frame.
-use Rattle.std.specs.Prelude.{◌≡◌, ◌≢◌, ◌↔◌, ℕ, ◌<◌, ◌≤◌, List, length}
+use Rattle.std.specs.Prelude.{◌≡◌, ◌≢◌, ◌↔◌, ℕ, ◌+◌, ◌*◌, ◌<◌, ◌≤◌, List, length, All}
 use Rattle.pb_rules.specs.Linear.{IsModel}
 use Rattle.pb_rules.specs.Frames.{IsFrame}
+use Rattle.pb_constraints.specs.Sets.{IsBelow}
 use Rattle.spec_model.specs.Spec.{SpecValue, Bits, all_variables}
 use Rattle.spec_model.specs.Vectors.{vector_of, IsAtMost}
 use Rattle.spec_model.specs.WellFormed.{IsWellFormed}
@@ -34,6 +35,14 @@ pub record IsFresh (s : SpecValue) (b c i j : ℕ) : Type 0 where
 
 abbrev pub BlocksAreFresh : Type 0
 BlocksAreFresh = (s : SpecValue) (b c i j : ℕ) → 0 < b → b < c → i < length s.objectives → IsFresh s b c i j
+
+-- how many variables the encoding and the blocks up to cover number b have
+abbrev pub variables_to : SpecValue → ℕ → ℕ
+variables_to s b = all_variables s + b * length s.objectives
+
+-- a block has no other variables than these
+abbrev pub BlocksAreInRange : Type 0
+BlocksAreInRange = (s : SpecValue) (b : ℕ) (v : List ℕ) → 0 < b → length v ≡ length s.objectives → All (IsBelow (variables_to s b)) (block_of s b v)
 
 -- the encoding and the blocks are a frame
 abbrev pub BlocksMakeFrame : Type 0

@@ -1,6 +1,6 @@
 //! What the definitions imply, as functions that do nothing.
 
-ghost use Rattle.block_encode.specs.Laws.{UncoveredExtend, ModelsAreUncovered, BlocksAreFresh, BlocksMakeFrame};
+ghost use Rattle.block_encode.specs.Laws.{UncoveredExtend, ModelsAreUncovered, BlocksAreFresh, BlocksAreInRange, BlocksMakeFrame};
 
 /// A block rules out the covered designs and no others: an assignment can be made a model of a block, by the block's own
 /// variables alone, exactly where the cover's vector doesn't cover the assignment's. The variables of the blocks differ,
@@ -9,6 +9,7 @@ pub fn law_of_blocks()
     ensures extend { UncoveredExtend }
     ensures uncovered { ModelsAreUncovered }
     ensures fresh { BlocksAreFresh }
+    ensures in_range { BlocksAreInRange }
 {}
 
 /// The encoding of a specification and the blocks of covers are a frame.

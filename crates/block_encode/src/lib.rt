@@ -6,8 +6,10 @@
 //! are a frame for proof lines. Which vectors are covered, and in what order, is for the crates above.
 #![tactic(auto)]
 
-ghost use Rattle.std.specs.Prelude.{◌≡◌, ◌<◌, ◌≤◌, ◌^◌, length, IfOk};
+ghost use Rattle.std.specs.Prelude.{◌≡◌, ◌<◌, ◌≤◌, ◌^◌, length, All, IfOk};
+ghost use Rattle.pb_constraints.specs.Sets.{IsBelow};
 ghost use Rattle.block_encode.specs.Block.{IsWithinWeights, block_of};
+ghost use Rattle.block_encode.specs.Laws.{variables_to};
 
 mod bounds;
 pub mod laws;
@@ -32,7 +34,8 @@ pub fn block(
     requires within { IsWithinWeights spec.now v.now }
     requires from_one { 1 ≤ cover_no }
     requires few { cover_no < 2 ^ 58 }
-    ensures { IfOk result (λ block. block.items ≡ block_of spec.now cover_no v.now) }
+    ensures value { IfOk result (λ block. block.items ≡ block_of spec.now cover_no v.now) }
+    ensures in_range { IfOk result (λ block. All (IsBelow (variables_to spec.now cover_no)) block.items) }
 {
     let mut block = Vec::new(alloc);
     block.push(below_somewhere(alloc, spec, cover_no)?)?;
