@@ -1,5 +1,5 @@
 -- The encoding and the blocks are a frame.
-use Rattle.std.proofs.Common.{◌≡◌, ℕ, ◌+◌, List, length, map, arith}
+use Rattle.std.proofs.Common.{◌≡◌, ℕ, ◌+◌, List, length, arith}
 use Rattle.std.proofs.lemmas.List.FromFn.{length-map-range_with_len}
 use Rattle.spec_model.specs.Spec.{SpecValue}
 use Rattle.block_encode.specs.Block.{below_place, block_of}

@@ -1,14 +1,12 @@
 -- The encoding is in normal form.
-use Rattle.std.proofs.Common.{◌≡◌, ℕ, zero, suc, ◌+◌, ◌-◌, ◌<◌, ◌≤◌, ◌^◌, Bool, true, false, List, [], ◌∷◌, ◌++◌, length, get_or, refl, sym, subst, ◌∙◌, arith}
-use Rattle.std.specs.Prelude.{All, map, replicate}
+use Rattle.std.proofs.Common.{ℕ, ◌+◌, ◌-◌, ◌<◌, ◌≤◌, ◌^◌, Bool, true, false, List, [], ◌∷◌, ◌++◌, length, get_or, refl, sym, subst, arith}
+use Rattle.std.specs.Prelude.{All, map}
 use Rattle.std.specs.List.{flat_map}
-use Rattle.std.proofs.lemmas.List.{length-replicate}
 use Rattle.std.proofs.lemmas.List.Elements.{All-append, All-from_recursion}
 use Rattle.std.proofs.lemmas.List.FromFn.{length-range_with_len}
 use Rattle.std.proofs.lemmas.List.Sums.{length-filter, count_by-le-length}
 use Rattle.pb_rules.specs.Literal.{Literal}
 use Rattle.pb_rules.specs.Linear.{Linear, IsNormal}
-use Rattle.pb_rules.specs.Frames.{IsFrame}
 use Rattle.spec_model.specs.Spec.{SpecValue, below, those, message_at, arc_at, option_at, all_variables, arc_var, resource_var, link_var, step_var, covered_var}
 use Rattle.spec_model.specs.Rules.{of_task, of_task_on, options_of, goes_into, arcs_into, arcs_from, sender_of}
 use Rattle.spec_model.specs.WellFormed.{IsWellFormed}
