@@ -1,0 +1,5 @@
+pub mod Adding
+pub mod Forms
+pub mod Meaning
+pub mod Normal
+pub mod Framing
