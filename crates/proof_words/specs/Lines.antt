@@ -1,5 +1,5 @@
 -- The lines of a proof file, as words and as text.
-use Rattle.std.specs.Prelude.{ℕ, List, [], ◌∷◌, ◌++◌, map, codes, decimal, ◌≤◌, ◌^◌, Unit}
+use Rattle.std.specs.Prelude.{ℕ, List, [], ◌∷◌, ◌++◌, map, codes, decimal, ◌≤◌, ◌^◌}
 use Rattle.std.specs.List.{join_with_byte}
 use Rattle.line_words.specs.Rules.{Words}
 use Rattle.pb_rules.specs.declared.Op.{Op}
@@ -35,9 +35,9 @@ line_text (cover v) = cover_text v
 -- the operation that was read
 abbrev pub op_in : WordOp → Op
 op_in (Operation op) = op
-op_in (FarAxiom var yes) = Axiom (record { var = var; yes = yes })
+op_in (FarAxiom var is_yes) = Axiom (record { var = var; yes = is_yes })
 
 -- a far axiom is far: its variable is one that no literal has
 abbrev pub IsFarOnlyIfFar : WordOp → Type 0
 IsFarOnlyIfFar (Operation op) = Unit {0}
-IsFarOnlyIfFar (FarAxiom var yes) = 2 ^ 62 ≤ var
+IsFarOnlyIfFar (FarAxiom var is_yes) = 2 ^ 62 ≤ var

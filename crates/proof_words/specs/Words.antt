@@ -1,5 +1,6 @@
 -- The words of a derived line: how an operation is spelled, and which operation a word says.
-use Rattle.std.specs.Prelude.{ℕ, Unit, ◌≡◌, ◌<◌, ◌≤◌, ◌×◌, ◌^◌, ◌==◌, Bool, true, false, Option, Some, None, List, [], ◌∷◌, ◌++◌, if◌then◌else◌, codes, decimal, option_map, option_and_then, result_ok}
+use Rattle.std.specs.Prelude.{ℕ, ◌<◌, ◌^◌, ◌==◌, Bool, true, false, Option, Some, None, List, [], ◌∷◌, ◌++◌, if◌then◌else◌, codes, decimal, option_map, option_and_then}
+use Rattle.std.specs.Result.{result_ok}
 use Rattle.line_words.specs.Numbers.{plain_whole_of}
 use Rattle.pb_rules.specs.Literal.{Literal}
 use Rattle.pb_rules.specs.declared.Op.{Op}
@@ -36,7 +37,7 @@ alone op (b ∷ rest) = None
 
 -- the axiom of a variable or of its opposite
 abbrev pub axiom_on : Bool → ℕ → Op
-axiom_on yes n = Axiom (record { var = n; yes = yes })
+axiom_on is_yes n = Axiom (record { var = n; yes = is_yes })
 
 -- multiplication by a number of at least 1
 abbrev pub times_of : ℕ → Option Op

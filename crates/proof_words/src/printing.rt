@@ -39,10 +39,10 @@ fn put_op_text(alloc: Global, text: &mut Vec<u8>, op: Op) -> Result<(), AllocErr
     match op {
         Op::Id(id) => put_whole(alloc, text, id),
         Op::Axiom(lit) => put_axiom(alloc, text, lit),
-        Op::Add => text.push(b'+'),
+        Op::Add => text.extend_from_slice(b"+"),
         Op::Times(number) => put_marked(alloc, text, b'*', number),
         Op::Divide(number) => put_marked(alloc, text, b'/', number),
-        Op::Saturate => text.push(b's'),
+        Op::Saturate => text.extend_from_slice(b"s"),
         Op::Weaken(var) => put_marked(alloc, text, b'w', var),
     }
 }
