@@ -15,7 +15,7 @@ use Rattle.line_words.proofs.Whys.{both}
 use Rattle.pb_rules.specs.Literal.{Literal}
 use Rattle.pb_rules.specs.declared.Op.{Op}
 use Rattle.pb_rules.specs.declared.Op.TheVariants.{Id, Axiom, Add, Times, Divide, Saturate, Weaken}
-use Rattle.proof_words.specs.Words.{op_text, op_of, IsWritable, number_of, alone, axiom_on, times_of, after, opposite_of_word}
+use Rattle.proof_words.specs.Words.{op_text, op_of, IsWritable, number_of, alone, axiom_on, times_of, after, opposite_said}
 use Rattle.proof_words.proofs.Marks.{HasNoMark, op_of-numeral, after_some}
 
 -- ---- printed, and read
@@ -116,7 +116,7 @@ says_alone letter made (b ∷ rest) op here e = absurd (let f : none ≡ some op
 says_variable : (rest : List ℕ) (op : Op) → option_map (axiom_on true) (number_of rest) ≡ Some op → Says (120 ∷ rest) op
 says_variable rest op e = says_numbered (axiom_on true) (120 ∷ rest) rest op (λ n i. record { spelling = ap (λ (t : List ℕ). 120 ∷ t) i.text; writable = i.small }) e
 
-says_opposite : (rest : List ℕ) (op : Op) → opposite_of_word rest ≡ Some op → Says (126 ∷ rest) op
+says_opposite : (rest : List ℕ) (op : Op) → opposite_said rest ≡ Some op → Says (126 ∷ rest) op
 says_opposite rest op e = of_option (after 120 rest) refl e
   where
     of_option : (o : Option (List ℕ)) → after 120 rest ≡ o → option_map (axiom_on false) (option_and_then number_of o) ≡ Some op → Says (126 ∷ rest) op

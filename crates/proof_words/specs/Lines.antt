@@ -1,13 +1,10 @@
 -- The lines of a proof file, as words and as text.
-use Rattle.std.specs.Prelude.{ℕ, List, [], ◌∷◌, ◌++◌, map, codes, decimal, ◌≤◌, ◌^◌}
+use Rattle.std.specs.Prelude.{ℕ, List, [], ◌∷◌, ◌++◌, map, codes, decimal}
 use Rattle.std.specs.List.{join_with_byte}
 use Rattle.line_words.specs.Rules.{Words}
 use Rattle.pb_rules.specs.declared.Op.{Op}
-use Rattle.pb_rules.specs.declared.Op.TheVariants.{Axiom}
 use Rattle.pb_rules.specs.Frames.{Line, derived, cover}
 use Rattle.proof_words.specs.Words.{op_text}
-use Rattle.proof_words.specs.declared.reading.WordOp.{WordOp}
-use Rattle.proof_words.specs.declared.reading.WordOp.TheVariants.{Operation, FarAxiom}
 
 -- words as a line: one space between two, and LF at the end
 abbrev pub spelled : Words → List ℕ
@@ -31,13 +28,3 @@ cover_text v = spelled (cover_words v)
 abbrev pub line_text : Line → List ℕ
 line_text (derived ops) = derivation_text ops
 line_text (cover v) = cover_text v
-
--- the operation that was read
-abbrev pub op_in : WordOp → Op
-op_in (Operation op) = op
-op_in (FarAxiom var is_yes) = Axiom (record { var = var; yes = is_yes })
-
--- a far axiom is far: its variable is one that no literal has
-abbrev pub IsFarOnlyIfFar : WordOp → Type 0
-IsFarOnlyIfFar (Operation op) = Unit {0}
-IsFarOnlyIfFar (FarAxiom var is_yes) = 2 ^ 62 ≤ var

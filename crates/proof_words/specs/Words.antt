@@ -6,6 +6,28 @@ use Rattle.pb_rules.specs.Literal.{Literal}
 use Rattle.pb_rules.specs.declared.Op.{Op}
 use Rattle.pb_rules.specs.declared.Op.TheVariants.{Id, Axiom, Add, Times, Divide, Saturate, Weaken}
 
+-- the letters, each by its byte
+abbrev pub plus : ℕ
+plus = 43
+
+abbrev pub letter_s : ℕ
+letter_s = 115
+
+abbrev pub letter_x : ℕ
+letter_x = 120
+
+abbrev pub tilde : ℕ
+tilde = 126
+
+abbrev pub star : ℕ
+star = 42
+
+abbrev pub slash : ℕ
+slash = 47
+
+abbrev pub letter_w : ℕ
+letter_w = 119
+
 -- the one spelling of an operation
 abbrev pub op_text : Op → List ℕ
 op_text (Id i) = decimal i
@@ -49,19 +71,18 @@ after letter [] = None
 after letter (b ∷ rest) = if b == letter then Some rest else None
 
 -- the axiom of a variable's opposite, by what follows `~`
-abbrev pub opposite_of_word : List ℕ → Option Op
-opposite_of_word rest = option_map (axiom_on false) (option_and_then number_of (after 120 rest))
+abbrev pub opposite_said : List ℕ → Option Op
+opposite_said rest = option_map (axiom_on false) (option_and_then number_of (after letter_x rest))
 
--- The operation that a word says, if it is one. The letters are + s x ~ * / w; a word with none of them in front is a
--- numeral, or nothing.
+-- the operation that a word says, if it is one: a letter and what it wants after it, or a numeral
 abbrev pub op_of : List ℕ → Option Op
 op_of [] = None
 op_of (b ∷ rest) =
-    if b == 43 then alone Add rest
-    else if b == 115 then alone Saturate rest
-    else if b == 120 then option_map (axiom_on true) (number_of rest)
-    else if b == 126 then opposite_of_word rest
-    else if b == 42 then option_and_then times_of (number_of rest)
-    else if b == 47 then option_map Divide (number_of rest)
-    else if b == 119 then option_map Weaken (number_of rest)
+    if b == plus then alone Add rest
+    else if b == letter_s then alone Saturate rest
+    else if b == letter_x then option_map (axiom_on true) (number_of rest)
+    else if b == tilde then opposite_said rest
+    else if b == star then option_and_then times_of (number_of rest)
+    else if b == slash then option_map Divide (number_of rest)
+    else if b == letter_w then option_map Weaken (number_of rest)
     else option_map Id (number_of (b ∷ rest))

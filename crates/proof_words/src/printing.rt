@@ -10,12 +10,7 @@ use pb_rules::{Lit, Op};
 use std::alloc::{AllocError, Global};
 
 /// Appends a byte and a number.
-fn put_marked(
-    alloc: Global,
-    text: &mut Vec<u8>,
-    mark: u8,
-    number: u64,
-) -> Result<(), AllocError>
+fn put_marked(alloc: Global, text: &mut Vec<u8>, mark: u8, number: u64) -> Result<(), AllocError>
     ensures { OnOk result (text.new.items ≡ text.old.items ++ mark ∷ decimal number) }
 {
     text.push(mark)?;

@@ -1,8 +1,8 @@
 //! Reads a word of a derived line as an operation.
 
-ghost use Rattle.std.specs.Prelude.{ℕ, ◌≡◌, ◌<◌, ◌≤◌, ◌^◌, Some, None, MatchOption, IfSome, option_map, option_and_then};
-ghost use Rattle.proof_words.specs.Words.{number_of, axiom_on, times_of, alone, after, opposite_of_word, op_of};
-ghost use Rattle.proof_words.specs.Lines.{op_in, IsFarOnlyIfFar};
+ghost use Rattle.std.specs.Prelude.{◌≡◌, ◌<◌, Some, None, MatchOption, IfSome, option_map, option_and_then};
+ghost use Rattle.proof_words.specs.Words.{number_of, axiom_on, times_of, alone, after, opposite_said, op_of};
+ghost use Rattle.proof_words.specs.Said.{op_in, IsFarWhereSaid};
 ghost use Rattle.pb_rules.specs.declared.Op.TheVariants.{Id, Divide, Weaken};
 
 use line_words::plain_whole;
@@ -13,7 +13,8 @@ use pb_rules::{Lit, Op};
 pub enum WordOp {
     /// An operation that a log may have.
     Operation(Op),
-    /// The axiom of a variable, or of its opposite, whose number is 2^62 or more: no `Lit` has it, so no constraint.
+    /// The axiom of a variable or of its opposite, where the variable's number is 2^62 or more. No `Lit` has such a
+    /// variable, and so no constraint.
     FarAxiom { var: u64, yes: bool },
 }
 
@@ -27,8 +28,7 @@ fn after(word: &str, letter: char) -> Option<&str>
 
 /// The number that a numeral writes, where it is spelled well.
 fn number_of(numeral: &str) -> Option<u64>
-    ensures value { result ≡ number_of numeral.now }
-    ensures small { IfSome result (λ n. n < 2 ^ 63) }
+    ensures { result ≡ number_of numeral.now }
 {
     match plain_whole(numeral) {
         Ok(number) => Some(number),
@@ -39,7 +39,7 @@ fn number_of(numeral: &str) -> Option<u64>
 /// The axiom of a variable or of its opposite, by the variable's numeral.
 fn read_axiom(numeral: &str, yes: bool) -> Option<WordOp>
     ensures value { option_map op_in result ≡ option_map (axiom_on yes) (number_of numeral.now) }
-    ensures far { IfSome result IsFarOnlyIfFar }
+    ensures far { IfSome result IsFarWhereSaid }
 {
     match number_of(numeral) {
         None => None,
@@ -51,8 +51,8 @@ fn read_axiom(numeral: &str, yes: bool) -> Option<WordOp>
 
 /// The axiom of a variable's opposite, by what follows `~`.
 fn read_opposite(rest: &str) -> Option<WordOp>
-    ensures value { option_map op_in result ≡ opposite_of_word rest.now }
-    ensures far { IfSome result IsFarOnlyIfFar }
+    ensures value { option_map op_in result ≡ opposite_said rest.now }
+    ensures far { IfSome result IsFarWhereSaid }
 {
     match after(rest, 'x') {
         None => None,
@@ -63,7 +63,7 @@ fn read_opposite(rest: &str) -> Option<WordOp>
 /// The operation of a letter, where nothing follows it.
 fn alone(op: Op, rest: &str) -> Option<WordOp>
     ensures value { option_map op_in result ≡ alone op rest.now }
-    ensures far { IfSome result IsFarOnlyIfFar }
+    ensures far { IfSome result IsFarWhereSaid }
 {
     if !rest.is_empty() {
         return None;
@@ -74,7 +74,7 @@ fn alone(op: Op, rest: &str) -> Option<WordOp>
 /// Multiplication by the number of a numeral, if that isn't 0.
 fn read_times(numeral: &str) -> Option<WordOp>
     ensures value { option_map op_in result ≡ option_and_then times_of (number_of numeral.now) }
-    ensures far { IfSome result IsFarOnlyIfFar }
+    ensures far { IfSome result IsFarWhereSaid }
 {
     match number_of(numeral) {
         None | Some(0) => None,
@@ -84,7 +84,7 @@ fn read_times(numeral: &str) -> Option<WordOp>
 
 fn read_divide(numeral: &str) -> Option<WordOp>
     ensures value { option_map op_in result ≡ option_map Divide (number_of numeral.now) }
-    ensures far { IfSome result IsFarOnlyIfFar }
+    ensures far { IfSome result IsFarWhereSaid }
 {
     match number_of(numeral) {
         None => None,
@@ -94,7 +94,7 @@ fn read_divide(numeral: &str) -> Option<WordOp>
 
 fn read_weaken(numeral: &str) -> Option<WordOp>
     ensures value { option_map op_in result ≡ option_map Weaken (number_of numeral.now) }
-    ensures far { IfSome result IsFarOnlyIfFar }
+    ensures far { IfSome result IsFarWhereSaid }
 {
     match number_of(numeral) {
         None => None,
@@ -104,7 +104,7 @@ fn read_weaken(numeral: &str) -> Option<WordOp>
 
 fn read_id(numeral: &str) -> Option<WordOp>
     ensures value { option_map op_in result ≡ option_map Id (number_of numeral.now) }
-    ensures far { IfSome result IsFarOnlyIfFar }
+    ensures far { IfSome result IsFarWhereSaid }
 {
     match number_of(numeral) {
         None => None,
@@ -115,7 +115,7 @@ fn read_id(numeral: &str) -> Option<WordOp>
 /// The operation that a word says; `None` exactly where it says none. No memory is taken.
 pub fn read_op(word: &str) -> Option<WordOp>
     ensures value { option_map op_in result ≡ op_of word.now }
-    ensures far { IfSome result IsFarOnlyIfFar }
+    ensures far { IfSome result IsFarWhereSaid }
 {
     if let Some(rest) = after(word, '+') {
         return alone(Op::Add, rest);
