@@ -1,4 +1,5 @@
-//! Prints operations and lines.
+//! Prints operations and lines. Each line is built apart and appended in one step, so that want of memory leaves what
+//! was there.
 
 ghost use Rattle.std.specs.Prelude.{◌≡◌, ◌∷◌, ◌++◌, decimal, IfOk, OnOk, OnErr};
 ghost use Rattle.pb_rules.specs.declared.Op.TheVariants.{Axiom};
@@ -17,6 +18,7 @@ fn put_marked(alloc: Global, text: &mut Vec<u8>, mark: u8, number: u64) -> Resul
     put_whole(alloc, text, number)
 }
 
+/// Appends the word of a literal.
 fn put_axiom(alloc: Global, text: &mut Vec<u8>, lit: Lit) -> Result<(), AllocError>
     ensures { OnOk result (text.new.items ≡ text.old.items ++ op_text (Axiom lit)) }
 {

@@ -30,10 +30,7 @@ fn after(word: &str, letter: char) -> Option<&str>
 fn number_of(numeral: &str) -> Option<u64>
     ensures { result ≡ number_of numeral.now }
 {
-    match plain_whole(numeral) {
-        Ok(number) => Some(number),
-        Err(_) => None,
-    }
+    plain_whole(numeral).ok()
 }
 
 /// The axiom of a variable or of its opposite, by the variable's numeral.
@@ -82,34 +79,28 @@ fn read_times(numeral: &str) -> Option<WordOp>
     }
 }
 
+/// Division by the number of a numeral, which may be 0.
 fn read_divide(numeral: &str) -> Option<WordOp>
     ensures value { option_map op_in result ≡ option_map Divide (number_of numeral.now) }
     ensures far { IfSome result IsFarWhereSaid }
 {
-    match number_of(numeral) {
-        None => None,
-        Some(number) => Some(WordOp::Operation(Op::Divide(number))),
-    }
+    number_of(numeral).map(|number| WordOp::Operation(Op::Divide(number)))
 }
 
+/// Weakening on the variable of a numeral.
 fn read_weaken(numeral: &str) -> Option<WordOp>
     ensures value { option_map op_in result ≡ option_map Weaken (number_of numeral.now) }
     ensures far { IfSome result IsFarWhereSaid }
 {
-    match number_of(numeral) {
-        None => None,
-        Some(var) => Some(WordOp::Operation(Op::Weaken(var))),
-    }
+    number_of(numeral).map(|var| WordOp::Operation(Op::Weaken(var)))
 }
 
+/// The constraint whose id a numeral is.
 fn read_id(numeral: &str) -> Option<WordOp>
     ensures value { option_map op_in result ≡ option_map Id (number_of numeral.now) }
     ensures far { IfSome result IsFarWhereSaid }
 {
-    match number_of(numeral) {
-        None => None,
-        Some(id) => Some(WordOp::Operation(Op::Id(id))),
-    }
+    number_of(numeral).map(|id| WordOp::Operation(Op::Id(id)))
 }
 
 /// The operation that a word says; `None` exactly where it says none. No memory is taken.
