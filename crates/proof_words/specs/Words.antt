@@ -2,7 +2,6 @@
 use Rattle.std.specs.Prelude.{ℕ, ◌<◌, ◌^◌, ◌==◌, Bool, true, false, Option, Some, None, List, [], ◌∷◌, ◌++◌, if◌then◌else◌, codes, decimal, option_map, option_and_then}
 use Rattle.std.specs.Result.{result_ok}
 use Rattle.line_words.specs.Numbers.{plain_whole_of}
-use Rattle.pb_rules.specs.Literal.{Literal}
 use Rattle.pb_rules.specs.declared.Op.{Op}
 use Rattle.pb_rules.specs.declared.Op.TheVariants.{Id, Axiom, Add, Times, Divide, Saturate, Weaken}
 
