@@ -1,0 +1,13 @@
+//! What the definitions imply, as a function that does nothing: printer and reader of proof files rest on this law.
+
+ghost use Rattle.std.specs.Prelude.{ℕ, List, Some, ◌≡◌};
+ghost use Rattle.pb_rules.specs.declared.Op.{Op};
+ghost use Rattle.proof_words.specs.Words.{op_text, op_of, IsWritable};
+
+/// An operation has one spelling. What is printed of one that can be written is read as it; a word that says an
+/// operation is what is printed of it, and the operation is one that can be written.
+pub fn law_of_words()
+    ensures read_back { (op : Op) → IsWritable op → op_of (op_text op) ≡ Some op }
+    ensures spelling { (word : List ℕ) (op : Op) → op_of word ≡ Some op → op_text op ≡ word }
+    ensures writable { (word : List ℕ) (op : Op) → op_of word ≡ Some op → IsWritable op }
+{}
