@@ -1,4 +1,3 @@
 pub mod Decoder
 pub mod Decoding
-pub mod Frames
 pub mod Models
