@@ -67,6 +67,7 @@ impl Solver {
         ensures ok { OnOk result (self.new ≡ record self.old { variables = self.old.variables + more }) }
         ensures ready { OnOk result (self.old.spent ≡ false) }
         ensures spent { OnErr result (self.new.spent ≡ true) }
+        ensures still { self.old.spent ≡ true → self.new ≡ self.old }
     {
         if self.spent {
             return Err(AllocError);
@@ -84,6 +85,7 @@ impl Solver {
         ensures ok { OnOk result (self.new ≡ record self.old { given = self.old.given ++ record { constraint = c.now; proof_id = proof_id } ∷ [] }) }
         ensures ready { OnOk result (self.old.spent ≡ false) }
         ensures spent { OnErr result (self.new.spent ≡ true) }
+        ensures still { self.old.spent ≡ true → self.new ≡ self.old }
     {
         if self.spent {
             return Err(AllocError);
@@ -101,6 +103,7 @@ impl Solver {
         ensures ok { OnOk result (self.new ≡ record self.old { log = record self.old.log { lines = self.old.log.lines ++ cover v.now ∷ [] } }) }
         ensures ready { OnOk result (self.old.spent ≡ false) }
         ensures spent { OnErr result (self.new.spent ≡ true) }
+        ensures still { self.old.spent ≡ true → self.new ≡ self.old }
     {
         if self.spent {
             return Err(AllocError);
@@ -141,6 +144,7 @@ impl Solver {
         ensures same { OnOk result (self.new ≡ record self.old { log = self.new.log }) }
         ensures ready { OnOk result (self.old.spent ≡ false) }
         ensures spent { OnErr result (self.new.spent ≡ true) }
+        ensures still { self.old.spent ≡ true → self.new ≡ self.old }
     {
         if self.spent {
             return Err(AllocError);

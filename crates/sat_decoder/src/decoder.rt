@@ -97,6 +97,7 @@ impl<'a> Decoder<'a> {
         ensures spec { self.new.spec ≡ self.old.spec }
         ensures ready { OnOk result (self.old.spent ≡ false) }
         ensures spent { OnErr result (self.new.spent ≡ true) }
+        ensures still { self.old.spent ≡ true → self.new ≡ self.old }
     {
         if self.spent {
             return Err(AllocError);

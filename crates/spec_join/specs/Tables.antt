@@ -57,7 +57,7 @@ kind_at kinds t = slice_index_or kinds t 0
 abbrev pub task_row : Joining → Table → List KeyColumn → ℕ → Option Row
 task_row s table keys t = row_of table (rows_of keys) (kind_at s.task_kinds t)
 
--- a row counts by its mark, where the line has a column of marks
+-- a row counts unless its mark is 0, where the line has a column of marks
 abbrev pub counts_by : Option ℕ → Row → Bool
 counts_by None row = true
 counts_by (Some column) row = is_marked (cell_of row column)
@@ -156,7 +156,7 @@ KeyBreaks s row why k = (is_table_key k.key ≡ false) × CellBreaks (weight_tak
 abbrev pub ValuesBreak : Joining → List KeyColumn → Row → Why → Type 0
 ValuesBreak s keys row why = TimeColumnBreaks s (column_of keys (codes "time")) row why ⊎ Any (KeyBreaks s row why) keys
 
--- what a row is refused for from which a task may get an option: its mark, and only where it counts its other cells
+-- what a row is refused for from which a task may get an option: its mark, and unless that is 0 its other cells
 abbrev pub RowBreaks : Joining → List KeyColumn → Row → Why → Type 0
 RowBreaks s keys row why = MarkColumnBreaks (column_of keys (codes "valid")) row why ⊎ ((does_count keys row ≡ true) × ValuesBreak s keys row why)
 

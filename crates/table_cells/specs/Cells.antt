@@ -55,12 +55,12 @@ abbrev pub is_other_than_0 : ℤ → Bool
 is_other_than_0 (pos n) = not (n == 0)
 is_other_than_0 (negsuc n) = true
 
--- the reading of a mark says that the row counts
+-- the reading of a mark isn't 0; where it is no number, the row counts and is refused for that
 abbrev pub is_marked_by : Result ℤ NumberFault → Bool
 is_marked_by (Ok amount) = is_other_than_0 amount
-is_marked_by (Err fault) = false
+is_marked_by (Err fault) = true
 
--- a mark says that its row counts
+-- a row counts unless its mark is 0, also where the mark is missing
 abbrev pub is_marked : Option (List ℕ) → Bool
-is_marked None = false
+is_marked None = true
 is_marked (Some word) = is_marked_by (decimal_of word)

@@ -83,15 +83,15 @@ pub fn mark_fault(cell: Option<&str>) -> Option<Why>
     }
 }
 
-/// Whether a mark says that its row counts: a number other than 0.
+/// Whether a row counts by its mark: unless that is 0. One that is missing or no number isn't 0.
 pub fn is_marked(cell: Option<&str>) -> bool
     ensures { result ≡ is_marked (option_map (λ c. c.now) cell.entry) }
 {
     match cell {
         Some(word) => match decimal(word) {
             Ok(amount) => amount != 0,
-            Err(_) => false,
+            Err(_) => true,
         },
-        None => false,
+        None => true,
     }
 }

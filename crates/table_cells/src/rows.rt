@@ -1,8 +1,8 @@
 //! The tables and rows that are meant.
 
-ghost use Rattle.std.specs.Prelude.{◌≡◌, ◌<◌, length, None, MatchOption};
+ghost use Rattle.std.specs.Prelude.{◌≡◌, ◌<◌, length, None, IfSome, MatchOption};
 ghost use Rattle.std.specs.Option.{option_map};
-ghost use Rattle.tgff_reader.specs.Looking.{table_at};
+ghost use Rattle.tgff_reader.specs.Looking.{table_at, IsFirstOfKind};
 ghost use Rattle.table_cells.specs.Rows.{table_called, row_of, first_cell_of, IsFoundTable, IsFoundRow};
 
 use tgff_reader::Tgff;
@@ -17,7 +17,8 @@ pub fn find_table(tgff: &Tgff, name: &str, index: u64) -> Option<usize>
 /// The place of the first row of a table, from a place on, whose first word reads as a type, where there is one.
 pub fn find_row(tgff: &Tgff, table: usize, from: u64, kind: u64) -> Option<usize>
     requires { table < length tgff.now.tables }
-    ensures { MatchOption result (row_of (table_at tgff.now.tables table) from kind ≡ None) (IsFoundRow (table_at tgff.now.tables table) from kind) }
+    ensures found { MatchOption result (row_of (table_at tgff.now.tables table) from kind ≡ None) (IsFoundRow (table_at tgff.now.tables table) from kind) }
+    ensures first { IfSome result (IsFirstOfKind (table_at tgff.now.tables table) from kind) }
 {
     tgff.find_row(table, from as usize, kind)
 }

@@ -42,8 +42,8 @@ fn marks(rt: HostRuntime) -> Result<(), Fail> {
         (Some("0.0"), None, false),
         (Some("1"), None, true),
         (Some("-1"), None, true),
-        (Some("x"), Some(Why::BadNumber), false),
-        (None, Some(Why::NoRow), false),
+        (Some("x"), Some(Why::BadNumber), true),
+        (None, Some(Why::NoRow), true),
     ] {
         let word = cell.unwrap_or("");
         assert!(rt; mark_fault(cell) == fault, "{}", word);
