@@ -13,3 +13,4 @@ pub mod Tests
 pub mod Along
 pub mod Sums
 pub mod Chains
+pub mod Vectors
