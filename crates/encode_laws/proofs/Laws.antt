@@ -26,7 +26,7 @@ use Rattle.encode_laws.proofs.Walked.{IsWalked, walked_of, steps_agree, covers_a
 use Rattle.encode_laws.proofs.Allocated.{HasParts, has_parts, needed_of_resource, resource_of_needed, needed_of_link, link_of_needed, allocation_of}
 use Rattle.encode_laws.proofs.Routed.{option_holds, route_model_of}
 use Rattle.encode_laws.proofs.ModelBits.{step_reads, cover_reads, design_reads}
-use Rattle.encode_laws.proofs.Places.{agree_at}
+use Rattle.spec_model.proofs.Places.{agree_at}
 
 pub same_view : (s : SpecValue) (f : Bits) → IsSameDesign s f (view s f)
 same_view s f v l = sym (ap (λ (b : Bool). cond b (f v) false) (lt-ltb v (design_variables s) l))

@@ -2,6 +2,7 @@
 use Rattle.std.proofs.Common.{◌≡◌, ℕ, zero, suc, ◌+◌, ◌*◌, ◌<◌, ◌≤◌, ◌^◌, Bool, true, false, cond, List, [], ◌∷◌, ◌++◌, length, refl, sym, ap, ◌∙◌, subst, arith, add-one, ◌⊎◌, inl, inr}
 use Rattle.std.specs.Prelude.{map, nat_lt, All}
 use Rattle.std.specs.List.{flat_map, sum_by, range_with_len}
+use Rattle.std.proofs.lemmas.List.Elements.{All-cons, All-head, All-tail}
 use Rattle.std.proofs.lemmas.List.Sums.{sum_by-cons}
 use Rattle.std.proofs.lemmas.Bool.{lt-ltb, ltb-true, ltb-false, cases_lt}
 use Rattle.pb_rules.specs.declared.Term.{Term}
@@ -9,7 +10,8 @@ use Rattle.pb_rules.specs.Linear.{Linear, IsNormal, VarsBelow, total}
 use Rattle.spec_model.specs.Spec.{below, those}
 use Rattle.spec_model.proofs.Those.{those-more, below-more, flat_map-below_more}
 use Rattle.pb_rules.proofs.Rows.{From, from-pairs}
-use Rattle.encode_model.specs.Encoding.{put, by_variable, at_least}
+use Rattle.spec_model.proofs.Joined.{All-those}
+use Rattle.encode_model.specs.Encoding.{weighted, has_weight, put, by_variable, at_least}
 use Rattle.encode_model.specs.Rising.{RisesWithin, IsTermFrom, TermsWithin, IsRising}
 
 -- lists of numbers
@@ -69,10 +71,17 @@ rises-pieces g c zero h = omega arith
 rises-pieces g c (suc n) h =
     subst (λ (k : ℕ). RisesWithin (c 0) (c k) (flat_map g (below k))) (add-one n) (subst (λ (xs : List ℕ). RisesWithin (c 0) (c (n + 1)) xs) (sym (flat_map-below_more g n)) (joined (c 0) (c n) (c (n + 1)) (flat_map g (below n)) (g n) (rises-pieces g c n (λ i l. h i (omega arith))) (h n (omega arith))))
 
+-- a literal with coefficient 1
+abbrev pub literal : Bool → ℕ → Term
+literal sign v = record { coef = 1; lit = record { var = v; yes = sign } }
+
+pub literal_from : (a v : ℕ) (y : Bool) → a ≤ v → IsTermFrom (2 ^ 40) a (literal y v)
+literal_from a v y h = record { from = h; some = omega arith; small = omega arith }
+
 -- lists of terms
-pub literals : (a b : ℕ) (y : Bool) (vs : List ℕ) → RisesWithin a b vs → TermsWithin (2 ^ 40) a b (map (λ v. record { coef = 1; lit = record { var = v; yes = y } }) vs)
+pub literals : (a b : ℕ) (y : Bool) (vs : List ℕ) → RisesWithin a b vs → TermsWithin (2 ^ 40) a b (map (literal y) vs)
 literals a b y [] h = h
-literals a b y (v ∷ vs) h = (record { from = h.0; some = omega arith; small = omega arith }, literals (v + 1) b y vs h.1)
+literals a b y (v ∷ vs) h = (literal_from a v y h.0, literals (v + 1) b y vs h.1)
 
 pub terms_bounds : (c a b : ℕ) (ts : List Term) → TermsWithin c a b ts → a ≤ b
 terms_bounds c a b [] h = h
@@ -90,6 +99,10 @@ terms_joined d a b c (t ∷ ts) us h g = (h.0, terms_joined d (t.lit.var + 1) b 
 -- one term behind others
 pub terms_then : (d a b : ℕ) (ts : List Term) (t : Term) → TermsWithin d a b ts → IsTermFrom d b t → TermsWithin d a (t.lit.var + 1) (ts ++ t ∷ [])
 terms_then d a b ts t h g = terms_joined d a b (t.lit.var + 1) ts (t ∷ []) h (g, omega arith)
+
+-- the same where coefficients are as small as weights are
+pub small_wider : (a b i j : ℕ) (ts : List Term) → i ≤ a → b ≤ j → TermsWithin (2 ^ 40) a b ts → TermsWithin (2 ^ 40) i j ts
+small_wider a b i j ts hl hr h = terms_wider (2 ^ 40) (2 ^ 40) a b i j ts (omega arith) hl hr h
 
 -- no term of a list is of the variable
 abbrev pub LacksVariable : ℕ → List Term → Type 0
@@ -120,6 +133,37 @@ put_first c b t (u ∷ us) h = ap (λ (q : Bool). cond q (t ∷ (u ∷ us)) (u �
 pub sorted_already : (c a b : ℕ) (ts : List Term) → TermsWithin c a b ts → by_variable ts ≡ ts
 sorted_already c a b [] h = refl
 sorted_already c a b (t ∷ ts) h = ap (put t) (sorted_already c (t.lit.var + 1) b ts h.1) ∙ put_first c b t ts h.1
+
+-- what holds of each term holds of each where they are put in order
+put_each : (P : Term → Type 0) (t : Term) (ts : List Term) → P t → All P ts → All P (put t ts)
+put_each P t [] p h = All-cons P t [] p h
+put_each P t (u ∷ us) p h = at (nat_lt t.lit.var u.lit.var) (put_each P t us p (All-tail P u us h))
+  where
+    at : (q : Bool) → All P (put t us) → All P (cond q (t ∷ (u ∷ us)) (u ∷ put t us))
+    at true later = All-cons P t (u ∷ us) p h
+    at false later = All-cons P u (put t us) (All-head P u us h) later
+
+sorted_each : (P : Term → Type 0) (ts : List Term) → All P ts → All P (by_variable ts)
+sorted_each P [] h = h
+sorted_each P (t ∷ ts) h = put_each P t (by_variable ts) (All-head P t ts h) (sorted_each P ts (All-tail P t ts h))
+
+pub at_least-each : (P : Term → Type 0) (n : ℕ) (ts : List Term) → All P ts → All P (at_least n ts).terms
+unfolding at_least
+at_least-each P n ts h = sorted_each P ts h
+
+-- the variables that have a weight, each with it
+weights_within : (weight : ℕ → ℕ) (sign : Bool) (a b : ℕ) (xs : List ℕ) → RisesWithin a b xs → All (λ x. (0 < weight x) × (weight x ≤ 2 ^ 40)) xs → TermsWithin (2 ^ 40) a b (map (weighted weight sign) xs)
+unfolding weighted
+weights_within weight sign a b [] h small = h
+weights_within weight sign a b (x ∷ xs) h small =
+    let one = All-head (λ (y : ℕ). (0 < weight y) × (weight y ≤ 2 ^ 40)) x xs small in
+    (record { from = h.0; some = one.0; small = one.1 }, weights_within weight sign (x + 1) b xs h.1 (All-tail (λ (y : ℕ). (0 < weight y) × (weight y ≤ 2 ^ 40)) x xs small))
+
+pub weights_rise : (weight : ℕ → ℕ) (sign : Bool) (n : ℕ) → ((x : ℕ) → weight x ≤ 2 ^ 40) → TermsWithin (2 ^ 40) 0 n (map (weighted weight sign) (those (has_weight weight) n))
+unfolding has_weight
+weights_rise weight sign n small =
+    weights_within weight sign 0 n (those (has_weight weight) n) (rises-numbers (has_weight weight) n)
+    (All-those (λ (x : ℕ). (0 < weight x) × (weight x ≤ 2 ^ 40)) (has_weight weight) n (λ x l e. (ltb-true 0 (weight x) e, small x)))
 
 -- a constraint whose terms are in order, and one of which the first was put in its place
 pub at_least-within : (c a b m : ℕ) (ts : List Term) → TermsWithin c a b ts → at_least m ts ≡ record { terms = ts; degree = m }

@@ -14,3 +14,4 @@ pub mod Along
 pub mod Sums
 pub mod Chains
 pub mod Vectors
+pub mod Places
