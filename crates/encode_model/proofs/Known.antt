@@ -26,11 +26,11 @@ eqb_self n = grind (arith, nat_tests)
 pub mentions_of : (x : ℕ) (ts : List Term) → HasVariable x ts → mentions x ts ≡ true
 mentions_of x [] h = absurd h
 mentions_of x (t ∷ ts) (inl e) = ap (λ (b : Bool). cond b true (mentions x ts)) (subst (λ (y : ℕ). eqb t.lit.var y ≡ true) e (eqb_self t.lit.var))
-mentions_of x (t ∷ ts) (inr h) = go (eqb t.lit.var x)
+mentions_of x (t ∷ ts) (inr h) = go (mentions_of x ts h) (eqb t.lit.var x)
   where
-    go : (b : Bool) → cond b true (mentions x ts) ≡ true
-    go true = refl
-    go false = mentions_of x ts h
+    go : mentions x ts ≡ true → (b : Bool) → cond b true (mentions x ts) ≡ true
+    go later true = refl
+    go later false = later
 
 put_keeps : (x : ℕ) (t : Term) (us : List Term) → HasVariable x (t ∷ us) → HasVariable x (put t us)
 put_keeps x t [] h = h

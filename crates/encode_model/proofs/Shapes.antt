@@ -88,7 +88,7 @@ module _ (s : SpecValue) (m : ℕ) (hm : m < length s.messages) where
   carried a p q t ha hp hq ne ht =
       let u = arc_var s m a in
       let later = arc_step a q (t + 1) false true ha hq (omega (arith, ht)) in
-      let here = arc_step a p t false true ha hp (omega (arith, ht)) in
+      let here = arc_step a p t false false ha hp (omega (arith, ht)) in
       record { rises = (literal_from 0 u false (omega arith), terms_put (2 ^ 40) (u + 1) (all_variables s) (negative (step_var s m p t)) (positive (step_var s m q (t + 1)) ∷ []) here.rises.1.0 (step_var-lt s m p t hm hp (omega (arith, ht))) ((λ e. steps_apart q p (t + 1) t (omega (arith, ht)) (omega (arith, ht)) (λ e'. ne (sym e')) e), tt) later.rises.1) }
 
   -- the steps of the neighbours of a resource
