@@ -18,6 +18,3 @@ mod scan;
 
 pub use attached::Attached;
 pub use propagator::Propagator;
-
-#[cfg(test)]
-mod tests;

@@ -1,4 +1,5 @@
-use super::*;
+//! A genotype, its text and its order.
+use genotype::{Gene, Genotype, Order, print_genotype, read_genotype};
 use line_words::{ReadFault, Why};
 use pb_rules::Lit;
 use std::test::Fail;

@@ -1,5 +1,6 @@
 //! Each rule once, on three literals of one coefficient.
-use super::*;
+use cutting_planes::{RuleFault, add, axiom, divide, saturate, times, weaken};
+use pb_constraints::{Constraint, Lit};
 use std::process::Abort;
 use std::test::Fail;
 

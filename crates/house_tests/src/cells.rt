@@ -1,6 +1,7 @@
-use super::*;
+//! The numbers of cells, and marks.
 use line_words::Why;
 use std::test::Fail;
+use table_cells::{Taking, amount_in, cell_fault, is_marked, mark_fault};
 
 #[test]
 fn numbers(rt: HostRuntime) -> Result<(), Fail> {

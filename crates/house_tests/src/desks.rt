@@ -1,4 +1,5 @@
-use super::*;
+//! Each desk, with a file written in pieces.
+use desk_io::{Desk, DeskError, MemoryDesk, RealDesk, SureDesk};
 use std::process::Abort;
 use std::test::Fail;
 

@@ -7,9 +7,13 @@ ghost use Rattle.pb_rules.specs.Linear.{Linear};
 ghost use Rattle.pb_rules.specs.declared.Term.{Term};
 ghost use Rattle.constraint_store.specs.Live.{is_live, constraint_of};
 
-use super::*;
-use pb_constraints::{Lit, Term};
+use conflict_graph::{Learned, analyse};
+use constraint_store::Store;
+use pb_constraints::{ConId, Constraint, Lit, Term};
+use proof_log::Log;
+use std::alloc::{AllocError, Global};
 use std::test::Fail;
+use trail_state::Trail;
 
 /// The clause of one literal.
 fn unit(alloc: Global, lit: Lit) -> Result<Constraint, AllocError>

@@ -1,6 +1,7 @@
 //! The calls that take memory, and one walk over two levels.
-use super::*;
+use pb_constraints::{ConId, Lit};
 use std::test::Fail;
+use trail_state::Trail;
 
 #[test]
 fn keeps_what_stands_below_a_jump(rt: HostRuntime) -> Result<(), Fail> {

@@ -1,40 +1,6 @@
-use super::*;
-use line_words::{FileTag, ReadFault, Why};
-use std::alloc::Global;
+//! A file with two graphs and a table.
 use std::test::Fail;
-
-/// Whether a file is refused so.
-fn is_refused(alloc: Global, bytes: &[u8], line: u64, why: Why) -> bool {
-    if bytes.len() > 16_777_216 {
-        return false;
-    }
-    match read_tgff(alloc, bytes) {
-        Err(ReadFault::Refused(refusal)) => {
-            refusal.file == FileTag::Tgff && refusal.line == line && refusal.why == why
-        }
-        _ => false,
-    }
-}
-
-#[test]
-fn refused(rt: HostRuntime) -> Result<(), Fail> {
-    let alloc = rt.alloc();
-    for (text, line, why) in [
-        ("@TASK_GRAPH 0 {\nTASK t TYPE 1\n", 3, Why::Unclosed),
-        ("}\n", 1, Why::StrayClose),
-        ("@PE 0 {\n@TASK_GRAPH 0 {\n", 2, Why::Unclosed),
-        ("@ {\n}\n", 1, Why::BadStatement),
-        (
-            "@TASK_GRAPH 0 {\nTASK a TYPE 0\nTASK b TYPE 0\nTASK c TYPE 0\nARC x FROM a TO b TYPE 0\n\
-            ARC y FROM b TO c TYPE 0\nARC z FROM c TO a TYPE 0\n}\n",
-            7,
-            Why::Cyclic,
-        ),
-    ] {
-        assert!(rt; is_refused(alloc, text.as_bytes(), line, why), "{}", text);
-    }
-    Ok(())
-}
+use tgff_reader::{Graph, Tgff, TgffTask, read_tgff};
 
 /// Whether a task has this name and this type.
 fn is_task(task: &TgffTask, name: &str, kind: u64) -> bool {

@@ -1,4 +1,5 @@
-use super::*;
+//! Lines, words and numbers.
+use line_words::{Line, Lines, NumberFault, Refusal1, Why, decimal, plain_whole, put_whole, whole};
 use std::alloc::{AllocError, Global};
 use std::test::Fail;
 

@@ -1,10 +1,10 @@
-//! The four clauses over two variables and their first two, and small lists of constraints against plain listing.
+//! The four clauses over two variables and their first two, and a solver that grows between its calls.
 
 ghost use Rattle.std.specs.Prelude.{◌≡◌, ◌<◌, IfOk, length};
 
-use super::*;
 use genotype::{Genotype, Order};
-use pb_constraints::{Constraint, Lit, NormalFault, Part, Set, holds_under, normalise};
+use ordered_solver::{Answer, Solver};
+use pb_constraints::{Constraint, Lit, NormalFault, Part, Set, normalise};
 use std::alloc::{AllocError, Global};
 use std::test::Fail;
 
@@ -84,105 +84,6 @@ fn three_solvers(rt: HostRuntime) -> Result<(), Fail> {
         matches!(answer, Answer::Model(ref values) if values.as_slice() == [true, false].as_slice())
     );
     assert_eq!(rt; learned, 1);
-    Ok(())
-}
-
-/// Whether the values satisfy all constraints of a set.
-fn satisfy(set: &Set, values: &[bool]) -> bool
-    requires { length values.now ≡ set.now.variables }
-{
-    let constraints = set.constraints();
-    for c in constraints {
-        if !holds_under(c, values) {
-            return false;
-        }
-    }
-    true
-}
-
-/// The first of the eight assignments in natural order that satisfies a set over three variables.
-fn listed(set: &Set) -> Option<[bool; 3]>
-    requires { set.now.variables ≡ 3 }
-{
-    for x0 in [false, true] {
-        for x1 in [false, true] {
-            for x2 in [false, true] {
-                let values = [x0, x1, x2];
-                if satisfy(set, &values) {
-                    return Some(values);
-                }
-            }
-        }
-    }
-    None
-}
-
-/// A number that another one gives.
-fn next(state: u64) -> u64 {
-    state % 65537 * 75 % 65537
-}
-
-/// A part with a coefficient below 4.
-fn part(var: u64, state: u64) -> Part
-    requires { var < 3 }
-{
-    let lit = if state % 2 == 0 {
-        Lit::yes(var)
-    } else {
-        Lit::no(var)
-    };
-    let coef = (state / 2 % 4) as i64;
-    Part { coef, lit }
-}
-
-/// Adds a constraint that a number gives to a set over three variables.
-fn add_given(set: &mut Set, alloc: Global, state: u64) -> Result<(), Fail>
-    requires { set.old.variables ≡ 3 }
-    ensures { set.new.variables ≡ 3 }
-{
-    let second = next(state);
-    let third = next(second);
-    let degree = (next(third) % 6) as i64;
-    let parts = [part(0, state), part(1, second), part(2, third)];
-    let c = normalise(alloc, &parts, degree)?;
-    if c.terms().iter().all(|t| t.lit.var() < 3) {
-        set.add(c)?;
-    }
-    Ok(())
-}
-
-/// Four constraints over three variables that a number gives.
-fn set_of(alloc: Global, seed: u64) -> Result<Set, Fail>
-    requires { seed < 100 }
-    ensures { IfOk result (λ s. s.variables ≡ 3) }
-{
-    let mut set = Set::new(alloc, 3);
-    add_given(&mut set, alloc, seed)?;
-    add_given(&mut set, alloc, seed * 7 + 1000)?;
-    add_given(&mut set, alloc, seed * 31 + 2000)?;
-    add_given(&mut set, alloc, seed * 57 + 3000)?;
-    Ok(set)
-}
-
-/// Whether a new solver finds the listed assignment, or that there is none.
-fn finds_listed(alloc: Global, seed: u64) -> Result<bool, Fail>
-    requires { seed < 100 }
-{
-    let set = set_of(alloc, seed)?;
-    let first = listed(&set);
-    match (solve_new(alloc, set, 100)?.0, first) {
-        (Answer::Model(values), Some(first)) => Ok(values.as_slice() == first.as_slice()),
-        (Answer::Nothing, None) => Ok(true),
-        _ => Ok(false),
-    }
-}
-
-#[test]
-fn first_models_are_the_listed_ones(rt: HostRuntime) -> Result<(), Fail> {
-    let alloc = rt.alloc();
-    for seed in 1..60 {
-        assert!(rt; finds_listed(alloc, seed)?, "{}", seed);
-    }
     Ok(())
 }
 

@@ -1,5 +1,6 @@
-use super::*;
+//! The words of proof lines.
 use pb_rules::{Lit, Op};
+use proof_words::{WordOp, put_cover, put_derivation, put_op, read_op};
 use std::test::Fail;
 
 /// The operation that is wanted, where it has no far variable.
