@@ -2,7 +2,7 @@ use Rattle.std.proofs.Common.{◌≡◌, ◌<◌, ◌≤◌, ◌+◌, ◌++◌, 
 use Rattle.pb_rules.specs.declared.Term.{Term}
 use Rattle.pb_rules.specs.Literal.{Literal}
 use Rattle.pb_rules.specs.Linear.{IsNormal}
-use Rattle.conflict_graph.proofs.tests.clause.Goals as goal
+use Rattle.solver_tests.proofs.learning.clause.Goals as goal
 
 abbrev two : Literal → Literal → List Term
 two l m = record { coef = 1; lit = l } ∷ record { coef = 1; lit = m } ∷ []

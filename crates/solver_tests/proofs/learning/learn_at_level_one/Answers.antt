@@ -7,7 +7,7 @@ use Rattle.pb_rules.specs.Partial.{InConflict, Forces}
 use Rattle.constraint_store.specs.Live.{Live, is_live, constraint_of}
 use Rattle.trail_state.specs.Trail.{Entry, TrailView, value_in}
 use Rattle.conflict_graph.specs.Conditions.{IsUsable, IsForcedBy, AllForced, HasCurrent}
-use Rattle.conflict_graph.proofs.tests.learn_at_level_one.Goals as goal
+use Rattle.solver_tests.proofs.learning.learn_at_level_one.Goals as goal
 
 term : ℕ → Bool → Term
 term x b = record { coef = 1; lit = record { var = x; yes = b } }

@@ -2,7 +2,7 @@ use Rattle.std.proofs.Common.{◌≡◌, ◌<◌, ◌≤◌, ◌+◌, ◌++◌, 
 use Rattle.pb_rules.specs.declared.Term.{Term}
 use Rattle.pb_rules.specs.Literal.{Literal}
 use Rattle.pb_rules.specs.Linear.{IsNormal}
-use Rattle.conflict_graph.proofs.tests.unit.Goals as goal
+use Rattle.solver_tests.proofs.learning.unit.Goals as goal
 
 abbrev one : Literal → List Term
 one l = record { coef = 1; lit = l } ∷ []
