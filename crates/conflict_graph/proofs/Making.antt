@@ -1,3 +1,4 @@
+-- The false terms of a constraint, cut and divided, are the clause of their literals; weakening takes out the others.
 use Rattle.std.proofs.Common.{◌≡◌, ℕ, ◌+◌, ◌/◌, ◌%◌, ◌<◌, ◌≤◌, Bool, true, false, cond, eqb, ltb, Option, Some, None, List, [], ◌∷◌, ◌++◌, refl, sym, ap, ◌∙◌, subst, arith, inl, inr, zero, suc, map, get_or, length, min}
 use Rattle.std.proofs.lemmas.Bool.{cases_eq}
 use Rattle.std.proofs.lemmas.Bool.Decides.{nat_tests}
@@ -6,19 +7,15 @@ use Rattle.pb_rules.specs.declared.Term.{Term}
 use Rattle.pb_rules.specs.Linear.{IsNormal}
 use Rattle.pb_rules.specs.Partial.{is_false}
 use Rattle.pb_rules.specs.CuttingPlanes.{up, divided, cut, coef_of, without_var}
-use Rattle.pb_rules.specs.Clauses.{with_literal, clause_row, false_terms, false_signs}
-use Rattle.pb_rules.proofs.Rows.{From, From-weaker, row-agree}
+use Rattle.pb_rules.proofs.Rising.{From, From-weaker, rising-from}
+use Rattle.conflict_graph.specs.Clauses.{with_literal, clause_row, false_terms, false_signs}
+use Rattle.conflict_graph.proofs.Rows.{row-agree}
 
 -- what a constraint's terms are from a variable on, up to a bound
 pub record Terms (k n : ℕ) (ts : List Term) : Type 0 where
   pub from : From k ts
   pub within : (i : ℕ) (d : Term) → i < length ts → (get_or ts i d).lit.var < n
   pub positive : (i : ℕ) (d : Term) → i < length ts → 0 < (get_or ts i d).coef
-
-pub rising-from : (k : ℕ) (ts : List Term) → ((d : Term) → 0 < length ts → k ≤ (get_or ts 0 d).lit.var) → ((i j : ℕ) (d : Term) → i < j → j < length ts → (get_or ts i d).lit.var < (get_or ts j d).lit.var) → From k ts
-rising-from k [] b h = tt
-rising-from k (t ∷ ts) b h =
-    (b t (omega arith), rising-from (t.lit.var + 1) ts (λ d l. (let r = h 0 1 d (omega arith) (omega arith) in omega arith)) (λ i j d l m. h (suc i) (suc j) d (omega arith) (omega arith)))
 
 pub Terms-of : (n : ℕ) (ts : List Term) (degree : ℕ) → IsNormal ts degree → ((i : ℕ) (d : Term) → i < length ts → (get_or ts i d).lit.var < n) → Terms 0 n ts
 Terms-of n ts degree h w = record { from = rising-from 0 ts (λ d l. omega arith) h.rising; within = w; positive = h.positive }

@@ -1,34 +1,13 @@
-use Rattle.std.proofs.Common.{◌≡◌, ◌≢◌, ℕ, ◌+◌, ◌<◌, ◌≤◌, Bool, true, false, cond, eqb, ltb, Option, Some, None, List, [], ◌∷◌, ◌++◌, length, get_or, refl, sym, ap, ◌∙◌, subst, arith, inl, inr, ◌⊎◌, zero, suc}
+-- Clauses as rows of signs: the sum of two is their resolvent.
+use Rattle.std.proofs.Common.{◌≡◌, ◌≢◌, ℕ, ◌+◌, ◌<◌, ◌≤◌, Bool, true, false, cond, eqb, ltb, Option, Some, None, List, [], ◌∷◌, ◌++◌, refl, sym, ap, ◌∙◌, subst, arith, inl, inr, ◌⊎◌, zero, suc}
 use Rattle.std.proofs.lemmas.Bool.{cases_eq}
 use Rattle.std.proofs.lemmas.Bool.Decides.{nat_tests}
-use Rattle.std.proofs.lemmas.List.Sums.{sum_by-cons}
 use Rattle.pb_rules.specs.declared.Term.{Term}
 use Rattle.pb_rules.specs.Linear.{Linear, total}
 use Rattle.pb_rules.specs.CuttingPlanes.{Sum, same_sign, onto, joined, merge, add, cut, saturate}
-use Rattle.pb_rules.specs.Clauses.{with_literal, clause_row, clause_of}
-
--- in rising order from a variable on
-abbrev pub From : ℕ → List Term → Type 0
-From k [] = Unit {0}
-From k (t ∷ ts) = (k ≤ t.lit.var) × From (t.lit.var + 1) ts
-
-pub From-weaker : (j k : ℕ) (ts : List Term) → j ≤ k → From k ts → From j ts
-From-weaker j k [] l h = tt
-From-weaker j k (t ∷ ts) l h = let a = h.0 in (omega arith, h.1)
-
--- no variable comes before the first
-pub from-least : (k : ℕ) (ts : List Term) → From k ts → (j : ℕ) (d : Term) → j < length ts → k ≤ (get_or ts j d).lit.var
-from-least k [] f j d l = absurd (omega arith)
-from-least k (t ∷ ts) f zero d l = f.0
-from-least k (t ∷ ts) f (suc j) d l = let a = f.0 in let b = from-least (t.lit.var + 1) ts f.1 j d (omega arith) in omega arith
-
--- rising from a variable on, for each pair of places
-pub from-pairs : (k : ℕ) (ts : List Term) → From k ts → (i j : ℕ) (d : Term) → i < j → j < length ts → (get_or ts i d).lit.var < (get_or ts j d).lit.var
-from-pairs k [] f i j d l m = absurd (omega arith)
-from-pairs k (t ∷ ts) f zero zero d l m = absurd (omega arith)
-from-pairs k (t ∷ ts) f zero (suc j) d l m = let a = from-least (t.lit.var + 1) ts f.1 j d (omega arith) in omega arith
-from-pairs k (t ∷ ts) f (suc i) zero d l m = absurd (omega arith)
-from-pairs k (t ∷ ts) f (suc i) (suc j) d l m = from-pairs (t.lit.var + 1) ts f.1 i j d (omega arith) (omega arith)
+use Rattle.pb_rules.proofs.Rising.{From, From-weaker}
+use Rattle.pb_rules.proofs.Merges.{total-cons}
+use Rattle.conflict_graph.specs.Clauses.{with_literal, clause_row, clause_of}
 
 pub from_row : (n k : ℕ) (f : ℕ → Option Bool) → From k (clause_row n k f)
 from_row zero k f = tt
@@ -84,9 +63,6 @@ pub record IsResolved (s : Sum) (row : List Term) (lost bound : ℕ) : Type 0 wh
   pub terms : cut 1 s.terms ≡ row
   pub cancelled : s.cancelled ≡ lost
   pub small : total s.terms ≤ bound
-
-total-cons : (t : Term) (ts : List Term) → total (t ∷ ts) ≡ t.coef + total ts
-total-cons t ts = sum_by-cons (λ (t : Term). t.coef) t ts
 
 resolved-onto : (s : Sum) (row : List Term) (lost bound bound' : ℕ) (k : ℕ) (b : Bool) (n : ℕ) → (n ≡ 1) ⊎ (n ≡ 2) → bound + 2 ≤ bound' → IsResolved s row lost bound → IsResolved (record { terms = record { coef = n; lit = record { var = k; yes = b } } ∷ s.terms; cancelled = s.cancelled }) (literal k b ∷ row) lost bound'
 resolved-onto s row lost bound bound' k b n one l h =
