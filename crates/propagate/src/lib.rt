@@ -23,6 +23,3 @@ mod scan;
 mod waiting;
 
 pub use propagator::Propagator;
-
-#[cfg(test)]
-mod tests;
