@@ -2,6 +2,7 @@
 
 ghost use Rattle.std.specs.Prelude.{◌≡◌, ◌<◌, ◌++◌, ◌∷◌, [], length, IfOk, OnOk, IfErr, OnErr};
 ghost use Rattle.names.specs.Names.{IsName};
+ghost use Rattle.spec_model.specs.Spec.{choice};
 ghost use Rattle.spec_graph.specs.Refusals.{IsBig, IsObjectiveRefused, IsObjectiveAccepted, IsTaskRefused, IsTaskAccepted, IsResourceRefused, IsResourceAccepted, IsOptionRefused, IsOptionAccepted, IsDeadlineRefused};
 
 use crate::builder::SpecBuilder;
@@ -87,9 +88,9 @@ impl SpecBuilder {
         requires resource_there { resource.0 < length self.old.resources }
         requires one_each { length weights.now ≡ length self.old.objectives }
         ensures number { IfOk result (λ o. o.0 ≡ length self.old.options) }
-        ensures added { OnOk result (self.new ≡ record self.old { options = self.old.options ++ record { task = task.0; resource = resource.0; time = time } ∷ []; option_weights = self.old.option_weights ++ weights.now ∷ [] }) }
-        ensures accepted { OnOk result (IsOptionAccepted self.old (record { task = task.0; resource = resource.0; time = time }) weights.now) }
-        ensures refused { IfErr result (IsOptionRefused self.old (record { task = task.0; resource = resource.0; time = time }) weights.now) }
+        ensures added { OnOk result (self.new ≡ record self.old { options = self.old.options ++ choice task.0 resource.0 time ∷ []; option_weights = self.old.option_weights ++ weights.now ∷ [] }) }
+        ensures accepted { OnOk result (IsOptionAccepted self.old (choice task.0 resource.0 time) weights.now) }
+        ensures refused { IfErr result (IsOptionRefused self.old (choice task.0 resource.0 time) weights.now) }
         ensures unchanged { OnErr result (self.new ≡ self.old) }
     {
         if self.options.has(task, resource) {

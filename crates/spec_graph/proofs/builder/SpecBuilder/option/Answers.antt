@@ -1,6 +1,6 @@
 use Rattle.std.proofs.Common.{length, ◌<◌, ◌≤◌, ◌^◌, ◌++◌, ◌∷◌, [], ◌≡◌, map, sym, ap, ◌∙◌, rules, arith}
 use Rattle.std.proofs.lemmas.List.{map-append, length-map}
-use Rattle.spec_model.specs.Spec.{SpecValue, Choice}
+use Rattle.spec_model.specs.Spec.{SpecValue, Choice, choice}
 use Rattle.spec_graph.specs.Lists.{choice_value}
 use Rattle.spec_graph.specs.Builder.{plan_of}
 use Rattle.spec_graph.specs.Refusals.{HasBig, IsMapped}
@@ -16,7 +16,7 @@ invariant_of-self-2 c =
     let small : ¬ HasBig c.args.weights.now = search rules in
     let few : length c.self.inside.options < 16384 = omega arith in
     let room : length (plan_of c.self.inside).options < 16384 = omega (arith, few, length-map c.self.inside.options choice_value) in
-    let o : Choice = record { task = c.args.task.0; resource = c.args.resource.0; time = c.args.time } in
+    let o : Choice = choice c.args.task.0 c.args.resource.0 c.args.time in
     let time : c.args.time ≤ 2 ^ 40 = omega arith in
     let options : map choice_value c.push.new.self ≡ (plan_of c.self.inside).options ++ o ∷ [] = ap (map choice_value) c.in_ok-push.ensures.added ∙ map-append choice_value c.self.inside.options _ in
     let rows = row_added c.self.inside.option_weights.items c.reserve.new.self.items c.push_reserved.new.self.items c.in_ok-weights.weights c.args.weights.now c.reserve.ensures.items c.push_reserved.ensures.items c.in_ok-weights.ensures in

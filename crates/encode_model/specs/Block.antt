@@ -1,11 +1,11 @@
 -- The block of a cover: a design can be made a model of it exactly where the cover's vector doesn't cover the design's.
-use Rattle.std.specs.Prelude.{ℕ, Bool, ◌+◌, ◌-◌, ◌*◌, ◌<◌, ◌≤◌, List, [], ◌∷◌, ◌++◌, length, map, sum_by, nat_lt, slice_index}
+use Rattle.std.specs.Prelude.{ℕ, false, ◌+◌, ◌-◌, ◌*◌, ◌<◌, ◌≤◌, List, [], ◌∷◌, ◌++◌, length, map, sum_by, slice_index}
 use Rattle.pb_rules.specs.declared.Term.{Term}
 use Rattle.pb_rules.specs.Linear.{Linear}
 use Rattle.pb_rules.specs.Frames.{Frame}
 use Rattle.spec_model.specs.Spec.{SpecValue, below, those, design_variables, all_variables}
 use Rattle.spec_model.specs.Vectors.{weight}
-use Rattle.encode_model.specs.Encoding.{positive, negative, unit_term, encoding}
+use Rattle.encode_model.specs.Encoding.{weighted, has_weight, positive, at_least, encoding}
 
 -- the weights of an objective, added up
 unfoldable pub total_weight : SpecValue → ℕ → ℕ
@@ -20,31 +20,26 @@ abbrev pub below_var : SpecValue → ℕ → ℕ → ℕ
 below_var s b j = all_variables s + (b - 1) * length s.objectives + j
 
 unfoldable pub is_below : SpecValue → ℕ → ℕ → Term
-is_below s b j = unit_term (positive (below_var s b j))
+is_below s b j = positive (below_var s b j)
 
 -- the design is below the cover in some objective; with no objective this is `0 >= 1`
 abbrev pub below_somewhere : SpecValue → ℕ → Linear
-below_somewhere s b = record { terms = map (is_below s b) (below (length s.objectives)); degree = 1 }
-
-unfoldable pub has_weight : SpecValue → ℕ → ℕ → Bool
-has_weight s j x = nat_lt 0 (weight s j x)
-
--- a variable's weight, which counts where the variable is false
-unfoldable pub unused : SpecValue → ℕ → ℕ → Term
-unused s j x = record { coef = weight s j x; lit = negative x }
+below_somewhere s b = at_least 1 (map (is_below s b) (below (length s.objectives)))
 
 -- the weights that a design doesn't use
 abbrev pub unused_terms : SpecValue → ℕ → List Term
-unused_terms s j = map (unused s j) (those (has_weight s j) (design_variables s))
+unused_terms s j = map (weighted (weight s j) false) (those (has_weight (weight s j)) (design_variables s))
 
 -- how much of objective j a design below n leaves unused, at least
 abbrev pub gap : SpecValue → ℕ → ℕ → ℕ
 gap s j n = total_weight s j - n + 1
 
+abbrev pub not_below : SpecValue → ℕ → ℕ → ℕ → Term
+not_below s b j n = record { coef = gap s j n; lit = record { var = below_var s b j; yes = false } }
+
 -- where variable j of the block is true, the design leaves so much of objective j unused that it is below n
 abbrev pub below_number : SpecValue → ℕ → ℕ → ℕ → Linear
-below_number s b j n =
-    record { terms = unused_terms s j ++ record { coef = gap s j n; lit = negative (below_var s b j) } ∷ []; degree = gap s j n }
+below_number s b j n = at_least (gap s j n) (unused_terms s j ++ not_below s b j n ∷ [])
 
 unfoldable pub below_place : SpecValue → ℕ → List ℕ → ℕ → Linear
 below_place s b v j = below_number s b j (slice_index v j)
