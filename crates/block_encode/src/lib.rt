@@ -13,8 +13,6 @@ ghost use Rattle.block_encode.specs.Laws.{variables_to};
 
 mod bounds;
 pub mod laws;
-#[cfg(test)]
-mod tests;
 mod weights;
 
 use crate::bounds::{below_number, below_somewhere};

@@ -24,6 +24,10 @@ arc_value a = record { link = a.link.0; tail = a.tail.0; head = a.head.0 }
 abbrev pub choice_value : Choice → ChoiceValue
 choice_value c = choice c.task.0 c.resource.0 c.time
 
+-- the pair of a task and a resource that an option is of
+abbrev pub choice_pair : Choice → ℕ × ℕ
+choice_pair c = (c.task.0, c.resource.0)
+
 -- a message between tasks with these numbers
 abbrev pub message_of : TaskNo → List TaskNo → ℕ → ℕ → ℕ → Message
 message_of sender receivers hops delay quantity = record {
