@@ -1,13 +1,18 @@
--- The encodings of two small specifications and a block, written out by hand: each family, and their order.
+-- The encodings of two small specifications and a block, written out by hand: each family, and their order; and a line
+-- that refutes one of them.
 use Rattle.std.specs.Prelude.{◌≡◌, ℕ, Bool, true, false, List, [], ◌∷◌, refl}
 use Rattle.pb_rules.specs.declared.Term.{Term}
+use Rattle.pb_rules.specs.declared.Op.{Op}
+use Rattle.pb_rules.specs.declared.Op.TheVariants.{Id, Add, Times}
 use Rattle.pb_rules.specs.Linear.{Linear}
+use Rattle.pb_rules.specs.Clauses.{contradiction}
+use Rattle.pb_rules.specs.Frames.{derived, cover, derived_by}
 use Rattle.spec_model.specs.Spec.{Message, SpecValue, empty_spec, base, all_variables}
 use Rattle.spec_model.specs.Rules.{of_task, of_task_on, goes_into, leaves, of_link}
 use Rattle.spec_model.specs.Vectors.{arc_weight, weights_of}
 use Rattle.spec_model.proofs.Rows.{arc, names, option}
 use Rattle.encode_model.specs.Encoding.{weighted, has_weight, at_least, encoding, step_after, step_at, carries, has_cause, for_receiver, on_resource, leads_to, option_covers, option_allocates, cover_allocates, cover_of, resource_has_use, arc_allocates, link_arcs, link_has_use}
-use Rattle.encode_model.specs.Block.{total_weight, is_below, below_place, block_of}
+use Rattle.encode_model.specs.Block.{total_weight, is_below, below_place, block_of, cover_frame}
 
 -- a variable and its opposite, and a constraint
 abbrev pub x : ℕ → Term
@@ -103,3 +108,11 @@ below_three =
 block_two_resources : block_of two_resources 1 (3 ∷ []) ≡ below_three
 unfolding block_of below_place is_below at_least weighted has_weight total_weight weights_of arc_weight all_variables
 block_two_resources = refl
+
+-- with this block there is no model: the line `p 1 3 + 4 + *3 8 + 7 *4 +` gives `0 >= 1`
+abbrev pub no_cheaper : List Op
+no_cheaper = Id 1 ∷ Id 3 ∷ Add ∷ Id 4 ∷ Add ∷ Times 3 ∷ Id 8 ∷ Add ∷ Id 7 ∷ Times 4 ∷ Add ∷ []
+
+none_cheaper : derived_by (cover_frame two_resources) (cover (3 ∷ []) ∷ derived no_cheaper ∷ []) ≡ contradiction ∷ []
+unfolding encoding on_resource option_allocates resource_has_use of_task block_of below_place is_below at_least weighted has_weight total_weight weights_of arc_weight all_variables
+none_cheaper = refl

@@ -49,6 +49,9 @@ valid_b = record {
   reached = λ m w r l. absurd (omega (arith, l));
 }
 
+abbrev amount : Bool → ℕ → ℕ
+amount t n = cond t n 0
+
 -- the vector, by the bits of the three options and the three resources
 abbrev numbers : Bool → Bool → Bool → Bool → Bool → Bool → List ℕ
 numbers p q r a b c = (cond a 1 0 + cond b 4 0 + cond c 4 0) ∷ ((cond p 5 0 + cond q 2 0 + cond r 5 0) ∷ [])
@@ -63,7 +66,7 @@ vector_is g = by_bits (g 0) (g 1) (g 2) (g 3) (g 4) (g 5)
     by_bits : (p q r a b c : Bool) → add_up (cond p 0 0) (cond q 0 0) (cond r 0 0) (cond a 1 0) (cond b 4 0) (cond c 4 0) ∷ (add_up (cond p 5 0) (cond q 2 0) (cond r 5 0) (cond a 0 0) (cond b 0 0) (cond c 0 0) ∷ []) ≡ numbers p q r a b c
     by_bits p q r a b c = pair (omega (arith, none p, none q, none r)) (omega (arith, none a, none b, none c))
       where
-        none : (t : Bool) → cond t 0 0 ≡ 0
+        none : (t : Bool) → amount t 0 ≡ 0
         none true = refl
         none false = refl
 
@@ -96,7 +99,7 @@ in_front = record { design = on_b; valid = valid_b; vector = vector_priced; undo
 
 -- cost 4 with energy 5 isn't: the task on b has the same cost and less energy
 not_in_front : ¬ IsInFront priced (4 ∷ (5 ∷ []))
-not_in_front x = x.undominated on_b valid_b (subst (λ (u : List ℕ). Dominates u (4 ∷ (5 ∷ []))) (sym vector_priced) (at_most, λ e. differ (ap second e)))
+not_in_front x = x.undominated on_b valid_b (subst (λ (u : List ℕ). Dominates u (4 ∷ (5 ∷ []))) (sym vector_priced) (at_most, λ e. (let f : second (4 ∷ (2 ∷ [])) ≡ second (4 ∷ (5 ∷ [])) = ap second e in absurd (omega (arith, f)))))
   where
     at_most : IsAtMost (4 ∷ (2 ∷ [])) (4 ∷ (5 ∷ []))
     at_most zero = omega arith
@@ -107,6 +110,3 @@ not_in_front x = x.undominated on_b valid_b (subst (λ (u : List ℕ). Dominates
     second [] = 0
     second (u ∷ []) = 0
     second (u ∷ (v ∷ us)) = v
-
-    differ : 2 ≡ 5 → ⊥
-    differ e = absurd (omega (arith, e))
