@@ -16,3 +16,4 @@ pub mod Chains
 pub mod Vectors
 pub mod Places
 pub mod Fronts
+pub mod Designs
