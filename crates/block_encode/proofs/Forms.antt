@@ -7,7 +7,7 @@ use Rattle.std.proofs.lemmas.List.Elements.{All-append, All-cons, All-from_recur
 use Rattle.std.proofs.lemmas.List.Sums.{sum_by-cons, sum_by-append}
 use Rattle.pb_rules.specs.declared.Term.{Term}
 use Rattle.pb_rules.specs.Linear.{Linear, IsNormal, VarsBelow, total}
-use Rattle.pb_rules.proofs.Rows.{From, from-pairs}
+use Rattle.pb_rules.proofs.Rising.{From, from-pairs}
 use Rattle.pb_constraints.specs.Sets.{IsBelow}
 use Rattle.spec_model.specs.Spec.{SpecValue, below, those, design_variables, all_variables}
 use Rattle.spec_model.specs.Vectors.{weight}
