@@ -20,8 +20,7 @@ use Rattle.proof_log.specs.HonestLog.{AreHonestLines}
 use Rattle.constraint_store.specs.Live.{Live}
 use Rattle.trail_state.specs.Trail.{Entry, value_in, IsDistinct}
 use Rattle.trail_state.proofs.Levels.{first-at}
-use Rattle.propagate.specs.declared.attached.Attached.{Attached}
-use Rattle.propagate.specs.Attached.{attached_at}
+use Rattle.propagate.specs.Attached.{Attached, attached_at}
 use Rattle.propagate.specs.Forced.{AllClosed}
 use Rattle.conflict_graph.specs.Learned.{constraints_in}
 use Rattle.ordered_solver.specs.declared.answer.Answer.TheVariants.{Model, Nothing, Budget}
