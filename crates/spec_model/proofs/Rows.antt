@@ -57,7 +57,7 @@ parallel = record empty_spec {
   options = option 0 0 ∷ (option 1 1 ∷ []);
 }
 
-abbrev of_list : List ℕ → Bits
+abbrev pub of_list : List ℕ → Bits
 of_list vs v = list_any (λ w. nat_eq w v) vs
 
 -- both links used: two arcs go into b
@@ -89,6 +89,6 @@ priced = record empty_spec {
   resource_weights = (1 ∷ (0 ∷ [])) ∷ ((4 ∷ (0 ∷ [])) ∷ ((4 ∷ (0 ∷ [])) ∷ []));
 }
 
-vector_priced : vector_of priced (of_list (1 ∷ (4 ∷ []))) ≡ 4 ∷ (2 ∷ [])
+pub vector_priced : vector_of priced (of_list (1 ∷ (4 ∷ []))) ≡ 4 ∷ (2 ∷ [])
 unfolding vector_at weights_of arc_weight
 vector_priced = refl
