@@ -26,6 +26,3 @@ pub use numbers::{at_scale, has_fraction_at};
 pub use reading::read_arch;
 pub use seen::{Objective, Seen, scale_or_0};
 pub use statement::{ArchLine, KeyAmount, KeyColumn, Statement};
-
-#[cfg(test)]
-mod tests;

@@ -132,6 +132,3 @@ pub fn analyse(
         log,
     )
 }
-
-#[cfg(test)]
-mod tests;

@@ -152,6 +152,3 @@ pub fn weaken(alloc: Global, a: &Constraint, var: u64) -> Result<Constraint, All
         }
     }
 }
-
-#[cfg(test)]
-mod tests;

@@ -11,8 +11,6 @@ mod held;
 mod memory;
 mod real;
 mod sure;
-#[cfg(test)]
-mod tests;
 
 pub use desk::{Desk, DeskError};
 pub use held::names_are_distinct;

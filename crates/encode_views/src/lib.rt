@@ -12,6 +12,3 @@ mod reached;
 
 pub use designs::design_of;
 pub use models::model_of;
-
-#[cfg(test)]
-mod tests;

@@ -17,6 +17,3 @@ pub use genes::{Gene, Genotype};
 pub use ordering::Order;
 pub use printing::print_genotype;
 pub use reading::read_genotype;
-
-#[cfg(test)]
-mod tests;

@@ -19,6 +19,3 @@ pub use lines::{Line, Lines};
 pub use numbers::{NumberFault, plain_whole, put_whole, whole};
 pub use refusals::{FileTag, ReadFault, Refusal, Refusal1, Stop, What, Why};
 pub use words::{LineWords, Word};
-
-#[cfg(test)]
-mod tests;

@@ -21,6 +21,3 @@ mod solver;
 
 pub use answer::Answer;
 pub use solver::Solver;
-
-#[cfg(test)]
-mod tests;

@@ -11,6 +11,3 @@ mod reading;
 
 pub use printing::{put_cover, put_derivation, put_op};
 pub use reading::{WordOp, read_op};
-
-#[cfg(test)]
-mod tests;

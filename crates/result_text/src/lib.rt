@@ -15,6 +15,3 @@ mod vectors;
 pub use entries::{Entry, Vector};
 pub use printing::print_design;
 pub use reading::read_implementation;
-
-#[cfg(test)]
-mod tests;

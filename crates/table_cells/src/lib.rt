@@ -12,6 +12,3 @@ mod rows;
 pub use cells::{Taking, amount_in, cell_fault, is_marked, mark_fault};
 pub use lowest::lower_of;
 pub use rows::{find_row, find_table, first_cell};
-
-#[cfg(test)]
-mod tests;

@@ -24,6 +24,3 @@ mod words;
 pub use file::{Graph, Row, Table, Tgff, TgffArc, TgffDeadline, TgffTask};
 pub use lists::{Items, Text};
 pub use reading::read_tgff;
-
-#[cfg(test)]
-mod tests;
