@@ -1,7 +1,6 @@
-use Rattle.std.proofs.Common.{◌≡◌, ◌≢◌, ℕ, ◌+◌, ◌-◌, ◌<◌, ◌≤◌, ◌^◌, Bool, true, false, not, cond, eqb, ltb, Option, Some, None, List, [], ◌∷◌, ◌++◌, length, get_or, set, take, refl, sym, ap, ◌∙◌, subst, arith, inl, inr, ◌⊎◌, zero, suc, map, is_some, is_none, replicate, get_or-set_same, get_or-set_other, length-set}
-use Rattle.std.specs.Prelude.{All, count_by}
+use Rattle.std.proofs.Common.{◌≡◌, ◌≢◌, ℕ, ◌+◌, ◌<◌, ◌≤◌, ◌^◌, Bool, true, false, not, cond, eqb, Option, Some, None, List, [], ◌∷◌, length, get_or, set, take, refl, sym, ap, ◌∙◌, subst, arith, inl, inr, ◌⊎◌, zero, suc, map, is_some, is_none, replicate, get_or-set_same, get_or-set_other, length-set}
+use Rattle.std.specs.Prelude.{All}
 use Rattle.std.proofs.lemmas.Bool.{cases_eq, cases_lt}
-use Rattle.std.proofs.lemmas.Bool.Decides.{nat_tests}
 use Rattle.std.proofs.lemmas.List.{get_or_past, length-replicate, get_or-take, get_or_default}
 use Rattle.std.proofs.lemmas.List.Elements.{All-more, All-head, All-tail}
 use Rattle.std.proofs.Common.{length-take}
@@ -23,7 +22,7 @@ use Rattle.conflict_graph.proofs.Counts.{currents-row}
 use Rattle.conflict_graph.proofs.Signs.{falsifies-true, falsifies-not}
 use Rattle.constraint_store.specs.Live.{Live, is_live, live_at, constraint_of}
 use Rattle.pb_rules.specs.declared.Op.{Op}
-use Rattle.trail_state.proofs.Levels.{IsAt, first-at, level-more}
+use Rattle.trail_state.proofs.Levels.{first-at, level-more}
 use Rattle.conflict_graph.proofs.Resolving.{lit-at}
 
 -- the values of all variables

@@ -5,11 +5,11 @@ use Rattle.std.proofs.lemmas.Bool.Decides.{nat_tests}
 use Rattle.std.proofs.lemmas.Int.{ints}
 use Rattle.pb_rules.specs.declared.Term.{Term}
 use Rattle.pb_rules.specs.Linear.{Linear, IsNormal}
-use Rattle.pb_rules.specs.CuttingPlanes.{Sum, same_sign, onto, joined, merge, add}
+use Rattle.pb_rules.specs.CuttingPlanes.{Sum, same_sign, joined, merge, add}
 use Rattle.pb_rules.proofs.Rising.{from-pairs}
 use Rattle.pb_rules.proofs.Normal.{Merged, done, first, second, both, merged, add-rising, add-positive}
 use Rattle.pb_constraints.specs.declared.parts.Part.{Part}
-use Rattle.pb_constraints.specs.SignedSums.{sum_z, share, signed, is_var, signed_sum, on_negated, negated_sum, as_part}
+use Rattle.pb_constraints.specs.SignedSums.{share, is_var, signed_sum, on_negated, negated_sum, as_part}
 use Rattle.pb_constraints.specs.NormalForm.{or_zero, IsNormalOf}
 use Rattle.pb_constraints.proofs.IntegerSums.{sum_z-append}
 

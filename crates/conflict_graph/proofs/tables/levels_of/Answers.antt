@@ -1,10 +1,10 @@
-use Rattle.std.proofs.Common.{◌≡◌, ◌∙◌, ◌<◌, ◌≤◌, ◌+◌, ◌++◌, ◌∷◌, [], arith, ℕ, sym, ap, refl, Option, Some, None, Bool, List, subst, zero-add, length, get_or, set, is_some, is_none, not, cond, true, false}
+use Rattle.std.proofs.Common.{◌≡◌, ◌∙◌, ◌+◌, arith, ℕ, sym, ap, Option, List, subst, length, get_or, set, is_some, is_none, not, cond}
 use Rattle.std.proofs.lemmas.List.{length-map}
 use Rattle.pb_rules.specs.Literal.{Literal}
 use Rattle.pb_constraints.specs.declared.ConId.{ConId}
 use Rattle.trail_state.specs.Trail.{Entry, reason_in}
 use Rattle.conflict_graph.proofs.Resolving.{at-place}
-use Rattle.conflict_graph.proofs.Ends.{LevelsTo, levels-start, levels-more, levels-end, one-more, no-more}
+use Rattle.conflict_graph.proofs.Ends.{LevelsTo, levels-more, levels-end, one-more, no-more}
 use Rattle.conflict_graph.proofs.tables.levels_of.Goals as goal
 use Rattle.conflict_graph.proofs.tables.levels_of.Goals.{then-is_none, else-is_none}
 

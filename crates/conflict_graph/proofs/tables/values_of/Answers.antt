@@ -1,4 +1,4 @@
-use Rattle.std.proofs.Common.{◌≡◌, ◌∙◌, ◌<◌, ◌≤◌, arith, ℕ}
+use Rattle.std.proofs.Common.{◌≡◌, ◌∙◌, arith}
 use Rattle.conflict_graph.proofs.Ends.{values-end}
 use Rattle.conflict_graph.proofs.tables.values_of.Goals as goal
 
