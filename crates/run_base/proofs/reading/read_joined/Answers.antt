@@ -8,11 +8,12 @@ use Rattle.tgff_reader.specs.Facts.{TgffValue}
 use Rattle.arch_reader.specs.Arch.{ArchValue, arch_rules}
 use Rattle.arch_reader.specs.declared.statement.ArchLine.{ArchLine}
 use Rattle.spec_join.specs.Reading.{JoinReads}
-use Rattle.spec_join.specs.Whole.{most_bytes, file_of, ReadsArch}
-use Rattle.spec_join.proofs.whole.read_joined.Goals as goal
+use Rattle.run_base.specs.Loading.{most_bytes}
+use Rattle.run_base.specs.Reading.{file_of, ReadsArch}
+use Rattle.run_base.proofs.reading.read_joined.Goals as goal
 
 -- what joining answers to a file that isn't too long and breaks no rule of its own
-joins_as : (tgff : TgffValue) (bytes : List ℕ) (reading : Result SpecValue ReadFault) → length bytes ≤ most_bytes → HasNoFault arch_rules (lines bytes) → JoinReads tgff (file_of bytes) reading → ReadsArch tgff bytes reading
+joins_as : (tgff : TgffValue) (bytes : List ℕ) (reading : Result SpecValue ReadFault) → length bytes ≤ most_bytes → HasNoFault arch_rules (lines bytes) → JoinReads tgff (file_of bytes) reading → ReadsArch bytes tgff reading
 joins_as tgff bytes (Ok spec) short none h = record { file = record { short = short; unbroken = none }; joined = h }
 joins_as tgff bytes (Err (faults.Refused r)) short none h = inr (inr (record { file = record { short = short; unbroken = none }; refused = h }))
 joins_as tgff bytes (Err faults.NoMemory) short none h = tt
@@ -32,5 +33,5 @@ returns c = λ bytes loaded.
     let short : List ℕ = c.in_ok-bytes.bytes.now in
     let file_is : c.in_ok-file.file ≡ file_of short = same_file c.in_ok-file.file (file_of short) c.in_ok-file.ensures.reads.1 c.in_ok-file.ensures.end_line in
     let joins : JoinReads tgff (file_of short) reading = subst (λ (f : ArchValue). JoinReads tgff f reading) file_is c.join.ensures.reads in
-    subst (λ (b : List ℕ). ReadsArch tgff b reading) (sym (c.in_ok-bytes.ensures.whole bytes loaded))
+    subst (λ (b : List ℕ). ReadsArch b tgff reading) (sym (c.in_ok-bytes.ensures.whole bytes loaded))
     (joins_as tgff short reading c.in_ok-bytes.ensures.short c.in_ok-file.ensures.reads.0 joins)
