@@ -2,3 +2,6 @@ pub mod Hub
 pub mod Weights
 pub mod Rising
 pub mod Terms
+pub mod Shapes
+pub mod Formed
+pub mod Known

@@ -12,9 +12,9 @@ use Rattle.pb_rules.specs.Partial.{IsClosed, whole}
 use Rattle.pb_rules.specs.Clauses.{contradiction}
 use Rattle.pb_rules.specs.Honest.{LeavesOne}
 use Rattle.pb_rules.specs.Order.{ShowsFirst}
-use Rattle.pb_rules.specs.Frames.{Line, derived, Frame, Given, base_of, given_from, derived_from, derived_by, with_derived}
+use Rattle.pb_rules.specs.Frames.{Line, derived, Frame, Given, context_of, base_of, given_from, derived_from, derived_by, with_derived}
 use Rattle.pb_rules.proofs.Closed.{no-model, contradiction-absorbed, unabsorbed-not, models-front, among-front, among-back, among-append}
-use Rattle.pb_rules.proofs.Given.{given-push, derived-push, derived-append}
+use Rattle.pb_rules.proofs.Given.{given-push, given-knows, derived-push, derived-append}
 use Rattle.proof_log.specs.Log.{LogValue}
 use Rattle.proof_log.specs.HonestLog.{AreHonestLines}
 use Rattle.constraint_store.specs.Live.{Live}
@@ -87,7 +87,7 @@ found-nothing start live ids old mid new order variables budget n es h r below c
       count = (omega arith, (omega arith, omega arith));
       shown = λ f g frame fits legal under.
           (let s = h.shown f g frame fits legal under in
-          let gives = (r.derives).legal s.after.constraints s.under in
+          let gives = (r.derives).legal (context_of s.after) (given-knows s.after) s.under in
           let L : List Line → Type 0 = λ ls. given_from f g ls ≡ Some (with_derived s.after contradiction) in
           let A : List Line → Type 0 = λ ls. IsRefutation f g (constraints_in start) ls in
           record {

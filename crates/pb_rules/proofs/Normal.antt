@@ -9,13 +9,12 @@ use Rattle.pb_rules.specs.declared.Term.{Term}
 use Rattle.pb_rules.specs.Literal.{Literal}
 use Rattle.pb_rules.specs.Linear.{Linear, IsNormal, total}
 use Rattle.pb_rules.specs.CuttingPlanes.{Sum, same_sign, onto, joined, merge, axiom_of, add, times, multiplied, divide, divided, up, saturate, cut, weaken, without_var, coef_of}
-use Rattle.pb_rules.specs.Operations.{excess}
-use Rattle.pb_rules.specs.Frames.{Line, derived, cover, Frame, IsFrame, Given, given_from}
-use Rattle.pb_rules.proofs.Rows.{From, From-weaker, from-pairs}
-use Rattle.pb_rules.proofs.Making.{rising-from}
+use Rattle.pb_rules.specs.Operations.{Context, excess}
+use Rattle.pb_rules.specs.Frames.{Line, derived, cover, Frame, IsFrame, Given, context_of, given_from}
+use Rattle.pb_rules.proofs.Rising.{From, From-weaker, from-pairs, rising-from}
 use Rattle.pb_rules.proofs.Merges.{total-cons}
 use Rattle.pb_rules.proofs.Sound.{IsKept, line-keeps, up-times, up-least}
-use Rattle.pb_rules.proofs.Given.{Goes, by_ops, by_block, goes, first-line}
+use Rattle.pb_rules.proofs.Given.{Goes, by_ops, by_block, goes, first-line, under-holds}
 
 -- a term before the first of a list
 abbrev Before : Term → List Term → Type 0
@@ -276,9 +275,10 @@ pub weaken-normal : (x : ℕ) (a : Linear) → IsNormal a.terms a.degree → IsN
 weaken-normal x a n = normal-shrunk a.terms (without_var x a.terms) a.degree (a.degree - coef_of x a.terms) (without-shrinks x a.terms n.positive) (omega arith) n
 
 -- the rules keep normal form
-pub normal-kept : IsKept (λ c. IsNormal c.terms c.degree)
-normal-kept = record {
-  axioms = axiom-normal;
+normal-kept : (context : Context) → ((id : ℕ) (c : Linear) → context.live id ≡ Some c → IsNormal c.terms c.degree) → IsKept context (λ c. IsNormal c.terms c.degree)
+normal-kept context live = record {
+  standing = live;
+  axioms = λ l known. axiom-normal l;
   sums = add-normal;
   multiples = times-normal;
   quotients = divide-normal;
@@ -297,7 +297,7 @@ given-normal f g h (l ∷ ls) frame e n =
     given-normal f s.0 h ls frame s.2 (go l s.0 (goes f g s.0 l s.1))
   where
     go : (l : Line) (k : Given) → Goes f g k l → All Normal k.constraints
-    go (derived ops) k (by_ops c q e) = subst (λ (k : Given). All Normal k.constraints) (sym e) (All-append Normal g.constraints (c ∷ []) n (All-cons Normal c [] (line-keeps Normal normal-kept g.constraints n ops c q) (All-nil Normal)))
+    go (derived ops) k (by_ops c q e) = subst (λ (k : Given). All Normal k.constraints) (sym e) (All-append Normal g.constraints (c ∷ []) n (All-cons Normal c [] (line-keeps (context_of g) Normal (normal-kept (context_of g) (under-holds Normal g.constraints n)) ops c q) (All-nil Normal)))
     go (cover w) k (by_block q e) = subst (λ (k : Given). All Normal k.constraints) (sym e) (All-append Normal g.constraints (f.block (g.covers + 1) w) n (frame.block_normal (g.covers + 1) w))
 
 -- which number is too large

@@ -3,11 +3,10 @@ use Rattle.std.proofs.Common.{◌≡◌, ◌≢◌, ℕ, Bool, true, cond, eqb, 
 use Rattle.std.proofs.lemmas.Bool.{cases_eq}
 use Rattle.pb_constraints.specs.declared.ConId.{ConId}
 use Rattle.pb_rules.specs.Linear.{Linear}
-use Rattle.constraint_store.specs.Live.{Live, is_live, constraint_of, without, content, Content, new_id, IsOneToOne, IsRenaming}
+use Rattle.constraint_store.specs.Live.{Live, is_live, constraint_of, without, Content, new_id, IsOneToOne, IsRenaming}
 use Rattle.constraint_store.proofs.Laws.{is_live_added, live_at_added, live_at_removed, live_at_renamed}
 use Rattle.trail_state.specs.Trail.{TrailView}
-use Rattle.propagate.specs.declared.attached.Attached.{Attached}
-use Rattle.propagate.specs.Attached.{attached_at, ChangesOnly, IsMoved}
+use Rattle.propagate.specs.Attached.{Attached, attached_at, ChangesOnly, IsMoved}
 use Rattle.propagate.specs.Propagator.{PropagatorView, IsCounted, IsReady}
 use Rattle.propagate.proofs.Attaching.{same_id}
 

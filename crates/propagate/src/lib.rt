@@ -6,15 +6,20 @@
 //! negative there is a conflict, and an unassigned literal whose coefficient is greater than it is forced. Numbers
 //! below zero are avoided by the room, which is that sum alone.
 //!
-//! `attached` has a constraint with its id, `scan` looks at constraints and pushes what they force, and `propagator`
-//! has the public type. Beside its answer a run changes nothing but the end of the trail. The trail itself stands in
+//! Rooms are kept and not summed up anew: a literal that becomes false is taken off the rooms of the constraints that
+//! it occurs in, and given back where it is taken off the trail. So a run costs what was newly assigned. `counters`
+//! keeps the rooms, `occurrences` the constraints of each literal, `waiting` those that are to be looked at, `scan`
+//! pushes what one of them forces, `filling` makes and takes lists, and `propagator` has the public type. Beside its
+//! answer a run changes nothing but the end of the trail and what is counted. The trail itself stands in
 //! `trail_state`, the constraints that are attached in `constraint_store`, and what follows a conflict in
 //! `conflict_graph`.
 #![tactic(auto)]
 
-mod attached;
+mod counters;
+mod filling;
+mod occurrences;
 mod propagator;
 mod scan;
+mod waiting;
 
-pub use attached::Attached;
 pub use propagator::Propagator;

@@ -1,40 +1,40 @@
 //! The propagator: the attached constraints, and the runs over a trail.
 //!
 //! It keeps a copy of each attached constraint, so that it stays the same whatever the store does. Its counted
-//! literals are those of the trail that it has taken into account. A run by scanning sums up each room anew and
-//! counts none, so `back` has nothing to do.
+//! literals are those of the trail that its rooms take into account: all of them after a run, and a first part of
+//! them once more were pushed. The work is done by `counters`, which knows slots and not ids.
 ghost use Rattle.std.specs.Prelude.{◌≡◌, ◌+◌, [], IfOk, OnOk, OnErr, IfSome, IfNone, IsTrue, Some, None};
 ghost use Rattle.pb_rules.specs.Linear.{VarsBelow};
 ghost use Rattle.constraint_store.specs.Live.{is_live, constraint_of, new_id};
-ghost use Rattle.trail_state.specs.Trail.{value_in};
 ghost use Rattle.propagate.specs.Attached.{ChangesOnly, IsMoved};
-ghost use Rattle.propagate.specs.Propagator.{IsReady, IsCounted};
+ghost use Rattle.propagate.specs.Propagator.{IsReady, IsCounted, IsAlong};
 ghost use Rattle.propagate.specs.Forced.{Appends, IsConflict, AllClosed};
 
-use super::attached::{Attached, has_id, rename};
-use super::scan::{Outcome, pass_over};
+use super::counters::Counters;
 use constraint_store::{Moves, Store};
 use pb_constraints::{ConId, Constraint};
 use std::alloc::{AllocError, Global};
 use std::marker::Model;
 use trail_state::Trail;
 
+/// There are fewer variables than this.
+const VARIABLE_LIMIT: u64 = 1 << 62;
+
 /// The attached constraints under their ids.
 #[derive(Drop, Debug)]
 pub struct Propagator {
-    variables: u64,
-    attached: Vec<Attached>,
+    counters: Counters,
 }
 
 impl Model for Propagator {
-    ghost use Rattle.std.specs.Prelude.{[]};
+    ghost use Rattle.propagate.specs.Counters.{attached_from, counted_of};
     ghost use Rattle.propagate.specs.Propagator.{PropagatorView, IsPropagator};
 
     ghost Value = { PropagatorView };
 
-    ghost view = { λ p. record { variables = p.variables; attached = p.attached.items; counted = [] } };
+    ghost view = { λ p. record { variables = p.counters.variables; attached = attached_from 0 p.counters.slots.items; counted = counted_of p.counters } };
 
-    ghost invariant = { λ p. IsPropagator p.variables p.attached.items };
+    ghost invariant = { λ p. IsPropagator p.counters };
 }
 
 impl Propagator {
@@ -42,10 +42,12 @@ impl Propagator {
     pub fn new(alloc: Global, variables: u64) -> Result<Propagator, AllocError>
         ensures { IfOk result (λ p. p ≡ record { variables = variables; attached = []; counted = [] }) }
     {
-        Ok(Propagator {
-            variables,
-            attached: Vec::new(alloc),
-        })
+        if variables >= VARIABLE_LIMIT {
+            return Err(AllocError);
+        }
+        let mut counters = Counters::new(alloc)?;
+        counters.grow(variables)?;
+        Ok(Propagator { counters })
     }
 
     /// Adds so many variables. An `Err` leaves the propagator as it was.
@@ -53,13 +55,11 @@ impl Propagator {
         ensures ok { OnOk result (self.new ≡ record self.old { variables = self.old.variables + more }) }
         ensures err { OnErr result (self.new ≡ self.old) }
     {
-        match self.variables.checked_add(more) {
-            None => Err(AllocError),
-            Some(variables) => {
-                self.variables = variables;
-                Ok(())
-            }
+        let variables = self.counters.variables;
+        if more >= VARIABLE_LIMIT - variables {
+            return Err(AllocError);
         }
+        self.counters.grow(variables + more)
     }
 
     /// Attaches the store's constraint under an id. The store has each attached constraint under its id, so a second
@@ -73,13 +73,15 @@ impl Propagator {
         ensures variables { self.new.variables ≡ self.old.variables }
         ensures counted { IsCounted self.new trail.now }
     {
-        if has_id(&self.attached, c) {
+        if self.counters.is_filled(c.0 as usize) {
             return Ok(());
         }
-        let terms = Vec::from_slice(*self.attached.allocator(), store.terms(c))?;
+        if c.0 == u64::MAX {
+            return Err(AllocError);
+        }
+        let terms = Vec::from_slice(*self.counters.slots.allocator(), store.terms(c))?;
         let constraint = Constraint::of_normal(terms, store.degree(c));
-        self.attached.push(Attached { id: c, constraint })?;
-        Ok(())
+        self.counters.attach(c.0 as usize, constraint, trail)
     }
 
     /// Takes out the constraint that is attached under an id. Where there is none, it changes nothing.
@@ -87,7 +89,7 @@ impl Propagator {
         ensures attached { ChangesOnly self.old.attached self.new.attached c None }
         ensures same { self.new ≡ record self.old { attached = self.new.attached } }
     {
-        self.attached.retain(|one| one.id != c);
+        self.counters.empty(c.0 as usize);
     }
 
     /// Gives each attached constraint its new id, and takes out those that have none.
@@ -97,8 +99,7 @@ impl Propagator {
     {
         // No two ids go to one, as is said at each look-up.
         let _first = moves.of(ConId(0));
-        self.attached.retain(|one| moves.of(one.id).is_some());
-        rename(&mut self.attached, moves);
+        self.counters.remap(moves);
     }
 
     /// Pushes what the attached constraints force, each literal with the id of one that forces it there. It answers
@@ -113,24 +114,19 @@ impl Propagator {
         ensures same { self.new ≡ record self.old { counted = self.new.counted } }
         ensures counted { IsCounted self.new trail.new }
     {
-        loop {
-            match pass_over(&self.attached, trail) {
-                Outcome::Conflict(id) => return Some(id),
-                Outcome::Quiet => return None,
-                Outcome::Pushed => {
-                    // Each turn assigns a variable, and there are only so many.
-                    let _assigned = trail.assigned();
-                }
-            }
+        match self.counters.close(trail) {
+            None => None,
+            Some(slot) => Some(ConId(slot as u64)),
         }
     }
 
     /// Tells the propagator that literals were taken off the trail, by a jump back or otherwise.
     pub fn back(&mut self, trail: &Trail)
+        requires { IsAlong self.old trail.now }
         ensures same { self.new ≡ record self.old { counted = self.new.counted } }
         ensures counted { IsCounted self.new trail.now }
     {
-        // No literal is counted.
-        let _ = &self.attached;
+        let kept = self.counters.used.min(trail.literals().len());
+        self.counters.uncount_to(kept);
     }
 }

@@ -1,30 +1,16 @@
-//! Looks at constraints one after another, and pushes what they force.
+//! A look at one constraint: its room summed up over its terms, and what it forces pushed onto the trail.
 //!
-//! The room of a constraint is summed up anew at each look. A look ends with the constraint in conflict, with
-//! literals pushed, or with nothing to do. Each look is right for every trail, so nothing has to be told to this
-//! part when literals are taken off. `propagator` looks again until a whole pass finds nothing to do.
+//! A room is summed up only where a constraint is attached. From then on `counters` keeps it, and looks at a
+//! constraint only where its room says that it may force something.
 ghost use Rattle.std.specs.Prelude.{◌≡◌, ◌<◌, ◌≤◌, ◌^◌, ◌++◌, [], ◌∷◌, length, true, false, Some, None};
 ghost use Rattle.pb_rules.specs.Linear.{VarsBelow, total};
-ghost use Rattle.pb_rules.specs.Partial.{open_weight, is_false, IsClosed};
+ghost use Rattle.pb_rules.specs.Partial.{open_weight, is_false};
 ghost use Rattle.trail_state.specs.Trail.{Entry, value_in};
-ghost use Rattle.propagate.specs.Attached.{are_apart, InRange};
 ghost use Rattle.propagate.specs.Forced.{Appends};
-ghost use Rattle.propagate.specs.Outcome.{OutcomeSays};
+ghost use Rattle.propagate.specs.Counters.{IsQuiet};
 
-use super::attached::Attached;
-use pb_constraints::{ConId, Lit, Term};
+use pb_constraints::{ConId, Constraint, Lit, Term};
 use trail_state::Trail;
-
-/// What a look at constraints found.
-#[derive(Clone, Copy, PartialEq, Eq, Debug)]
-pub enum Outcome {
-    /// This one is in conflict.
-    Conflict(ConId),
-    /// They forced literals, which were pushed.
-    Pushed,
-    /// None of them is in conflict or forces anything.
-    Quiet,
-}
 
 /// Whether a literal is false on the trail.
 fn is_false(trail: &Trail, lit: Lit) -> bool
@@ -37,7 +23,7 @@ fn is_false(trail: &Trail, lit: Lit) -> bool
 }
 
 /// The sum of the coefficients of the literals that are not false.
-fn room_of(terms: &[Term], trail: &Trail) -> u64
+pub fn room_of(terms: &[Term], trail: &Trail) -> u64
     requires { total terms.now < 2 ^ 63 }
     ensures value { result ≡ open_weight (value_in trail.now.entries) terms.now }
     ensures small { result < 2 ^ 63 }
@@ -68,63 +54,17 @@ fn push_if_forced(t: Term, slack: u64, id: ConId, trail: &mut Trail) -> bool
     false
 }
 
-/// Pushes the literals that a constraint of this room forces, and says whether there were any.
-fn push_forced(one: &Attached, room: u64, trail: &mut Trail) -> bool
-    requires in_range { VarsBelow trail.old.variables one.now.constraint.terms }
-    requires room { room ≡ open_weight (value_in trail.old.entries) one.now.constraint.terms }
-    requires no_conflict { one.now.constraint.degree ≤ room }
+/// Pushes the literals that a constraint of this room forces.
+pub fn push_forced(c: &Constraint, id: ConId, room: u64, trail: &mut Trail)
+    requires in_range { VarsBelow trail.old.variables c.now.terms }
+    requires room { room ≡ open_weight (value_in trail.old.entries) c.now.terms }
+    requires no_conflict { c.now.degree ≤ room }
     ensures variables { trail.new.variables ≡ trail.old.variables }
-    ensures appends { Appends (one.now ∷ []) trail.old.entries trail.new.entries }
-    ensures pushed { result ≡ true → length trail.old.entries < length trail.new.entries }
-    ensures quiet_same { result ≡ false → trail.new.entries ≡ trail.old.entries }
-    ensures quiet_closed { result ≡ false → IsClosed (value_in trail.new.entries) one.now.constraint }
+    ensures appends { Appends (record { id = id; constraint = c.now } ∷ []) trail.old.entries trail.new.entries }
+    ensures quiet { IsQuiet room (value_in trail.new.entries) c.now }
 {
-    let slack = room - one.constraint.degree();
-    let mut pushed = false;
-    for t in one.constraint.terms() {
-        if push_if_forced(*t, slack, one.id, trail) {
-            pushed = true;
-        }
-    }
-    pushed
-}
-
-/// Looks at one constraint.
-fn look_at(one: &Attached, trail: &mut Trail) -> Outcome
-    requires { VarsBelow trail.old.variables one.now.constraint.terms }
-    ensures variables { trail.new.variables ≡ trail.old.variables }
-    ensures appends { Appends (one.now ∷ []) trail.old.entries trail.new.entries }
-    ensures outcome { OutcomeSays (one.now ∷ []) trail.old.entries trail.new.entries result }
-{
-    let room = room_of(one.constraint.terms(), trail);
-    if room < one.constraint.degree() {
-        return Outcome::Conflict(one.id);
-    }
-    if push_forced(one, room, trail) {
-        return Outcome::Pushed;
-    }
-    Outcome::Quiet
-}
-
-/// Looks at each constraint once, or until one is in conflict.
-pub fn pass_over(attached: &[Attached], trail: &mut Trail) -> Outcome
-    requires apart { are_apart attached.now ≡ true }
-    requires in_range { InRange trail.old.variables attached.now }
-    ensures variables { trail.new.variables ≡ trail.old.variables }
-    ensures appends { Appends attached.now trail.old.entries trail.new.entries }
-    ensures outcome { OutcomeSays attached.now trail.old.entries trail.new.entries result }
-{
-    let mut pushed = false;
-    for one in attached {
-        match look_at(one, trail) {
-            Outcome::Conflict(id) => return Outcome::Conflict(id),
-            Outcome::Pushed => pushed = true,
-            Outcome::Quiet => {}
-        }
-    }
-    if pushed {
-        Outcome::Pushed
-    } else {
-        Outcome::Quiet
+    let slack = room - c.degree();
+    for t in c.terms() {
+        let _pushed = push_if_forced(*t, slack, id, trail);
     }
 }

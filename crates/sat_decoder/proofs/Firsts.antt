@@ -37,7 +37,7 @@ pub first_valid : (s : SpecValue) (genes : List GeneValue) (order : List Literal
 first_valid s genes order values design wf few o first part = record {
   one_each = part.one_each;
   first = record {
-    valid = part.valid;
+    meets = part.valid;
     first = λ g valid.
         (let one = valid_are_models s g wf valid in
         let m : Bits = one.model in

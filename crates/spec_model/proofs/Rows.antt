@@ -2,17 +2,18 @@
 use Rattle.std.proofs.Common.{◌≡◌, ℕ, zero, suc, ◌+◌, ◌<◌, ◌≤◌, Bool, true, false, nat_eq, List, [], ◌∷◌, length, refl, sym, ◌∙◌, arith}
 use Rattle.std.specs.List.{list_any}
 use Rattle.std.proofs.lemmas.Bool.{false≢true}
-use Rattle.spec_model.specs.Spec.{Message, Arc, Choice, SpecValue, Bits, Name, empty_spec, arc_at, all_variables, design_variables}
+use Rattle.spec_model.specs.Spec.{Message, Arc, Choice, choice, SpecValue, Bits, Name, empty_spec, arc_at, all_variables, design_variables}
 use Rattle.spec_model.specs.Rules.{of_task, Uses, IsCrowded, IsStray, WalkBelow, goes_into, arc_bit, uses_into}
 use Rattle.spec_model.specs.Vectors.{vector_at, vector_of, weights_of, arc_weight}
 use Rattle.spec_model.specs.WellFormed.{size, message_size}
-use Rattle.spec_model.proofs.Decide.{walk_test, walk_test-from}
+use Rattle.spec_model.specs.Walks.{walk_test}
+use Rattle.spec_model.proofs.Decide.{walk_test-from}
 
 abbrev pub arc : ℕ → ℕ → ℕ → Arc
 arc l p q = record { link = l; tail = p; head = q }
 
-abbrev pub choice : ℕ → ℕ → Choice
-choice t r = record { task = t; resource = r; time = 0 }
+abbrev pub option : ℕ → ℕ → Choice
+option t r = choice t r 0
 
 abbrev pub names : List ℕ → List Name
 names [] = []
@@ -30,7 +31,7 @@ hub = record empty_spec {
   resources = names (97 ∷ (104 ∷ (98 ∷ (99 ∷ []))));
   links = names (97 ∷ (98 ∷ (99 ∷ [])));
   arcs = arc 0 0 1 ∷ (arc 0 1 0 ∷ (arc 1 1 2 ∷ (arc 1 2 1 ∷ (arc 2 1 3 ∷ (arc 2 3 1 ∷ [])))));
-  options = choice 0 0 ∷ (choice 1 2 ∷ (choice 2 3 ∷ []));
+  options = option 0 0 ∷ (option 1 2 ∷ (option 2 3 ∷ []));
 }
 
 variables_hub : all_variables hub ≡ 36
@@ -53,7 +54,7 @@ parallel = record empty_spec {
   resources = names (97 ∷ (98 ∷ (99 ∷ (100 ∷ []))));
   links = names (112 ∷ (113 ∷ (114 ∷ [])));
   arcs = arc 0 0 1 ∷ (arc 1 0 1 ∷ (arc 2 2 3 ∷ (arc 2 3 2 ∷ [])));
-  options = choice 0 0 ∷ (choice 1 1 ∷ []);
+  options = option 0 0 ∷ (option 1 1 ∷ []);
 }
 
 abbrev of_list : List ℕ → Bits
@@ -82,7 +83,7 @@ abbrev pub priced : SpecValue
 priced = record empty_spec {
   tasks = names (116 ∷ []);
   resources = names (97 ∷ (98 ∷ (99 ∷ [])));
-  options = choice 0 0 ∷ (choice 0 1 ∷ (choice 0 2 ∷ []));
+  options = option 0 0 ∷ (option 0 1 ∷ (option 0 2 ∷ []));
   objectives = names (99 ∷ (101 ∷ []));
   option_weights = (0 ∷ (5 ∷ [])) ∷ ((0 ∷ (2 ∷ [])) ∷ ((0 ∷ (5 ∷ [])) ∷ []));
   resource_weights = (1 ∷ (0 ∷ [])) ∷ ((4 ∷ (0 ∷ [])) ∷ ((4 ∷ (0 ∷ [])) ∷ []));
