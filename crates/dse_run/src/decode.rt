@@ -1,15 +1,14 @@
 //! What `decode` comes to: the first valid implementation in the genotype's order, with its vector.
 
-ghost use Rattle.std.specs.Prelude.{◌≡◌, map, length, IfOk, MatchOption};
-ghost use Rattle.spec_model.specs.Spec.{bits_of, design_variables};
+ghost use Rattle.std.specs.Prelude.{◌≡◌, length, IfOk, MatchOption};
+ghost use Rattle.spec_model.specs.Spec.{design_variables};
 ghost use Rattle.spec_model.specs.Genotypes.{HasNoValid};
-ghost use Rattle.spec_model.specs.Vectors.{vector_of};
 ghost use Rattle.sat_decoder.specs.Decoding.{IsFirstDesign};
 ghost use Rattle.run_base.specs.Worlds.{World, AreLoaded};
 ghost use Rattle.dse_run.specs.Decoding.{Decodes, FindsFirst};
 
 use genotype::Genotype;
-use impl_rules::{Design, vector_at};
+use impl_rules::{Design, vector_of};
 use line_words::ReadFault;
 use result_text::print_design;
 use run_base::{Ending, Inputs, Outcome, read_genes, read_spec};
@@ -35,18 +34,6 @@ fn first_valid(
         Decoded::Nothing => Ok(None),
         Decoded::Budget => unreachable!(),
     }
-}
-
-/// The vector of a design, a number for each objective.
-fn vector_of(alloc: Global, spec: &Spec, design: &Design) -> Result<Vec<u64>, AllocError>
-    requires { length design.now ≡ design_variables spec.now }
-    ensures { IfOk result (λ vector. vector.items ≡ vector_of spec.now (bits_of design.now)) }
-{
-    let mut vector = Vec::new(alloc);
-    for j in 0..spec.objectives() {
-        vector.push(vector_at(spec, design, j))?;
-    }
-    Ok(vector)
 }
 
 /// What a specification and a genotype come to.

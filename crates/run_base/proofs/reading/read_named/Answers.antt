@@ -2,7 +2,7 @@ use Rattle.std.proofs.Common.{ℕ, List, Some, refl, sym, subst}
 use Rattle.line_words.specs.declared.refusals.FileTag.TheVariants.{Tgff}
 use Rattle.tgff_reader.specs.Tgff.{tgff_rules, stated, as_seen}
 use Rattle.run_base.specs.Reading.{ReadsTgff}
-use Rattle.run_base.proofs.Reading.{read_as}
+use Rattle.run_base.proofs.ShortFiles.{read_as}
 use Rattle.run_base.proofs.reading.read_named.Goals as goal
 
 pub returns : goal.returns
