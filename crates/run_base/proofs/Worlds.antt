@@ -10,7 +10,7 @@ use Rattle.run_base.specs.declared.loading.Loaded.TheVariants.{TooLong, Bytes}
 
 -- there are contents of any length
 longer : (n : ℕ) → (content : List ℕ) × (n < length content)
-longer n = (replicate (n + 1) 0, omega (arith, length-replicate (n + 1) 0))
+longer n = (replicate (n + 1) 0, omega (arith, length-replicate {A = ℕ} (n + 1) 0))
 
 some_content : (loaded : Loaded) → (content : List ℕ) × IsLoaded loaded content
 some_content TooLong = longer most_bytes
