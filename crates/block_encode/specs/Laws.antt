@@ -1,8 +1,7 @@
 -- What blocks say of designs, and that they make a frame.
 use Rattle.std.specs.Prelude.{◌≡◌, ◌≢◌, ◌↔◌, ◌⊎◌, ℕ, ◌+◌, ◌*◌, ◌<◌, ◌≤◌, nat_lt, List, [], ◌∷◌, ◌++◌, length, All}
 use Rattle.pb_rules.specs.Linear.{Linear, IsModel}
-use Rattle.pb_rules.specs.Operations.{knows}
-use Rattle.pb_rules.specs.Frames.{Line, derived, cover, IsFrame, blocks_by}
+use Rattle.pb_rules.specs.Frames.{any_mentions, Line, derived, cover, IsFrame, CoversHave, blocks_by}
 use Rattle.pb_constraints.specs.Sets.{IsBelow}
 use Rattle.spec_model.specs.Spec.{SpecValue, Bits, all_variables}
 use Rattle.spec_model.specs.Vectors.{vector_of, IsAtMost}
@@ -61,13 +60,9 @@ abbrev pub OfCover : (List ℕ → Type 0) → Line → Type 0
 OfCover P (derived ops) = Unit {0}
 OfCover P (cover v) = P v
 
--- a vector with a number for each objective
-abbrev pub HasOneEach : SpecValue → List ℕ → Type 0
-HasOneEach s v = length v ≡ length s.objectives
-
 -- a cover's vector that doesn't cover the vector of an assignment
 pub record LeavesOpen (s : SpecValue) (f : Bits) (v : List ℕ) : Type 0 where
-  pub one_each : HasOneEach s v
+  pub one_each : length v ≡ length s.objectives
   pub within : IsWithinWeights s v
   pub uncovered : ¬ IsAtMost v (vector_of s f)
 
@@ -83,8 +78,8 @@ AllExtend = (s : SpecValue) (ls : List Line) (f : Bits) → IsWellFormed s → I
 
 -- the variables of constraints are those below a number
 abbrev pub KnowsBelow : List Linear → ℕ → Type 0
-KnowsBelow cs n = (x : ℕ) → knows cs x ≡ nat_lt x n
+KnowsBelow cs n = (x : ℕ) → any_mentions cs x ≡ nat_lt x n
 
 -- the variables that are there over the encoding and the blocks of covers
 abbrev pub FramesKnow : Type 0
-FramesKnow = (s : SpecValue) (ls : List Line) → IsWellFormed s → All (OfCover (HasOneEach s)) ls → KnowsBelow (encoding s ++ blocks_by (cover_frame s) ls) (variables_to s (covers_in ls))
+FramesKnow = (s : SpecValue) (ls : List Line) → IsWellFormed s → CoversHave (length s.objectives) ls → KnowsBelow (encoding s ++ blocks_by (cover_frame s) ls) (variables_to s (covers_in ls))

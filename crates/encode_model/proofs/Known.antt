@@ -9,7 +9,8 @@ use Rattle.std.proofs.lemmas.List.{take_all}
 use Rattle.std.proofs.lemmas.List.Elements.{All-cons, All-nil}
 use Rattle.pb_rules.specs.declared.Term.{Term}
 use Rattle.pb_rules.specs.Linear.{Linear}
-use Rattle.pb_rules.specs.Operations.{mentions, knows}
+use Rattle.pb_rules.specs.Operations.{mentions}
+use Rattle.pb_rules.specs.Frames.{any_mentions}
 use Rattle.spec_model.specs.Spec.{SpecValue, below, message_at, arc_at, option_at, arc_var, resource_var, link_var, step_var, covered_var, design_variables, all_variables, base, further}
 use Rattle.spec_model.proofs.Joined.{All-left, All-right, All-piece, All-one, All-second}
 use Rattle.spec_model.proofs.Places.{agree_at}
@@ -78,11 +79,11 @@ in_positives g (suc n) a (suc i) l =
 abbrev Lacks : ℕ → Linear → Type 0
 Lacks x c = mentions x c.terms ≡ false
 
-lacks_all : (x : ℕ) (cs : List Linear) → knows cs x ≡ false → All (Lacks x) cs
+lacks_all : (x : ℕ) (cs : List Linear) → any_mentions cs x ≡ false → All (Lacks x) cs
 lacks_all x [] h = All-nil (Lacks x)
 lacks_all x (c ∷ cs) h = go (lacks_all x cs) (mentions x c.terms) refl h
   where
-    go : (knows cs x ≡ false → All (Lacks x) cs) → (b : Bool) → mentions x c.terms ≡ b → cond b true (knows cs x) ≡ false → All (Lacks x) (c ∷ cs)
+    go : (any_mentions cs x ≡ false → All (Lacks x) cs) → (b : Bool) → mentions x c.terms ≡ b → cond b true (any_mentions cs x) ≡ false → All (Lacks x) (c ∷ cs)
     go ih true q h = absurd cc
     go ih false q h = All-cons (Lacks x) c cs q (ih h)
 
@@ -190,14 +191,14 @@ module _ (s : SpecValue) (x : ℕ) (none : All (Lacks x) (encoding s)) where
       at (inr k) (inr b) (inr c) = no_link (x - (length s.options + M * length s.arcs + length s.resources)) (omega (arith, l, c)) (omega (arith, c))
 
 -- each variable of an encoding is known
-pub encoding_knows : (s : SpecValue) (x : ℕ) → x < all_variables s → knows (encoding s) x ≡ true
+pub encoding_knows : (s : SpecValue) (x : ℕ) → x < all_variables s → any_mentions (encoding s) x ≡ true
 unfolding all_variables base
 encoding_knows s x l =
-    agree_at s (knows (encoding s)) (λ _. true) (λ v h. there v (λ none. no_design s v none h)) (λ m r t hm hr ht. there (step_var s m r t) (λ none. no_step s (step_var s m r t) none m r t hm hr ht refl)) (λ m r hm hr. there (covered_var s m r) (λ none. no_cover s (covered_var s m r) none m r hm hr refl)) x (omega (arith, l, ap (sum_by (further s)) (take_all (length s.messages) s.messages (omega arith))))
+    agree_at s (any_mentions (encoding s)) (λ _. true) (λ v h. there v (λ none. no_design s v none h)) (λ m r t hm hr ht. there (step_var s m r t) (λ none. no_step s (step_var s m r t) none m r t hm hr ht refl)) (λ m r hm hr. there (covered_var s m r) (λ none. no_cover s (covered_var s m r) none m r hm hr refl)) x (omega (arith, l, ap (sum_by (further s)) (take_all (length s.messages) s.messages (omega arith))))
   where
-    there : (v : ℕ) → (All (Lacks v) (encoding s) → ⊥) → knows (encoding s) v ≡ true
+    there : (v : ℕ) → (All (Lacks v) (encoding s) → ⊥) → any_mentions (encoding s) v ≡ true
     there v h =
-        elim (cases_Bool (knows (encoding s) v)) [
+        elim (cases_Bool (any_mentions (encoding s) v)) [
           | inl t ↦ t
           | inr f ↦ absurd (h (lacks_all v (encoding s) f))
         ]

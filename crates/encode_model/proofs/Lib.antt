@@ -1,4 +1,5 @@
 pub mod Hub
+pub mod Written
 pub mod Weights
 pub mod Rising
 pub mod Terms

@@ -9,7 +9,7 @@ use Rattle.pb_rules.specs.declared.Term.{Term}
 use Rattle.pb_rules.specs.Linear.{Linear, IsNormal, VarsBelow, total}
 use Rattle.spec_model.specs.Spec.{below, those}
 use Rattle.spec_model.proofs.Those.{those-more, below-more, flat_map-below_more}
-use Rattle.pb_rules.proofs.Rows.{From, from-pairs}
+use Rattle.pb_rules.proofs.Rising.{From, from-pairs}
 use Rattle.spec_model.proofs.Joined.{All-those}
 use Rattle.encode_model.specs.Encoding.{weighted, has_weight, put, by_variable, at_least}
 use Rattle.encode_model.specs.Rising.{RisesWithin, IsTermFrom, TermsWithin, IsRising}

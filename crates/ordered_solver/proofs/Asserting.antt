@@ -15,8 +15,7 @@ use Rattle.pb_rules.proofs.Assignments.{FalseToo, open-cons, closed-conflict}
 use Rattle.constraint_store.specs.Live.{Live}
 use Rattle.trail_state.specs.Trail.{Entry, value_in, level_of, level_in, upto_level}
 use Rattle.trail_state.proofs.Levels.{level_in-le, value_in-upto_level, none-upto_level}
-use Rattle.propagate.specs.declared.attached.Attached.{Attached}
-use Rattle.propagate.specs.Attached.{attached_at}
+use Rattle.propagate.specs.Attached.{Attached, attached_at}
 use Rattle.conflict_graph.specs.Conditions.{HasCurrent}
 use Rattle.conflict_graph.specs.Learned.{IsLearned, IsLevelBelow}
 use Rattle.conflict_graph.proofs.Ends.{false-at}

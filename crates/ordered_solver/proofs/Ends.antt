@@ -7,7 +7,7 @@ use Rattle.std.proofs.lemmas.List.Elements.{All-push, All-map, All-contains}
 use Rattle.pb_constraints.specs.declared.ConId.{ConId}
 use Rattle.pb_rules.specs.declared.Op.{Op}
 use Rattle.pb_rules.specs.Literal.{Literal}
-use Rattle.pb_rules.specs.Linear.{Linear, Holds, IsModel, AreAmong, assignment}
+use Rattle.pb_rules.specs.Linear.{Linear, Holds, IsModel, AreAmong, bits_of}
 use Rattle.pb_rules.specs.Partial.{IsClosed, whole}
 use Rattle.pb_rules.specs.Clauses.{contradiction}
 use Rattle.pb_rules.specs.Honest.{LeavesOne}
@@ -20,8 +20,7 @@ use Rattle.proof_log.specs.HonestLog.{AreHonestLines}
 use Rattle.constraint_store.specs.Live.{Live}
 use Rattle.trail_state.specs.Trail.{Entry, value_in, IsDistinct}
 use Rattle.trail_state.proofs.Levels.{first-at}
-use Rattle.propagate.specs.declared.attached.Attached.{Attached}
-use Rattle.propagate.specs.Attached.{attached_at}
+use Rattle.propagate.specs.Attached.{Attached, attached_at}
 use Rattle.propagate.specs.Forced.{AllClosed}
 use Rattle.conflict_graph.specs.Learned.{constraints_in}
 use Rattle.ordered_solver.specs.declared.answer.Answer.TheVariants.{Model, Nothing, Budget}
@@ -104,7 +103,7 @@ found-nothing start live ids old mid new order variables budget n es h r below c
     }
 
 -- the values of a trail have its literals
-takes-values : (es : List Entry) (variables : ℕ) (values : List Bool) → IsDistinct es → All (λ (e : Entry). e.lit.var < variables) es → HasValues variables es values → TakesBelow (whole (assignment values)) es (length es)
+takes-values : (es : List Entry) (variables : ℕ) (values : List Bool) → IsDistinct es → All (λ (e : Entry). e.lit.var < variables) es → HasValues variables es values → TakesBelow (whole (bits_of values)) es (length es)
 takes-values es variables values distinct below h j d l =
     let at = first-at es (get_or es j d).lit.var j d l refl (distinct j d l) in
     ap (λ (b : Bool). Some b) (h.each (get_or es j d).lit.var (get_or es j d).lit.yes (below j d l) at.value)
@@ -124,7 +123,7 @@ AreHeld live held = (c : ConId) (k : Linear) → attached_at held c ≡ Some k �
 -- each variable has a value, and nothing is in conflict
 pub found-model : (start live : List Live) (ids : List ConId) (held : List Attached) (old new : LogValue) (order : List Literal) (variables budget n : ℕ) (es : List Entry) (values : Vec Bool) → HasLearned start live ids old new n → n < budget → IsCounted variables es n → length order ≡ variables → Covers order variables → All (IsAttached held) live → All (IsInRange variables) live → AreHeld live held → IsSearch held order es → IsFull order es → AllClosed held es → IsDistinct es → All (λ (e : Entry). e.lit.var < variables) es → HasValues variables es values.items → IsFound start old new order variables budget (Model values)
 found-model start live ids held old new order variables budget n es values h below counted every covers attached in_range among decided full closed distinct inside has =
-    let v : ℕ → Bool = assignment values.items in
+    let v : ℕ → Bool = bits_of values.items in
     let is = lines-are old new h.lines h.written in
     let len : length (new_lines old new) ≡ n = ap length is ∙ h.counted in
     let top = word-lt variables (marks es) in

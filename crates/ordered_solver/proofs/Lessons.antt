@@ -21,8 +21,7 @@ use Rattle.proof_log.specs.HonestLog.{AreHonestLines}
 use Rattle.constraint_store.specs.Live.{Live, is_live, live_at, constraint_of, proof_id_of}
 use Rattle.constraint_store.proofs.Laws.{is_live_added, live_at_added, live_at_new}
 use Rattle.trail_state.specs.Trail.{Entry, value_in, level_of, upto_level}
-use Rattle.propagate.specs.declared.attached.Attached.{Attached}
-use Rattle.propagate.specs.Attached.{attached_at, ChangesOnly}
+use Rattle.propagate.specs.Attached.{Attached, attached_at, ChangesOnly}
 use Rattle.propagate.specs.Forced.{IsForcedAt, AllClosed}
 use Rattle.propagate.proofs.Attaching.{same_id}
 use Rattle.conflict_graph.specs.Derives.{HasUnder, GiveOver}

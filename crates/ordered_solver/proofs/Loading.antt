@@ -11,8 +11,7 @@ use Rattle.pb_rules.specs.Linear.{Linear, VarsBelow}
 use Rattle.constraint_store.specs.Live.{Live, is_live, live_at, constraint_of, without}
 use Rattle.constraint_store.proofs.Laws.{is_live_added, live_at_new}
 use Rattle.trail_state.specs.Trail.{Entry, TrailView}
-use Rattle.propagate.specs.declared.attached.Attached.{Attached}
-use Rattle.propagate.specs.Attached.{ChangesOnly}
+use Rattle.propagate.specs.Attached.{Attached, ChangesOnly}
 use Rattle.propagate.specs.Propagator.{PropagatorView, IsReady, IsCounted}
 use Rattle.propagate.proofs.Ready.{ready-attach, ready-add, ready-trail, ready-remove}
 use Rattle.ordered_solver.specs.Trails.{GoesOnFrom}

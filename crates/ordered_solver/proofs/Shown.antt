@@ -13,8 +13,7 @@ use Rattle.pb_rules.proofs.Assignments.{FalseToo, room-falls}
 use Rattle.pb_rules.proofs.Closed.{closed-goes, model-closed, closed-among, open-whole}
 use Rattle.trail_state.specs.Trail.{Entry, value_in}
 use Rattle.trail_state.proofs.Entries.{none-below, none-apart, place-of}
-use Rattle.propagate.specs.declared.attached.Attached.{Attached}
-use Rattle.propagate.specs.Attached.{attached_at}
+use Rattle.propagate.specs.Attached.{Attached, attached_at}
 use Rattle.ordered_solver.specs.Trails.{IsSearch, IsFull}
 
 -- an assignment closed for all that is attached

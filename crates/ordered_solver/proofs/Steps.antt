@@ -10,8 +10,7 @@ use Rattle.pb_rules.specs.Linear.{Linear}
 use Rattle.pb_rules.specs.Partial.{Forces}
 use Rattle.trail_state.specs.Trail.{Entry, value_in, level_of, is_decision, upto_level}
 use Rattle.trail_state.proofs.Levels.{level-cons, level-push, upto_level-append, upto_level-push, upto_level-all, upto_level-take, upto_level-twice, level_of-upto_level}
-use Rattle.propagate.specs.declared.attached.Attached.{Attached}
-use Rattle.propagate.specs.Attached.{attached_at}
+use Rattle.propagate.specs.Attached.{Attached, attached_at}
 use Rattle.propagate.specs.Forced.{IsForcedAt, Appends, AllClosed}
 use Rattle.ordered_solver.specs.Trails.{IsNext, IsDecidedAt, IsSearch, IsOrdered, GoesOnFrom}
 

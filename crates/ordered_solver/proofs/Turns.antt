@@ -8,8 +8,7 @@ use Rattle.pb_rules.specs.Partial.{Forces}
 use Rattle.proof_log.specs.Log.{LogValue}
 use Rattle.constraint_store.specs.Live.{Live, live_at, constraint_of}
 use Rattle.trail_state.specs.Trail.{Entry, TrailView, value_in, level_of}
-use Rattle.propagate.specs.declared.attached.Attached.{Attached}
-use Rattle.propagate.specs.Attached.{attached_at}
+use Rattle.propagate.specs.Attached.{Attached, attached_at}
 use Rattle.propagate.specs.Forced.{IsConflict}
 use Rattle.propagate.specs.Propagator.{PropagatorView}
 use Rattle.conflict_graph.specs.Conditions.{IsUsable, IsForcedBy, AllForced, HasCurrent}

@@ -5,8 +5,7 @@ use Rattle.pb_rules.specs.Linear.{VarsBelow}
 use Rattle.constraint_store.specs.Live.{Live, is_live, content}
 use Rattle.proof_log.specs.Log.{LogValue}
 use Rattle.trail_state.specs.Trail.{TrailView}
-use Rattle.propagate.specs.declared.attached.Attached.{Attached}
-use Rattle.propagate.specs.Attached.{attached_at}
+use Rattle.propagate.specs.Attached.{Attached, attached_at}
 use Rattle.propagate.specs.Propagator.{PropagatorView, IsReady}
 use Rattle.ordered_solver.specs.Solver.{HasGivenId}
 

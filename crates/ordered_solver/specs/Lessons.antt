@@ -11,8 +11,7 @@ use Rattle.proof_log.specs.Log.{LogValue, next_id}
 use Rattle.proof_log.specs.HonestLog.{AreHonestLines}
 use Rattle.constraint_store.specs.Live.{Live, is_live}
 use Rattle.trail_state.specs.Trail.{Entry, value_in, upto_level}
-use Rattle.propagate.specs.declared.attached.Attached.{Attached}
-use Rattle.propagate.specs.Attached.{ChangesOnly}
+use Rattle.propagate.specs.Attached.{Attached, ChangesOnly}
 use Rattle.conflict_graph.specs.Derives.{HasUnder, Derives}
 use Rattle.conflict_graph.specs.Learned.{constraints_in, IsLearned, IsLevelBelow}
 use Rattle.ordered_solver.specs.Answers.{AnswerSays, CountSays, GoesOnDerived, LinesSay, new_lines}

@@ -3,7 +3,7 @@ use Rattle.std.specs.Prelude.{ℕ, Bool, Option, Some, None, false, ◌≡◌, �
 use Rattle.pb_rules.specs.declared.Term.{Term}
 use Rattle.pb_rules.specs.Literal.{Literal}
 use Rattle.trail_state.specs.Trail.{Entry, value_in, level_of, upto_level}
-use Rattle.propagate.specs.declared.attached.Attached.{Attached}
+use Rattle.propagate.specs.Attached.{Attached}
 use Rattle.propagate.specs.Forced.{IsForcedAt, AllClosed}
 
 -- the first literal of the order whose variable has no value

@@ -1,5 +1,5 @@
 -- An operation that was carried out: what it needed, and what it left on the stack.
-use Rattle.std.proofs.Common.{◌≡◌, ℕ, ◌<◌, ◌^◌, Bool, true, false, cond, eqb, ltb, Option, Some, None, List, [], ◌∷◌, ◌++◌, refl, sym, ap, ◌∙◌, arith, inl, inr}
+use Rattle.std.proofs.Common.{◌≡◌, ℕ, ◌<◌, ◌^◌, Bool, true, false, cond, eqb, Option, Some, None, List, [], ◌∷◌, ◌++◌, refl, sym, ap, ◌∙◌, arith, inl, inr}
 use Rattle.std.specs.Prelude.{Result, Ok, Err, ok_or}
 use Rattle.std.proofs.lemmas.Bool.{cases_eq, cases_lt}
 use Rattle.std.proofs.lemmas.Bool.Decides.{nat_tests}
@@ -8,7 +8,7 @@ use Rattle.pb_rules.specs.declared.Op.TheVariants.{Id, Axiom, Add, Times, Divide
 use Rattle.pb_rules.specs.Literal.{Literal}
 use Rattle.pb_rules.specs.Linear.{Linear}
 use Rattle.pb_rules.specs.CuttingPlanes.{axiom_of, add, times, divide, saturate, weaken}
-use Rattle.pb_rules.specs.Operations.{Context, Fault, no_step, zero_divisor, unknown, too_large, excess, unless_too_large, fits, small_number, and_then, if_small, if_known, push, for_top, for_two, apply, apply_all, only_one, line_gives}
+use Rattle.pb_rules.specs.Operations.{Context, Fault, no_step, zero_divisor, unknown, excess, unless_too_large, fits, small_number, and_then, if_small, if_known, push, apply, apply_all, only_one, line_gives}
 
 -- how an operation went on to a stack
 pub data Carried (context : Context) (after : List Linear) : Op → List Linear → Type 0 where

@@ -1,5 +1,5 @@
 -- A legal line gives a constraint whose variables were there before.
-use Rattle.std.proofs.Common.{◌≡◌, ℕ, zero, suc, ◌+◌, ◌-◌, Bool, true, false, cond, eqb, ltb, List, [], ◌∷◌, map, min, Some, refl, sym, ap, ◌∙◌, subst, arith, ◌⊎◌, inl, inr}
+use Rattle.std.proofs.Common.{◌≡◌, ℕ, ◌+◌, ◌-◌, Bool, true, false, cond, eqb, ltb, List, [], ◌∷◌, map, min, Some, refl, sym, ap, ◌∙◌, subst, arith, ◌⊎◌, inl, inr}
 use Rattle.std.specs.Prelude.{Ok, ◌++◌}
 use Rattle.std.proofs.lemmas.Bool.{eqb-true}
 use Rattle.std.proofs.lemmas.Bool.Decides.{nat_tests}
@@ -7,11 +7,11 @@ use Rattle.pb_rules.specs.declared.Term.{Term}
 use Rattle.pb_rules.specs.declared.Op.{Op}
 use Rattle.pb_rules.specs.Literal.{Literal}
 use Rattle.pb_rules.specs.Linear.{Linear}
-use Rattle.pb_rules.specs.CuttingPlanes.{axiom_of, Sum, onto, same_sign, joined, merge, add, multiplied, times, divided, divide, cut, saturate, without_var, weaken}
+use Rattle.pb_rules.specs.CuttingPlanes.{axiom_of, Sum, same_sign, joined, merge, multiplied, divided, cut, without_var}
 use Rattle.pb_rules.specs.Operations.{Context, mentions, IsKnown, KnowsLive, line_gives}
-use Rattle.pb_rules.specs.Frames.{Given, any_mentions, context_of, with_derived}
+use Rattle.pb_rules.specs.Frames.{Line, derived, cover, Frame, Given, any_mentions, context_of, with_derived, given_from, blocks_from}
 use Rattle.pb_rules.proofs.Sound.{IsKept, line-keeps}
-use Rattle.pb_rules.proofs.Given.{given-knows}
+use Rattle.pb_rules.proofs.Given.{Goes, by_ops, by_block, goes, first-line, given-knows}
 use Rattle.pb_rules.proofs.Normal.{Merged, done, first, second, both, merged}
 
 -- a term has the variable
@@ -141,23 +141,44 @@ known-kept context live = record {
 pub line-known : (context : Context) (os : List Op) (c : Linear) → KnowsLive context → line_gives context os ≡ Ok c → IsKnown context c
 line-known context os c live e = line-keeps context (IsKnown context) (known-kept context live) os c e
 
+or_assoc : (a b m : Bool) → cond a true (cond b true m) ≡ cond (cond a true b) true m
+or_assoc true b m = refl
+or_assoc false b m = refl
+
+-- a constraint of two lists has a variable where one of either list has it
+pub mentions-append : (cs ds : List Linear) (x : ℕ) → any_mentions (cs ++ ds) x ≡ cond (any_mentions cs x) true (any_mentions ds x)
+mentions-append [] ds x = refl
+mentions-append (c ∷ cs) ds x = ap (λ (b : Bool). cond (mentions x c.terms) true b) (mentions-append cs ds x) ∙ or_assoc (mentions x c.terms) (any_mentions cs x) (any_mentions ds x)
+
 -- a constraint whose variables are there adds none
 pub derived-knows : (g : Given) (c : Linear) → IsKnown (context_of g) c → (x : ℕ) → (context_of (with_derived g c)).knows x ≡ (context_of g).knows x
-derived-knows g c known x = pushed g.constraints ∙ turn (mentions x c.terms) (any_mentions g.constraints x) (known x)
+derived-knows g c known x = mentions-append g.constraints (c ∷ []) x ∙ turn (mentions x c.terms) (any_mentions g.constraints x) (known x)
   where
-    push_cond : (a b m : Bool) → cond a true (cond b true m) ≡ cond (cond a true b) true m
-    push_cond true b m = refl
-    push_cond false b m = refl
-
-    pushed : (cs : List Linear) → any_mentions (cs ++ c ∷ []) x ≡ cond (any_mentions cs x) true (mentions x c.terms)
-    pushed [] = last (mentions x c.terms)
-      where
-        last : (b : Bool) → cond b true false ≡ b
-        last true = refl
-        last false = refl
-    pushed (d ∷ cs) = ap (λ (b : Bool). cond (mentions x d.terms) true b) (pushed cs) ∙ push_cond (mentions x d.terms) (any_mentions cs x) (mentions x c.terms)
-
-    turn : (m k : Bool) → (m ≡ true → k ≡ true) → cond k true m ≡ k
-    turn true k h = ap (λ (b : Bool). cond b true true) (h refl) ∙ sym (h refl)
-    turn false true h = refl
+    turn : (m k : Bool) → (m ≡ true → k ≡ true) → cond k true (cond m true false) ≡ k
+    turn m true h = refl
+    turn true false h = sym (h refl)
     turn false false h = refl
+
+-- after lines the variables are there that were there before, and those of the blocks of the covers
+pub given-variables : (f : Frame) (g h : Given) (ls : List Line) → given_from f g ls ≡ Some h → (x : ℕ) → (context_of h).knows x ≡ cond ((context_of g).knows x) true (any_mentions (blocks_from f g.covers ls) x)
+given-variables f g h [] e x = let q : g ≡ h = cc in ap (λ (k : Given). any_mentions k.constraints x) (sym q) ∙ none (any_mentions g.constraints x)
+  where
+    none : (b : Bool) → b ≡ cond b true false
+    none true = refl
+    none false = refl
+given-variables f g h (l ∷ ls) e x =
+    let s = first-line f g h l ls e in
+    given-variables f s.0 h ls s.2 x ∙ go l s.0 (goes f g s.0 l s.1)
+  where
+    go : (l : Line) (k : Given) → Goes f g k l → cond ((context_of k).knows x) true (any_mentions (blocks_from f k.covers ls) x) ≡ cond ((context_of g).knows x) true (any_mentions (blocks_from f g.covers (l ∷ ls)) x)
+    go (derived ops) k (by_ops c q is) =
+        let known = line-known (context_of g) ops c (given-knows g) q in
+        ap (λ (k : Given). cond ((context_of k).knows x) true (any_mentions (blocks_from f k.covers ls) x)) is
+        ∙ ap (λ (b : Bool). cond b true (any_mentions (blocks_from f g.covers ls) x)) (derived-knows g c known x)
+    go (cover v) k (by_block small is) =
+        let block : List Linear = f.block (g.covers + 1) v in
+        let more : List Linear = blocks_from f (g.covers + 1) ls in
+        ap (λ (k : Given). cond ((context_of k).knows x) true (any_mentions (blocks_from f k.covers ls) x)) is
+        ∙ ap (λ (b : Bool). cond b true (any_mentions more x)) (mentions-append g.constraints block x)
+        ∙ sym (or_assoc (any_mentions g.constraints x) (any_mentions block x) (any_mentions more x))
+        ∙ ap (λ (b : Bool). cond (any_mentions g.constraints x) true b) (sym (mentions-append block more x))

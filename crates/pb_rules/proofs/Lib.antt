@@ -10,3 +10,4 @@ pub mod Sound
 pub mod Given
 pub mod Normal
 pub mod Known
+pub mod Worked

@@ -145,12 +145,18 @@ axiom-normal l =
     let P : Term → Type 0 = λ (x : Term). 0 < x.coef in
     normal-from (axiom_of l).terms 0 (omega arith, tt) (All-cons P (record { coef = 1; lit = l }) [] (omega arith) (All-nil P)) (omega arith) (omega arith)
 
+-- the terms of a sum rise, and are positive
+pub add-rising : (a b : Linear) → IsNormal a.terms a.degree → IsNormal b.terms b.degree → From 0 (add a b).terms
+add-rising a b p q = merged-rising a.terms b.terms (merge a.terms b.terms) (merged a.terms b.terms) 0 (from-normal a.terms a.degree p) (from-normal b.terms b.degree q)
+
+pub add-positive : (a b : Linear) → IsNormal a.terms a.degree → IsNormal b.terms b.degree → All (λ (t : Term). 0 < t.coef) (add a b).terms
+add-positive a b p q = merged-positive a.terms b.terms (merge a.terms b.terms) (merged a.terms b.terms) p.positive q.positive
+
 -- a sum in bounds is in normal form
 pub add-normal : (a b : Linear) → IsNormal a.terms a.degree → IsNormal b.terms b.degree → excess (add a b) ≡ None → IsNormal (add a b).terms (add a b).degree
 add-normal a b p q h =
     let w = within (add a b) h in
-    let m = merged a.terms b.terms in
-    normal-from (add a b).terms (add a b).degree (merged-rising a.terms b.terms (merge a.terms b.terms) m 0 (from-normal a.terms a.degree p) (from-normal b.terms b.degree q)) (merged-positive a.terms b.terms (merge a.terms b.terms) m p.positive q.positive) w.0 w.1
+    normal-from (add a b).terms (add a b).degree (add-rising a b p q) (add-positive a b p q) w.0 w.1
 
 -- terms made one by one of others, with their literals
 module _ (g : Term → Term) (same : (t : Term) → (g t).lit ≡ t.lit) where

@@ -1,5 +1,5 @@
 -- Terms in rising order of their variables, from a variable on.
-use Rattle.std.proofs.Common.{◌≡◌, ℕ, ◌+◌, ◌<◌, ◌≤◌, List, [], ◌∷◌, length, get_or, arith, zero, suc}
+use Rattle.std.proofs.Common.{ℕ, ◌+◌, ◌<◌, ◌≤◌, List, [], ◌∷◌, length, get_or, arith, zero, suc}
 use Rattle.pb_rules.specs.declared.Term.{Term}
 
 -- in rising order from a variable on

@@ -1,6 +1,6 @@
-use Rattle.std.proofs.Common.{◌≡◌, ℕ, ◌+◌, ◌-◌, ◌*◌, ◌<◌, ◌≤◌, Bool, true, false, cond, eqb, ltb, Some, None, List, [], ◌∷◌, refl, sym, ap, subst, arith, inl, inr, zero, suc, map, min}
+use Rattle.std.proofs.Common.{◌≡◌, ℕ, ◌+◌, ◌*◌, ◌<◌, ◌≤◌, Bool, true, false, cond, eqb, ltb, Some, None, List, [], ◌∷◌, refl, sym, ap, subst, arith, inl, inr, map, min}
 use Rattle.std.specs.Prelude.{All, Ok}
-use Rattle.std.proofs.lemmas.Bool.{cases_eq, cases_lt}
+use Rattle.std.proofs.lemmas.Bool.{cases_lt}
 use Rattle.std.proofs.lemmas.Bool.Decides.{nat_tests}
 use Rattle.std.proofs.lemmas.List.Elements.{All-cons, All-head, All-tail, All-nil}
 use Rattle.std.proofs.lemmas.Grind.{div_ceil_times}
@@ -10,7 +10,7 @@ use Rattle.pb_rules.specs.declared.Term.{Term}
 use Rattle.pb_rules.specs.declared.Op.{Op}
 use Rattle.pb_rules.specs.declared.Op.TheVariants.{Id, Axiom, Add, Times, Divide, Saturate, Weaken}
 use Rattle.pb_rules.specs.Literal.{Literal, lit_true}
-use Rattle.pb_rules.specs.Linear.{Linear, Holds, IsModel, true_weight}
+use Rattle.pb_rules.specs.Linear.{Linear, Holds, true_weight}
 use Rattle.pb_rules.specs.CuttingPlanes.{axiom_of, add, times, multiplied, divide, divided, up, saturate, cut, weaken, without_var, coef_of}
 use Rattle.pb_rules.specs.Operations.{Context, excess, apply_all, line_gives}
 use Rattle.pb_rules.proofs.Sums.{true_weight-cons, add-holds}

@@ -1,6 +1,5 @@
 -- Clauses, and `0 >= 1`.
 use Rattle.std.specs.Prelude.{◌≡◌, All, []}
-use Rattle.pb_rules.specs.declared.Term.{Term}
 use Rattle.pb_rules.specs.Linear.{Linear, IsNormal}
 
 -- coefficients 1 and degree 1, in normal form

@@ -3,7 +3,7 @@ use Rattle.std.specs.Prelude.{ℕ, Bool, Ok, Some, ◌≡◌, ◌+◌, ◌++◌,
 use Rattle.pb_rules.specs.Linear.{Linear, IsModel, IsNormal}
 use Rattle.pb_rules.specs.declared.Op.{Op}
 use Rattle.pb_rules.specs.Operations.{Context, IsKnown, KnowsLive, line_gives}
-use Rattle.pb_rules.specs.Frames.{Line, derived, Frame, IsFrame, Given, context_of, with_derived, given_by, blocks_by, derived_by, ids_in}
+use Rattle.pb_rules.specs.Frames.{Line, derived, Frame, IsFrame, Given, any_mentions, context_of, with_derived, given_by, blocks_by, derived_by, ids_in}
 
 -- where the base and the blocks of the covers hold, all that legal lines give holds
 abbrev pub LinesAreSound : Type 0
@@ -36,3 +36,7 @@ LinesAreKnown = (context : Context) (ops : List Op) (c : Linear) → KnowsLive c
 -- so after it the same variables are there
 abbrev pub LineKeepsVariables : Type 0
 LineKeepsVariables = (g : Given) (ops : List Op) (c : Linear) → line_gives (context_of g) ops ≡ Ok c → (x : ℕ) → (context_of (with_derived g c)).knows x ≡ (context_of g).knows x
+
+-- after legal lines exactly the variables of the base and of the blocks of the covers are there
+abbrev pub VariablesAreOfCovers : Type 0
+VariablesAreOfCovers = (f : Frame) (g : Given) (ls : List Line) → given_by f ls ≡ Some g → (x : ℕ) → (context_of g).knows x ≡ any_mentions (f.base ++ blocks_by f ls) x

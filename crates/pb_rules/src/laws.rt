@@ -7,7 +7,7 @@ ghost use Rattle.pb_rules.specs.Linear.{Linear, Holds, IsModel, AreAmong};
 ghost use Rattle.pb_rules.specs.Partial.{Forces, IsClosed, IsClosedFor, GoesOn, whole};
 ghost use Rattle.pb_rules.specs.Clauses.{IsClause, contradiction};
 ghost use Rattle.pb_rules.specs.Honest.{IsAbsorbed, IsUnabsorbed, IsPropagated};
-ghost use Rattle.pb_rules.specs.Laws.{LinesAreSound, LinesAreNormal, IdsAreCounted, LineGivesOne, LineDerivesOne, GivenKnowsLive, LinesAreKnown, LineKeepsVariables};
+ghost use Rattle.pb_rules.specs.Laws.{LinesAreSound, LinesAreNormal, IdsAreCounted, LineGivesOne, LineDerivesOne, GivenKnowsLive, LinesAreKnown, LineKeepsVariables, VariablesAreOfCovers};
 
 /// Lines are sound: where the base and the blocks of the covers hold, all that legal lines give holds. Legal lines
 /// that follow a frame in normal form give constraints in normal form.
@@ -24,12 +24,13 @@ pub fn law_of_ids()
     ensures one_derived { LineDerivesOne }
 {}
 
-/// A legal line gives a constraint whose variables were there before, so that the same variables are there after it: only
-/// a cover brings new ones.
+/// A legal line gives a constraint whose variables were there before, so that the same variables are there after it. Only
+/// covers bring new ones: after legal lines exactly the variables of the base and of the blocks are there.
 pub fn law_of_variables()
     ensures live { GivenKnowsLive }
     ensures known { LinesAreKnown }
     ensures kept { LineKeepsVariables }
+    ensures of_covers { VariablesAreOfCovers }
 {}
 
 /// Closed partial assignments: what a smaller assignment forces, a closed one takes; a model is a closed one; closed for

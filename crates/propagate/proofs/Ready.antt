@@ -1,13 +1,15 @@
 -- The conditions of `attach` and `run` are kept by each of the calls on propagator, store and trail.
-use Rattle.std.proofs.Common.{◌≡◌, ◌≢◌, ℕ, Bool, true, cond, eqb, Option, Some, None, List, [], ◌∷◌, ◌++◌, get_or, zero, suc, refl, sym, ap, ◌∙◌, subst, inl, inr, ◌⊎◌, IsTrue}
-use Rattle.std.proofs.lemmas.Bool.{cases_eq}
+use Rattle.std.proofs.Common.{◌≡◌, ◌≢◌, ℕ, Bool, true, cond, eqb, Option, Some, None, List, [], ◌∷◌, ◌++◌, get_or, zero, suc, refl, sym, ap, ◌∙◌, subst, inl, inr, ◌⊎◌, IsTrue, ◌<◌, ◌≤◌, length, take, map, arith}
+use Rattle.std.proofs.lemmas.Bool.{cases_eq, cases_lt}
+use Rattle.std.proofs.lemmas.List.{take-map, take-take}
 use Rattle.pb_constraints.specs.declared.ConId.{ConId}
+use Rattle.pb_rules.specs.Literal.{Literal}
 use Rattle.pb_rules.specs.Linear.{Linear}
 use Rattle.constraint_store.specs.Live.{Live, is_live, constraint_of, without, Content, new_id, IsOneToOne, IsRenaming}
 use Rattle.constraint_store.proofs.Laws.{is_live_added, live_at_added, live_at_removed, live_at_renamed}
-use Rattle.trail_state.specs.Trail.{TrailView}
+use Rattle.trail_state.specs.Trail.{Entry, TrailView}
 use Rattle.propagate.specs.Attached.{Attached, attached_at, ChangesOnly, IsMoved}
-use Rattle.propagate.specs.Propagator.{PropagatorView, IsCounted, IsReady}
+use Rattle.propagate.specs.Propagator.{PropagatorView, IsCounted, IsAlong, IsReady}
 use Rattle.propagate.proofs.Attaching.{same_id}
 
 abbrev other_number : (c d : ConId) → d.0 ≢ c.0 → d ≢ c
@@ -44,6 +46,25 @@ ready-trail p q store t u r attached variables same counted = record {
   stored = λ c k h. r.stored c k (ap (λ (held : List Attached). attached_at held c) (sym attached) ∙ h);
   counted = counted;
 }
+
+-- after literals were taken off from the end, `back` can be called
+pub along-kept : (p : PropagatorView) (t u : TrailView) → IsCounted p t → take (length u.entries) t.entries ≡ u.entries → IsAlong p u
+along-kept p t u counted kept =
+    let lit : Entry → Literal = λ e. e.lit in
+    let n = length p.counted in
+    let m = length u.entries in
+    let ls : List Literal = map lit t.entries in
+    let left : take m ls ≡ map lit u.entries = take-map lit m t.entries ∙ ap (λ (es : List Entry). map lit es) kept in
+    elim (cases_lt m n) [
+      | inl lt ↦ inr (ap (take m) (sym counted) ∙ take-take m n ls (omega arith) ∙ left)
+      | inr le ↦ inl (ap (take n) (sym left) ∙ take-take n m ls le ∙ counted)
+    ]
+
+-- and where nothing is left
+pub along-nothing : (p : PropagatorView) (u : TrailView) → u.entries ≡ [] → IsAlong p u
+along-nothing p u e =
+    let P : List Entry → Type 0 = λ es. take (length es) p.counted ≡ map (λ (x : Entry). x.lit) es in
+    inr (subst P (sym e) refl)
 
 -- after one more constraint in the store
 pub ready-add : (p : PropagatorView) (store : List Live) (t : TrailView) (e : Live) → IsReady p store t → IsReady p (store ++ e ∷ []) t

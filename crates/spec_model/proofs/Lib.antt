@@ -15,3 +15,5 @@ pub mod Sums
 pub mod Chains
 pub mod Vectors
 pub mod Places
+pub mod Fronts
+pub mod Designs

@@ -57,15 +57,15 @@ parallel = record empty_spec {
   options = option 0 0 ∷ (option 1 1 ∷ []);
 }
 
-abbrev of_list : List ℕ → Bits
+abbrev pub of_list : List ℕ → Bits
 of_list vs v = list_any (λ w. nat_eq w v) vs
 
 -- both links used: two arcs go into b
-both_links : IsCrowded parallel (of_list (0 ∷ (1 ∷ (2 ∷ (3 ∷ []))))) 0 1
+pub both_links : IsCrowded parallel (of_list (0 ∷ (1 ∷ (2 ∷ (3 ∷ []))))) 0 1
 unfolding goes_into arc_bit uses_into
 both_links = record { in_range = omega arith; two = omega arith }
 
-abbrev apart : Bits
+abbrev pub apart : Bits
 apart = of_list (0 ∷ (1 ∷ (2 ∷ (4 ∷ (5 ∷ [])))))
 
 no_walk_to_c : ¬ WalkBelow parallel apart 0 2 3
@@ -75,7 +75,7 @@ no_walk_to_c (suc (suc zero), l, w) = false≢true (walk_test-from parallel apar
 no_walk_to_c (suc (suc (suc n)), l, w) = absurd (omega (arith, l))
 
 -- the arc from c, which nothing reaches
-stray : IsStray parallel apart 0 2
+pub stray : IsStray parallel apart 0 2
 stray = record { used = record { in_range = omega arith; bit = refl }; no_walk = no_walk_to_c }
 
 -- one task on one of three resources, with two objectives
@@ -89,6 +89,6 @@ priced = record empty_spec {
   resource_weights = (1 ∷ (0 ∷ [])) ∷ ((4 ∷ (0 ∷ [])) ∷ ((4 ∷ (0 ∷ [])) ∷ []));
 }
 
-vector_priced : vector_of priced (of_list (1 ∷ (4 ∷ []))) ≡ 4 ∷ (2 ∷ [])
+pub vector_priced : vector_of priced (of_list (1 ∷ (4 ∷ []))) ≡ 4 ∷ (2 ∷ [])
 unfolding vector_at weights_of arc_weight
 vector_priced = refl

@@ -1,6 +1,7 @@
 -- The value of a specification, as plain lists, and the numbering of its variables.
-use Rattle.std.specs.Prelude.{ℕ, Bool, false, Option, ◌+◌, ◌*◌, List, [], length, sum_by, filter, take, slice_index_or}
+use Rattle.std.specs.Prelude.{ℕ, Bool, Option, ◌+◌, ◌*◌, List, [], length, sum_by, filter, take, slice_index_or}
 use Rattle.std.specs.List.{range_with_len}
+pub use Rattle.plain_lists.specs.Bits.{Bits, bits_of}
 
 -- a name, as its bytes
 abbrev pub Name : Type 0
@@ -88,14 +89,6 @@ empty_spec = record {
   capacities = [];
   pairs = [];
 }
-
--- an assignment of truth values to the variables
-abbrev pub Bits : Type 0
-Bits = ℕ → Bool
-
--- the assignment that a list of bits states: false past its end
-abbrev pub bits_of : List Bool → Bits
-bits_of bits v = slice_index_or bits v false
 
 -- the numbers below n, in order
 abbrev pub below : ℕ → List ℕ

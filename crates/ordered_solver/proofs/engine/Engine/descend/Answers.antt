@@ -1,6 +1,6 @@
 use Rattle.std.proofs.Common.{◌≡◌, ◌∙◌, sym, ap, subst, List, None}
 use Rattle.trail_state.specs.Trail.{Entry}
-use Rattle.propagate.specs.declared.attached.Attached.{Attached}
+use Rattle.propagate.specs.Attached.{Attached}
 use Rattle.propagate.specs.Forced.{Appends, AllClosed}
 use Rattle.propagate.specs.Propagator.{PropagatorView}
 use Rattle.ordered_solver.specs.Trails.{IsOrdered, GoesOnFrom}

@@ -1,11 +1,12 @@
-use Rattle.std.proofs.Common.{◌≡◌, ◌∙◌, ◌<◌, ℕ, sym, ap, subst, refl, arith, List, [], ◌∷◌, ◌++◌, Some}
+use Rattle.std.proofs.Common.{◌≡◌, ◌∙◌, ◌<◌, ℕ, sym, ap, subst, refl, arith, List, [], ◌∷◌, ◌++◌, Some, length, take}
 use Rattle.pb_rules.specs.declared.Term.{Term}
 use Rattle.pb_rules.specs.Literal.{Literal}
 use Rattle.pb_rules.specs.Linear.{VarsBelow}
 use Rattle.trail_state.specs.Trail.{Entry, TrailView, value_in, upto_level}
-use Rattle.propagate.specs.declared.attached.Attached.{Attached}
-use Rattle.propagate.specs.Attached.{ChangesOnly}
+use Rattle.trail_state.proofs.Levels.{upto_level-take}
+use Rattle.propagate.specs.Attached.{Attached, ChangesOnly}
 use Rattle.propagate.specs.Propagator.{PropagatorView}
+use Rattle.propagate.proofs.Ready.{along-kept}
 use Rattle.proof_log.specs.Log.{LogValue}
 use Rattle.conflict_graph.specs.Derives.{Derives}
 use Rattle.ordered_solver.specs.Trails.{HasUnassigned, IsUnassignedAt}
@@ -17,6 +18,13 @@ jump_back-requires c =
     let l = c.in_ok-lesson.lesson in
     let below = back-below c.args.self.now.trail.entries l.clause.terms l.back_level c.in_ok-lesson.ensures.back c.requires.level in
     omega arith
+
+pub back-requires : goal.back-requires
+back-requires c =
+    let s = c.args.self.now in
+    let es = s.trail.entries in
+    let P : List Entry → Type 0 = λ us. take (length us) es ≡ us in
+    along-kept s.propagator s.trail c.jump_back.new.self c.requires.loaded.ready.counted (subst P (sym c.jump_back.ensures.entries) (upto_level-take c.in_ok-lesson.lesson.back_level es))
 
 pub unassigned_literal-lit-requires : goal.unassigned_literal-lit-requires
 unassigned_literal-lit-requires c =

@@ -1,7 +1,7 @@
 use Rattle.std.proofs.Common.{◌≡◌, ◌∙◌, ◌<◌, ◌+◌, ℕ, sym, ap, subst, refl, arith, List, vec_items}
 use Rattle.pb_constraints.specs.declared.ConId.{ConId}
 use Rattle.trail_state.specs.Trail.{level_of}
-use Rattle.propagate.specs.declared.attached.Attached.{Attached}
+use Rattle.propagate.specs.Attached.{Attached}
 use Rattle.propagate.specs.Forced.{IsConflict, AllClosed}
 use Rattle.ordered_solver.specs.declared.answer.Answer.TheVariants.{Model}
 use Rattle.ordered_solver.specs.Lessons.{HasLearned, IsCounted, IsFound}
