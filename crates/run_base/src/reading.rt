@@ -100,11 +100,7 @@ fn read_named_genes(alloc: Global, spec: &Spec, loaded: &Loaded) -> Result<Genot
 }
 
 /// The genotype of a file for a specification, or the natural one where no file is named.
-pub fn read_genes(
-    alloc: Global,
-    spec: &Spec,
-    geno: &Option<Loaded>,
-) -> Result<Genotype, ReadFault>
+pub fn read_genes(alloc: Global, spec: &Spec, geno: &Option<Loaded>) -> Result<Genotype, ReadFault>
     ensures reads { (named : Option (List ℕ)) → IsLoadedIfNamed geno.now named → ReadsGenotype spec.now named result }
     ensures sized { IfOk result (λ genes. length genes ≡ design_variables spec.now) }
 {
