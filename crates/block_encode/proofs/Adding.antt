@@ -5,7 +5,6 @@ use Rattle.std.specs.List.{sum_by, flat_map}
 use Rattle.std.proofs.lemmas.Bool.{cases_lt, lt-ltb}
 use Rattle.std.proofs.lemmas.List.{get_or_past, map-append, append-nil}
 use Rattle.std.proofs.lemmas.List.Elements.{All-append}
-use Rattle.std.proofs.lemmas.List.Sums.{sum_by-append}
 use Rattle.pb_rules.specs.declared.Term.{Term}
 use Rattle.pb_rules.specs.Literal.{Literal}
 use Rattle.pb_rules.specs.Linear.{Linear}
@@ -13,14 +12,10 @@ use Rattle.spec_model.specs.Spec.{SpecValue, below, those, design_variables, all
 use Rattle.spec_model.specs.Vectors.{weight_in, arc_weight, arc_weights, weights_of, weight}
 use Rattle.spec_model.specs.WellFormed.{IsWellFormed}
 use Rattle.spec_model.proofs.Joined.{All-ones, All-pieces}
-use Rattle.spec_model.proofs.Those.{below-more, those-more, map-below_more}
+use Rattle.spec_model.proofs.Those.{those-more, sum_by-below_more, map-below_more}
 use Rattle.spec_model.proofs.VariableWeights.{weight_in_small, arc_weight_small}
-use Rattle.encode_model.specs.Encoding.{positive, negative, unit_term}
-use Rattle.block_encode.specs.Block.{total_weight, below_var, is_below, below_somewhere, has_weight, unused, unused_terms, gap, below_number, below_place, block_of}
-
--- one number more in a sum
-pub sum-more : (g : ℕ → ℕ) (n : ℕ) → sum_by g (below (n + 1)) ≡ sum_by g (below n) + g n
-sum-more g n = ap (sum_by g) (below-more n) ∙ omega (arith, sum_by-append g (below n) (n ∷ []))
+use Rattle.encode_model.specs.Encoding.{weighted, has_weight, positive}
+use Rattle.encode_model.specs.Block.{total_weight, below_var, is_below, below_somewhere, unused_terms, gap, not_below, below_number, below_place, block_of}
 
 -- every weight is small
 abbrev IsSmall : ℕ → Type 0
@@ -48,7 +43,7 @@ weight-small s j x wf = at (weights_of s j) (all_small s j wf) (cases_lt x (leng
 sum-small : (s : SpecValue) (j : ℕ) → IsWellFormed s → (n : ℕ) → sum_by (weight s j) (below n) ≤ n * 2 ^ 40
 sum-small s j wf zero = omega arith
 sum-small s j wf (suc n) =
-    subst (λ (k : ℕ). sum_by (weight s j) (below k) ≤ k * 2 ^ 40) (add-one n) (omega (arith, sum-more (weight s j) n, sum-small s j wf n, weight-small s j n wf))
+    subst (λ (k : ℕ). sum_by (weight s j) (below k) ≤ k * 2 ^ 40) (add-one n) (omega (arith, sum_by-below_more (weight s j) n, sum-small s j wf n, weight-small s j n wf))
 
 -- the weights of an objective come to at most 2^60
 pub total-small : (s : SpecValue) (j : ℕ) → IsWellFormed s → total_weight s j ≤ 2 ^ 60
@@ -62,23 +57,23 @@ pub record IsSum (s : SpecValue) (j n sum : ℕ) : Type 0 where
 
 pub IsSum-more : (s : SpecValue) (j n sum next w : ℕ) → IsSum s j n sum → w ≡ weight s j n → w ≤ 2 ^ 40 → next ≡ sum + w → IsSum s j (n + 1) next
 IsSum-more s j n sum next w h e small k = record {
-  value = omega (arith, h.value, e, k, sum-more (weight s j) n);
+  value = omega (arith, h.value, e, k, sum_by-below_more (weight s j) n);
   small = omega (arith, h.small, small, k);
 }
 
 -- the terms of the variables below n
 abbrev pub unused_below : SpecValue → ℕ → ℕ → List Term
-unused_below s j n = map (unused s j) (those (has_weight s j) n)
+unused_below s j n = map (weighted (weight s j) false) (those (has_weight (weight s j)) n)
 
-pub unused-more : (s : SpecValue) (j n : ℕ) → unused_below s j (n + 1) ≡ unused_below s j n ++ map (unused s j) (cond (has_weight s j n) (n ∷ []) [])
-unused-more s j n = ap (map (unused s j)) (those-more (has_weight s j) n) ∙ map-append (unused s j) (those (has_weight s j) n) (cond (has_weight s j n) (n ∷ []) [])
+pub unused-more : (s : SpecValue) (j n : ℕ) → unused_below s j (n + 1) ≡ unused_below s j n ++ map (weighted (weight s j) false) (cond (has_weight (weight s j) n) (n ∷ []) [])
+unused-more s j n = ap (map (weighted (weight s j) false)) (those-more (has_weight (weight s j)) n) ∙ map-append (weighted (weight s j) false) (those (has_weight (weight s j)) n) (cond (has_weight (weight s j) n) (n ∷ []) [])
 
 pub unused-more_some : (s : SpecValue) (j n w : ℕ) (t : Term) (ts now : List Term) → ts ≡ unused_below s j n → w ≡ weight s j n → 0 < w → t ≡ record { coef = w; lit = record { var = n; yes = false } } → now ≡ ts ++ t ∷ [] → now ≡ unused_below s j (n + 1)
-unfolding has_weight unused
+unfolding has_weight weighted
 unused-more_some s j n w t ts now h e l k p =
-    let is : has_weight s j n ≡ true = lt-ltb 0 (weight s j n) (omega (arith, e, l)) in
-    let term : t ≡ unused s j n = k ∙ ap (λ (c : ℕ). make c) e in
-    p ∙ (ap (λ (us : List Term). us ++ t ∷ []) h ∙ (ap (λ (u : Term). unused_below s j n ++ u ∷ []) term ∙ sym (unused-more s j n ∙ ap (λ (b : Bool). unused_below s j n ++ map (unused s j) (cond b (n ∷ []) [])) is)))
+    let is : has_weight (weight s j) n ≡ true = lt-ltb 0 (weight s j n) (omega (arith, e, l)) in
+    let term : t ≡ weighted (weight s j) false n = k ∙ ap (λ (c : ℕ). make c) e in
+    p ∙ (ap (λ (us : List Term). us ++ t ∷ []) h ∙ (ap (λ (u : Term). unused_below s j n ++ u ∷ []) term ∙ sym (unused-more s j n ∙ ap (λ (b : Bool). unused_below s j n ++ map (weighted (weight s j) false) (cond b (n ∷ []) [])) is)))
   where
     make : ℕ → Term
     make c = record { coef = c; lit = record { var = n; yes = false } }
@@ -87,15 +82,18 @@ pub unused-more_none : (s : SpecValue) (j n w : ℕ) (ts now : List Term) → ts
 unfolding has_weight
 unused-more_none s j n w ts now h e l p =
     let zero_weight : weight s j n ≡ 0 = omega (arith, e, l) in
-    let is : has_weight s j n ≡ false = ap (λ (k : ℕ). ltb 0 k) zero_weight in
-    p ∙ (h ∙ sym (unused-more s j n ∙ (ap (λ (b : Bool). unused_below s j n ++ map (unused s j) (cond b (n ∷ []) [])) is ∙ append-nil (unused_below s j n))))
+    let is : has_weight (weight s j) n ≡ false = ap (λ (k : ℕ). ltb 0 k) zero_weight in
+    p ∙ (h ∙ sym (unused-more s j n ∙ (ap (λ (b : Bool). unused_below s j n ++ map (weighted (weight s j) false) (cond b (n ∷ []) [])) is ∙ append-nil (unused_below s j n))))
 
 -- one of the block's variables more
 pub own-more : (s : SpecValue) (b j x : ℕ) (l : Literal) (ts now : List Term) → ts ≡ map (is_below s b) (below j) → x ≡ below_var s b j → l ≡ record { var = x; yes = true } → now ≡ ts ++ record { coef = 1; lit = l } ∷ [] → now ≡ map (is_below s b) (below (j + 1))
 unfolding is_below
 own-more s b j x l ts now h e k p =
-    let literal : l ≡ positive (below_var s b j) = k ∙ ap (λ (y : ℕ). positive y) e in
-    p ∙ (ap (λ (us : List Term). us ++ record { coef = 1; lit = l } ∷ []) h ∙ (ap (λ (m : Literal). map (is_below s b) (below j) ++ unit_term m ∷ []) literal ∙ sym (map-below_more (is_below s b) j)))
+    let term : record { coef = 1; lit = l } ≡ positive (below_var s b j) = ap (λ (m : Literal). make m) k ∙ ap (λ (y : ℕ). positive y) e in
+    p ∙ (ap (λ (us : List Term). us ++ make l ∷ []) h ∙ (ap (λ (t : Term). map (is_below s b) (below j) ++ t ∷ []) term ∙ sym (map-below_more (is_below s b) j)))
+  where
+    make : Literal → Term
+    make m = record { coef = 1; lit = m }
 
 -- one constraint more
 pub place-more : (s : SpecValue) (b j n : ℕ) (v : List ℕ) (c : Linear) (cs now : List Linear) → cs ≡ below_somewhere s b ∷ map (below_place s b v) (below j) → c ≡ below_number s b j n → n ≡ slice_index v j → now ≡ cs ++ c ∷ [] → now ≡ below_somewhere s b ∷ map (below_place s b v) (below (j + 1))
@@ -109,9 +107,12 @@ unfolding block_of
 place-all s b n v cs h e = h ∙ ap (λ (k : ℕ). below_somewhere s b ∷ map (below_place s b v) (below k)) e
 
 -- the terms of one constraint
-pub number-terms : (s : SpecValue) (b j n g x : ℕ) (l : Literal) (ts now : List Term) → ts ≡ unused_terms s j → g ≡ gap s j n → x ≡ below_var s b j → l ≡ record { var = x; yes = false } → now ≡ ts ++ record { coef = g; lit = l } ∷ [] → now ≡ (below_number s b j n).terms
+pub number-terms : (s : SpecValue) (b j n g x : ℕ) (l : Literal) (ts now : List Term) → ts ≡ unused_terms s j → g ≡ gap s j n → x ≡ below_var s b j → l ≡ record { var = x; yes = false } → now ≡ ts ++ record { coef = g; lit = l } ∷ [] → now ≡ unused_terms s j ++ not_below s b j n ∷ []
 number-terms s b j n g x l ts now h e k p q =
     q
     ∙ (ap (λ (us : List Term). us ++ record { coef = g; lit = l } ∷ []) h
     ∙ (ap (λ (c : ℕ). unused_terms s j ++ record { coef = c; lit = l } ∷ []) e
-    ∙ ap (λ (m : Literal). unused_terms s j ++ record { coef = gap s j n; lit = m } ∷ []) (p ∙ ap (λ (y : ℕ). negative y) k)))
+    ∙ ap (λ (m : Literal). unused_terms s j ++ record { coef = gap s j n; lit = m } ∷ []) (p ∙ ap (λ (y : ℕ). false_at y) k)))
+  where
+    false_at : ℕ → Literal
+    false_at y = record { var = y; yes = false }

@@ -2,10 +2,10 @@
 use Rattle.std.proofs.Common.{◌≡◌, ℕ, ◌+◌, List, length, arith}
 use Rattle.std.proofs.lemmas.List.FromFn.{length-map-range_with_len}
 use Rattle.spec_model.specs.Spec.{SpecValue}
-use Rattle.block_encode.specs.Block.{below_place, block_of}
+use Rattle.encode_model.specs.Block.{below_place, block_of}
+use Rattle.encode_model.proofs.Formed.{encoding_normal}
 use Rattle.block_encode.specs.Laws.{BlocksMakeFrame}
 use Rattle.block_encode.proofs.Forms.{block_normal}
-use Rattle.block_encode.proofs.Normal.{encoding_normal}
 
 sized : (s : SpecValue) (b : ℕ) (v : List ℕ) → length (block_of s b v) ≡ length v + 1
 unfolding block_of

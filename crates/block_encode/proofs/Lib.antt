@@ -1,5 +1,6 @@
 pub mod Adding
 pub mod Forms
 pub mod Meaning
-pub mod Normal
 pub mod Framing
+pub mod Extending
+pub mod Knowing

@@ -10,22 +10,27 @@ use Rattle.std.proofs.lemmas.List.Sums.{sum_by-append, sum_by-cons}
 use Rattle.pb_rules.specs.declared.Term.{Term}
 use Rattle.pb_rules.specs.Literal.{lit_true}
 use Rattle.pb_rules.specs.Linear.{Holds, true_weight}
+use Rattle.pb_rules.proofs.Sums.{true_weight-cons}
 use Rattle.spec_model.specs.Spec.{SpecValue, Bits, below, design_variables, all_variables}
 use Rattle.spec_model.specs.Vectors.{weight, weight_if_true, vector_at, vector_of, IsAtMost}
 use Rattle.spec_model.proofs.Counts.{some_below, counted_below}
 use Rattle.spec_model.proofs.Joined.{All-one, All-ones}
 use Rattle.spec_model.proofs.Sums.{sum_by_map}
-use Rattle.spec_model.proofs.Those.{map-below_more}
-use Rattle.block_encode.specs.Block.{total_weight, IsWithinWeights, below_var, is_below, below_somewhere, has_weight, unused, unused_terms, gap, below_number, below_place, block_of}
+use Rattle.spec_model.proofs.Those.{sum_by-below_more}
+use Rattle.spec_model.specs.Genotypes.{IsSameDesign}
+use Rattle.spec_model.proofs.Vectors.{same_number, same_vector}
+use Rattle.encode_model.specs.Encoding.{weighted, has_weight}
+use Rattle.encode_model.proofs.Weights.{true_weight-append, at_least-holds, holds-at_least}
+use Rattle.encode_model.specs.Block.{total_weight, IsWithinWeights, below_var, is_below, below_somewhere, unused_terms, gap, not_below, below_number, below_place, block_of}
 use Rattle.block_encode.specs.Laws.{AgreeOutside, Extends, UncoveredExtend, ModelsAreUncovered}
-use Rattle.block_encode.proofs.Adding.{sum-more, unused_below, unused-more}
+use Rattle.block_encode.proofs.Adding.{unused_below, unused-more}
 
 abbrev counts : Bits → Term → ℕ
 counts f t = cond (lit_true f t.lit) t.coef 0
 
 -- what a variable adds to the weights that a design leaves unused, and to the design's own
-one_variable : (s : SpecValue) (f : Bits) (j x : ℕ) → true_weight f (map (unused s j) (cond (has_weight s j x) (x ∷ []) [])) + weight_if_true s f j x ≡ weight s j x
-unfolding has_weight unused
+one_variable : (s : SpecValue) (f : Bits) (j x : ℕ) → true_weight f (map (weighted (weight s j) false) (cond (has_weight (weight s j) x) (x ∷ []) [])) + weight_if_true s f j x ≡ weight s j x
+unfolding has_weight weighted
 one_variable s f j x = at (cases_lt 0 (weight s j x))
   where
     split : (b : Bool) (w : ℕ) → cond (not b) w 0 + cond b w 0 ≡ w
@@ -36,38 +41,36 @@ one_variable s f j x = at (cases_lt 0 (weight s j x))
     none true w e = refl
     none false w e = sym e
 
-    at : (0 < weight s j x) ⊎ (weight s j x ≤ 0) → true_weight f (map (unused s j) (cond (ltb 0 (weight s j x)) (x ∷ []) [])) + weight_if_true s f j x ≡ weight s j x
-    at (inl l) = subst (λ (b : Bool). true_weight f (map (unused s j) (cond b (x ∷ []) [])) + weight_if_true s f j x ≡ weight s j x) (sym (lt-ltb 0 (weight s j x) l)) (omega (arith, sum_by-cons (counts f) (unused s j x) [], split (f x) (weight s j x)))
+    at : (0 < weight s j x) ⊎ (weight s j x ≤ 0) → true_weight f (map (weighted (weight s j) false) (cond (ltb 0 (weight s j x)) (x ∷ []) [])) + weight_if_true s f j x ≡ weight s j x
+    at (inl l) = subst (λ (b : Bool). true_weight f (map (weighted (weight s j) false) (cond b (x ∷ []) [])) + weight_if_true s f j x ≡ weight s j x) (sym (lt-ltb 0 (weight s j x) l)) (omega (arith, sum_by-cons (counts f) (weighted (weight s j) false x) [], split (f x) (weight s j x)))
     at (inr l) =
         let no_weight : weight s j x ≡ 0 = omega (arith, l) in
-        subst (λ (b : Bool). true_weight f (map (unused s j) (cond b (x ∷ []) [])) + weight_if_true s f j x ≡ weight s j x) (sym (le-ltb 0 (weight s j x) l)) (omega (arith, no_weight, none (f x) (weight s j x) no_weight))
+        subst (λ (b : Bool). true_weight f (map (weighted (weight s j) false) (cond b (x ∷ []) [])) + weight_if_true s f j x ≡ weight s j x) (sym (le-ltb 0 (weight s j x) l)) (omega (arith, no_weight, none (f x) (weight s j x) no_weight))
 
 -- the weights that a design leaves unused and its own are all weights
 unused_and_used : (s : SpecValue) (f : Bits) (j n : ℕ) → true_weight f (unused_below s j n) + sum_by (weight_if_true s f j) (below n) ≡ sum_by (weight s j) (below n)
 unused_and_used s f j zero = refl
 unused_and_used s f j (suc n) =
     subst (λ (k : ℕ). true_weight f (unused_below s j k) + sum_by (weight_if_true s f j) (below k) ≡ sum_by (weight s j) (below k)) (add-one n)
-    (omega (arith, ap (true_weight f) (unused-more s j n), sum_by-append (counts f) (unused_below s j n) (map (unused s j) (cond (has_weight s j n) (n ∷ []) [])), sum-more (weight_if_true s f j) n, sum-more (weight s j) n, one_variable s f j n, unused_and_used s f j n))
+    (omega (arith, ap (true_weight f) (unused-more s j n), sum_by-append (counts f) (unused_below s j n) (map (weighted (weight s j) false) (cond (has_weight (weight s j) n) (n ∷ []) [])), sum_by-below_more (weight_if_true s f j) n, sum_by-below_more (weight s j) n, one_variable s f j n, unused_and_used s f j n))
 
 used : (s : SpecValue) (f : Bits) (j : ℕ) → true_weight f (unused_terms s j) + vector_at s f j ≡ total_weight s j
 unfolding vector_at total_weight
 used s f j = unused_and_used s f j (design_variables s)
 
 -- one constraint: where its own variable is true, the design is below the number
-number_weight : (s : SpecValue) (f : Bits) (b j n : ℕ) → true_weight f (below_number s b j n).terms ≡ true_weight f (unused_terms s j) + cond (not (f (below_var s b j))) (gap s j n) 0
-number_weight s f b j n =
-    let own : Term = record { coef = gap s j n; lit = record { var = below_var s b j; yes = false } } in
-    sum_by-append (counts f) (unused_terms s j) (own ∷ []) ∙ ap (λ (k : ℕ). true_weight f (unused_terms s j) + k) (sum_by-cons (counts f) own [] ∙ omega arith)
+number_weight : (s : SpecValue) (f : Bits) (b j n : ℕ) → true_weight f (unused_terms s j ++ not_below s b j n ∷ []) ≡ true_weight f (unused_terms s j) + cond (not (f (below_var s b j))) (gap s j n) 0
+number_weight s f b j n = true_weight-append f (unused_terms s j) (not_below s b j n ∷ []) ∙ ap (λ (k : ℕ). true_weight f (unused_terms s j) + k) (true_weight-cons f (not_below s b j n) [] ∙ omega arith)
 
 below_of_true : (s : SpecValue) (f : Bits) (b j n : ℕ) → Holds f (below_number s b j n) → f (below_var s b j) ≡ true → vector_at s f j < n
 below_of_true s f b j n h t =
     let own : cond (not (f (below_var s b j))) (gap s j n) 0 ≡ 0 = ap (λ (x : Bool). cond (not x) (gap s j n) 0) t in
-    omega (arith, h, number_weight s f b j n, own, used s f j)
+    omega (arith, holds-at_least f (gap s j n) (unused_terms s j ++ not_below s b j n ∷ []) h, number_weight s f b j n, own, used s f j)
 
 true_of_below : (s : SpecValue) (f : Bits) (b j n : ℕ) → n ≤ total_weight s j → (f (below_var s b j) ≡ true → vector_at s f j < n) → Holds f (below_number s b j n)
-true_of_below s f b j n l h = at (f (below_var s b j)) refl
+true_of_below s f b j n l h = at_least-holds f (gap s j n) (unused_terms s j ++ not_below s b j n ∷ []) (at (f (below_var s b j)) refl)
   where
-    at : (x : Bool) → f (below_var s b j) ≡ x → Holds f (below_number s b j n)
+    at : (x : Bool) → f (below_var s b j) ≡ x → gap s j n ≤ true_weight f (unused_terms s j ++ not_below s b j n ∷ [])
     at true e = omega (arith, l, h e, number_weight s f b j n, used s f j)
     at false e =
         let own : cond (not (f (below_var s b j))) (gap s j n) 0 ≡ gap s j n = ap (λ (x : Bool). cond (not x) (gap s j n) 0) e in
@@ -77,7 +80,7 @@ true_of_below s f b j n l h = at (f (below_var s b j)) refl
 abbrev own_bit : SpecValue → Bits → ℕ → ℕ → Bool
 own_bit s f b j = f (below_var s b j)
 
-somewhere_weight : (s : SpecValue) (f : Bits) (b : ℕ) → true_weight f (below_somewhere s b).terms ≡ count_by (own_bit s f b) (below (length s.objectives))
+somewhere_weight : (s : SpecValue) (f : Bits) (b : ℕ) → true_weight f (map (is_below s b) (below (length s.objectives))) ≡ count_by (own_bit s f b) (below (length s.objectives))
 unfolding is_below
 somewhere_weight s f b = sum_by_map (counts f) (is_below s b) (below (length s.objectives))
 
@@ -89,32 +92,14 @@ unfolding block_of below_place
 models_are_uncovered s b v f long model covers =
     let first = All-head (Holds f) (below_somewhere s b) (map (below_place s b v) (below (length v))) model in
     let rest = All-tail (Holds f) (below_somewhere s b) (map (below_place s b v) (below (length v))) model in
-    let x = some_below (own_bit s f b) (length s.objectives) (omega (arith, first, somewhere_weight s f b)) in
+    let x = some_below (own_bit s f b) (length s.objectives) (omega (arith, holds-at_least f 1 (map (is_below s b) (below (length s.objectives))) first, somewhere_weight s f b)) in
     let place : Holds f (below_number s b x.0 (slice_index v x.0)) = All-one (Holds f) (below_place s b v) (length v) x.0 rest (omega (arith, x.1, long)) in
     omega (arith, below_of_true s f b x.0 (slice_index v x.0) place x.2, covers x.0, number_of_vector s f x.0 x.1)
 
 -- Assignments that differ in the block's own variables alone have one vector.
-sums_agree : (g h : ℕ → ℕ) (n : ℕ) → ((x : ℕ) → x < n → g x ≡ h x) → sum_by g (below n) ≡ sum_by h (below n)
-sums_agree g h zero e = refl
-sums_agree g h (suc n) e =
-    subst (λ (k : ℕ). sum_by g (below k) ≡ sum_by h (below k)) (add-one n) (omega (arith, sum-more g n, sum-more h n, sums_agree g h n (λ x l. e x (omega (arith, l))), e n (omega arith)))
-
-lists_agree : (g h : ℕ → ℕ) (n : ℕ) → ((x : ℕ) → x < n → g x ≡ h x) → map g (below n) ≡ map h (below n)
-lists_agree g h zero e = refl
-lists_agree g h (suc n) e =
-    subst (λ (k : ℕ). map g (below k) ≡ map h (below k)) (add-one n)
-    (map-below_more g n ∙ (ap (λ (x : ℕ). map g (below n) ++ x ∷ []) (e n (omega arith)) ∙ (ap (λ (xs : List ℕ). xs ++ h n ∷ []) (lists_agree g h n (λ x l. e x (omega (arith, l)))) ∙ sym (map-below_more h n))))
-
-same_design : (s : SpecValue) (b : ℕ) (f g : Bits) → AgreeOutside s b f g → (x : ℕ) → x < design_variables s → f x ≡ g x
+pub same_design : (s : SpecValue) (b : ℕ) (f g : Bits) → AgreeOutside s b f g → IsSameDesign s f g
 unfolding all_variables
 same_design s b f g h x l = h x (λ j k e. absurd (omega (arith, l, e)))
-
-same_number : (s : SpecValue) (b : ℕ) (f g : Bits) → AgreeOutside s b f g → (j : ℕ) → vector_at s f j ≡ vector_at s g j
-unfolding vector_at
-same_number s b f g h j = sums_agree (weight_if_true s f j) (weight_if_true s g j) (design_variables s) (λ x l. ap (λ (c : Bool). cond c (weight s j x) 0) (same_design s b f g h x l))
-
-same_vector : (s : SpecValue) (b : ℕ) (f g : Bits) → AgreeOutside s b f g → vector_of s f ≡ vector_of s g
-same_vector s b f g h = lists_agree (vector_at s f) (vector_at s g) (length s.objectives) (λ j l. same_number s b f g h j)
 
 -- From a design that isn't covered to a model.
 module _ (s : SpecValue) (b : ℕ) (v : List ℕ) (f : Bits) (long : length v ≡ length s.objectives) where
@@ -166,12 +151,12 @@ module _ (s : SpecValue) (b : ℕ) (v : List ℕ) (f : Bits) (long : length v �
   unfolding below_place
   place_holds within j l =
       let there : j < length s.objectives = omega (arith, l, long) in
-      true_of_below s extended b j (slice_index v j) (within j l) (λ e. (let less = ltb-true (vector_at s f j) (slice_index v j) (sym (at_own j there) ∙ e) in omega (arith, less, same_number s b extended f elsewhere j)))
+      true_of_below s extended b j (slice_index v j) (within j l) (λ e. (let less = ltb-true (vector_at s f j) (slice_index v j) (sym (at_own j there) ∙ e) in omega (arith, less, same_number s extended f (same_design s b extended f elsewhere) j)))
 
   somewhere_holds : ¬ IsAtMost v (vector_of s f) → Holds extended (below_somewhere s b)
   somewhere_holds h =
       let x = some_below is_less (length s.objectives) (some_less h) in
-      omega (arith, somewhere_weight s extended b, counted_below (own_bit s extended b) (length s.objectives) x.0 x.1 (at_own x.0 x.1 ∙ x.2))
+      at_least-holds extended 1 (map (is_below s b) (below (length s.objectives))) (omega (arith, somewhere_weight s extended b, counted_below (own_bit s extended b) (length s.objectives) x.0 x.1 (at_own x.0 x.1 ∙ x.2)))
 
   pub extends : IsWithinWeights s v → ¬ IsAtMost v (vector_of s f) → Extends s b v f
   unfolding block_of
@@ -183,6 +168,6 @@ module _ (s : SpecValue) (b : ℕ) (v : List ℕ) (f : Bits) (long : length v �
 
 pub uncovered_extend : UncoveredExtend
 uncovered_extend s b v f long within = (
-  λ x covers. models_are_uncovered s b v x.values long x.model (subst (λ (u : List ℕ). IsAtMost v u) (sym (same_vector s b x.values f x.agree)) covers),
+  λ x covers. models_are_uncovered s b v x.values long x.model (subst (λ (u : List ℕ). IsAtMost v u) (sym (same_vector s x.values f (same_design s b x.values f x.agree))) covers),
   λ h. extends s b v f long within h,
 )

@@ -1,7 +1,7 @@
 //! The constraints of a block, each in normal form as it is written.
 
 ghost use Rattle.std.specs.Prelude.{◌≡◌, ◌<◌, ◌≤◌, ◌^◌, length, IfOk};
-ghost use Rattle.block_encode.specs.Block.{total_weight, below_var, below_somewhere, below_number};
+ghost use Rattle.encode_model.specs.Block.{total_weight, below_var, below_somewhere, below_number};
 
 use crate::weights::{unused_terms, weight_sum};
 use pb_constraints::Constraint;

@@ -2,13 +2,13 @@
 //!
 //! A block has a variable of its own for each objective. At least one of them is true, and one that is true keeps its
 //! objective below the cover's number: [`block`] gives the constraints in the definition's order, and [`weight_sum`] the
-//! most that an objective can come to. [`laws`] says what a block means for designs, and that the encoding and the blocks
-//! are a frame for proof lines. Which vectors are covered, and in what order, is for the crates above.
+//! most that an objective can come to. [`laws`] says what one block or several mean for designs, and that the encoding and
+//! the blocks are a frame for proof lines, with which variables. Which vectors are covered, and in what order, is for the crates above.
 #![tactic(auto)]
 
 ghost use Rattle.std.specs.Prelude.{◌≡◌, ◌<◌, ◌≤◌, ◌^◌, length, All, IfOk};
 ghost use Rattle.pb_constraints.specs.Sets.{IsBelow};
-ghost use Rattle.block_encode.specs.Block.{IsWithinWeights, block_of};
+ghost use Rattle.encode_model.specs.Block.{IsWithinWeights, block_of};
 ghost use Rattle.block_encode.specs.Laws.{variables_to};
 
 mod bounds;

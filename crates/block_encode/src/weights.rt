@@ -1,7 +1,7 @@
 //! The weights of an objective: their sum, and those of them that a design can leave unused.
 
 ghost use Rattle.std.specs.Prelude.{◌≡◌, ◌<◌, ◌≤◌, ◌^◌, length, IfOk};
-ghost use Rattle.block_encode.specs.Block.{total_weight, unused_terms};
+ghost use Rattle.encode_model.specs.Block.{total_weight, unused_terms};
 
 use pb_rules::{Lit, Term};
 use spec_graph::Spec;

@@ -5,7 +5,7 @@ use Rattle.std.proofs.lemmas.Bool.Decides.{nat_tests}
 use Rattle.std.proofs.lemmas.List.Sums.{sum_by-cons}
 use Rattle.pb_rules.specs.declared.Term.{Term}
 use Rattle.pb_rules.specs.Literal.{Literal}
-use Rattle.pb_rules.specs.Clauses.{with_literal, clause_row}
+use Rattle.conflict_graph.specs.Clauses.{with_literal, clause_row}
 use Rattle.trail_state.specs.Trail.{Entry, level_of, level_in}
 use Rattle.conflict_graph.specs.Learning.{current_at, currents}
 

@@ -12,8 +12,9 @@ use Rattle.pb_rules.specs.declared.Term.{Term}
 use Rattle.pb_rules.specs.Literal.{Literal}
 use Rattle.pb_rules.specs.Linear.{Linear, total, IsNormal}
 use Rattle.pb_rules.specs.Partial.{falsifies, is_false, IsClosed, IsClosedFor}
-use Rattle.pb_rules.specs.Clauses.{with_literal, clause_row, clause_of}
-use Rattle.pb_rules.proofs.Rows.{from_row, from-pairs}
+use Rattle.conflict_graph.specs.Clauses.{with_literal, clause_row, clause_of}
+use Rattle.pb_rules.proofs.Rising.{from-pairs}
+use Rattle.conflict_graph.proofs.Rows.{from_row}
 use Rattle.trail_state.specs.Trail.{Entry, is_decision, value_in, reason_in, level_of, level_in, IsDistinct}
 use Rattle.trail_state.proofs.Entries.{value_in-none, place-of}
 use Rattle.conflict_graph.specs.Learning.{signs, ClosedUnder, HasLevels, Learnt}

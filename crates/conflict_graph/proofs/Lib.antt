@@ -1,3 +1,6 @@
+pub mod Rows
+pub mod Making
+pub mod Deriving
 pub mod Counts
 pub mod Signs
 pub mod Steps

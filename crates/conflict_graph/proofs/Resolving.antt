@@ -10,10 +10,9 @@ use Rattle.pb_rules.specs.declared.Term.{Term}
 use Rattle.pb_rules.specs.Literal.{Literal}
 use Rattle.pb_rules.specs.Linear.{IsNormal}
 use Rattle.pb_rules.specs.Partial.{Forces}
-use Rattle.pb_rules.specs.Clauses.{false_signs}
+use Rattle.conflict_graph.specs.Clauses.{false_signs, clause_ops}
 use Rattle.pb_rules.specs.declared.Op.{Op}
 use Rattle.pb_rules.specs.declared.Op.TheVariants.{Add, Saturate}
-use Rattle.pb_rules.specs.Derivations.{clause_ops}
 use Rattle.constraint_store.specs.Live.{Live, constraint_of, proof_id_of}
 use Rattle.trail_state.specs.Trail.{Entry, is_decision, value_in, reason_in, level_of, level_in, IsDistinct}
 use Rattle.conflict_graph.specs.Conditions.{IsUsable, IsForcedBy, AllForced}

@@ -4,8 +4,8 @@ use Rattle.std.proofs.lemmas.Bool.Decides.{nat_tests}
 use Rattle.pb_rules.specs.declared.Term.{Term}
 use Rattle.pb_rules.specs.Literal.{Literal}
 use Rattle.pb_rules.specs.Partial.{falsifies, is_false}
-use Rattle.pb_rules.specs.Clauses.{false_signs}
-use Rattle.pb_rules.proofs.Rows.{From, from-least}
+use Rattle.conflict_graph.specs.Clauses.{false_signs}
+use Rattle.pb_rules.proofs.Rising.{From, from-least}
 use Rattle.pb_rules.proofs.Assignments.{FalseToo}
 use Rattle.conflict_graph.specs.Learning.{Falsifies}
 

@@ -1,5 +1,5 @@
 use Rattle.std.proofs.Common.{◌≡◌, ◌≢◌, ℕ, ◌+◌, ◌-◌, ◌<◌, ◌≤◌, ◌^◌, Bool, true, false, not, cond, eqb, ltb, Option, Some, None, List, [], ◌∷◌, ◌++◌, length, get_or, take, refl, sym, ap, ◌∙◌, subst, arith, inl, inr, ◌⊎◌, zero, suc}
-use Rattle.std.specs.Prelude.{slice_get}
+use Rattle.std.specs.Prelude.{Ok}
 use Rattle.std.proofs.lemmas.Bool.{cases_eq, cases_lt}
 use Rattle.std.proofs.lemmas.Bool.Decides.{nat_tests}
 use Rattle.std.proofs.lemmas.List.{take_all}
@@ -9,16 +9,14 @@ use Rattle.pb_rules.specs.declared.Term.{Term}
 use Rattle.pb_rules.specs.Literal.{Literal}
 use Rattle.pb_rules.specs.Linear.{Linear, IsNormal}
 use Rattle.pb_rules.specs.Partial.{falsifies, is_false, open_weight, Forces, InConflict, IsClosed}
-use Rattle.pb_rules.specs.Clauses.{clause_of, false_signs}
-use Rattle.pb_rules.proofs.Rows.{From, resolved, clash, clashes, clashes-one}
-use Rattle.pb_rules.proofs.Making.{Terms, Terms-of}
+use Rattle.pb_rules.proofs.Rising.{From}
 use Rattle.pb_rules.specs.declared.Op.{Op}
 use Rattle.pb_rules.specs.declared.Op.TheVariants.{Add, Saturate}
 use Rattle.pb_rules.specs.Operations.{apply_all}
-use Rattle.pb_rules.specs.Derivations.{clause_ops}
-use Rattle.pb_rules.proofs.Exec.{apply_all-append, making_gives, resolving_gives}
+use Rattle.pb_rules.proofs.Carried.{apply_all-append}
 use Rattle.constraint_store.specs.Live.{Live, is_live, constraint_of, proof_id_of}
 use Rattle.trail_state.specs.Trail.{Entry, is_decision, value_in, reason_in, level_of, level_in, IsDistinct}
+use Rattle.conflict_graph.specs.Clauses.{clause_of, false_signs, clause_ops}
 use Rattle.conflict_graph.specs.Derives.{HasUnder}
 use Rattle.conflict_graph.specs.Conditions.{IsUsable, IsForcedBy, HasCurrent}
 use Rattle.conflict_graph.specs.Learning.{Falsifies, ClosedUnder, current_at, currents, Learning, either, Learnt}
@@ -26,6 +24,9 @@ use Rattle.pb_rules.specs.Partial.{flipped}
 use Rattle.pb_rules.proofs.Assignments.{FalseToo, forced-flip, closed-conflict, closed-takes}
 use Rattle.trail_state.proofs.Levels.{before-level, level-more, level-part}
 use Rattle.trail_state.proofs.Entries.{value-more_other, value-more_same}
+use Rattle.conflict_graph.proofs.Rows.{resolved, clash, clashes, clashes-one}
+use Rattle.conflict_graph.proofs.Making.{Terms, Terms-of}
+use Rattle.conflict_graph.proofs.Deriving.{making_gives, resolving_gives}
 use Rattle.conflict_graph.proofs.Counts.{current-le, currents-has, currents-loses, currents-none}
 use Rattle.conflict_graph.proofs.Signs.{signs-false, signs-at, signs-agree, signs-too, falsifies-not}
 
@@ -43,7 +44,7 @@ learning-start live es n c few u normal conflict current =
     let all : take (length es) es ≡ es = take_all (length es) es (omega arith) in
     let P : List Entry → Type 0 = λ fs. Falsifies (value_in fs) f in
     record {
-      derives = λ cs has. (let h = has c u.live_there in making_gives cs n (proof_id_of live c) a k [] h.from_one h.small (omega arith) h.there terms normal.small_degree conflict);
+      derives = λ context knows has. making_gives context n (proof_id_of live c) a k [] knows (has c u.live_there) (omega arith) terms normal.small_degree conflict;
       within = λ x b h. (signs-false a k.terms n u.in_range x b h).1;
       false_before = subst P (sym all) (λ x b h. (signs-false a k.terms n u.in_range x b h).0);
       propagated = λ p closed falsified. closed-conflict a p k conflict (signs-too a p 0 k.terms terms.from falsified) (closed c u.live_there);
@@ -132,15 +133,14 @@ meets-agree a whole l f g m y n b c p q =
 pub learning-resolve : (live : List Live) (es : List Entry) (n p : ℕ) (d : Entry) (f h : ℕ → Option Bool) (count : ℕ) (ops : List Op) (r : ConId) (b : Bool) → n < 2 ^ 62 → p < length es → IsDistinct es → IsForcedBy live n (take p es) (get_or es p d) r → IsNormal (constraint_of live r).terms (constraint_of live r).degree → f (get_or es p d).lit.var ≡ Some b → (0 < level_of es → 1 < count) → IsResolvent f (false_signs (value_in (take p es)) (constraint_of live r).terms) h (get_or es p d).lit.var → Learning live es n (p + 1) f count ops →
     Learning live es n p h (currents n 0 es h) (ops ++ (clause_ops (proof_id_of live r) (flipped (value_in (take p es)) (get_or es p d).lit) (constraint_of live r) ++ Add ∷ Saturate ∷ []))
 learning-resolve live es n p d f h count ops r b small lt distinct forced normal marked two is l = record {
-  derives = λ cs has. (
+  derives = λ context knows has. (
       let u = forced.usable in
-      let m = has r u.live_there in
-      let made = making_gives cs n (proof_id_of live r) (flipped a lit) k (clause_of n f ∷ []) m.from_one m.small (omega arith) m.there terms normal.small_degree (forced-flip a k lit forced.forces) in
-      let res = resolving_gives cs n f g [] small one in
+      let made = making_gives context n (proof_id_of live r) (flipped a lit) k (clause_of n f ∷ []) knows (has r u.live_there) (omega arith) terms normal.small_degree (forced-flip a k lit forced.forces) in
+      let res = resolving_gives context n f g [] small one in
       let same : clause_of n (λ x. resolved (f x) (g x)) ≡ clause_of n h = ap (clause_of n) (fun_ext resolvent_is) in
-      apply_all-append cs ops (clause_ops (proof_id_of live r) (flipped a lit) k ++ Add ∷ Saturate ∷ []) [] (clause_of n f ∷ []) (l.derives cs has)
-      ∙ apply_all-append cs (clause_ops (proof_id_of live r) (flipped a lit) k) (Add ∷ Saturate ∷ []) (clause_of n f ∷ []) (clause_of n g ∷ clause_of n f ∷ []) made
-      ∙ res ∙ ap (λ (c : Linear). Some (c ∷ [])) same);
+      apply_all-append context ops (clause_ops (proof_id_of live r) (flipped a lit) k ++ Add ∷ Saturate ∷ []) [] (clause_of n f ∷ []) (l.derives context knows has)
+      ∙ apply_all-append context (clause_ops (proof_id_of live r) (flipped a lit) k) (Add ∷ Saturate ∷ []) (clause_of n f ∷ []) (clause_of n g ∷ clause_of n f ∷ []) made
+      ∙ res ∙ ap (λ (c : Linear). Ok (c ∷ [])) same);
   within = λ y c q. elim (cases_eq y x) [
     | inl e ↦ absurd (let z = is.here in let q' : h x ≡ Some c = ap h (sym e) ∙ q in cc)
     | inr ne ↦ (elim (either-cases (f y) (g0 y) c (sym (is.other y ne) ∙ q)) [ inl s ↦ l.within y c s | inr s ↦ (signs-false a k.terms n (forced.usable).in_range y c s).1 ])

@@ -9,12 +9,11 @@ use Rattle.pb_rules.specs.Linear.{Linear}
 use Rattle.pb_rules.specs.Partial.{is_false, open_weight}
 use Rattle.pb_rules.specs.declared.Op.{Op}
 use Rattle.pb_rules.specs.declared.Op.TheVariants.{Id, Divide, Saturate, Weaken}
-use Rattle.pb_rules.specs.Derivations.{weakenings, clause_ops}
+use Rattle.conflict_graph.specs.Clauses.{weakenings, clause_ops, false_signs}
 use Rattle.trail_state.specs.Trail.{Entry, value_in, level_of, level_in}
 use Rattle.conflict_graph.specs.Learning.{signs, either, current_at, currents, HasLevels}
 use Rattle.pb_rules.specs.Partial.{flipped}
 use Rattle.std.proofs.Math.Path.{fun_ext}
-use Rattle.pb_rules.specs.Clauses.{false_signs}
 use Rattle.pb_rules.specs.declared.Op.TheVariants.{Add}
 use Rattle.conflict_graph.proofs.Counts.{currents-change, currents-le}
 

@@ -1,13 +1,12 @@
 -- How far an analysis has come. The clause is the sign of each variable's literal.
-use Rattle.std.specs.Prelude.{ℕ, Bool, Option, Some, None, true, not, ◌≡◌, ◌+◌, ◌<◌, ◌==◌, length, slice_index, slice_index_or, List, [], ◌∷◌, take, if◌then◌else◌, zero, suc}
+use Rattle.std.specs.Prelude.{ℕ, Bool, Ok, Option, Some, None, true, not, ◌≡◌, ◌+◌, ◌<◌, ◌==◌, length, slice_index, slice_index_or, List, [], ◌∷◌, take, if◌then◌else◌, zero, suc}
 use Rattle.pb_constraints.specs.declared.ConId.{ConId}
-use Rattle.pb_rules.specs.Linear.{Linear}
 use Rattle.pb_rules.specs.Partial.{IsClosed}
-use Rattle.pb_rules.specs.Clauses.{clause_of}
 use Rattle.pb_rules.specs.declared.Op.{Op}
-use Rattle.pb_rules.specs.Operations.{apply_all}
+use Rattle.pb_rules.specs.Operations.{Context, KnowsLive, apply_all}
 use Rattle.constraint_store.specs.Live.{Live, is_live, constraint_of}
 use Rattle.trail_state.specs.Trail.{Entry, value_in, level_of, level_in}
+use Rattle.conflict_graph.specs.Clauses.{clause_of}
 use Rattle.conflict_graph.specs.Derives.{HasUnder}
 
 -- the value that a list gives a variable
@@ -42,9 +41,13 @@ pub record HasLevels (es : List Entry) (n : ℕ) (levels : List ℕ) : Type 0 wh
   pub len : length levels ≡ n
   pub level : (x : ℕ) (b : Bool) → value_in es x ≡ Some b → slice_index levels x ≡ level_in es x
 
+-- operations leave the clause alone on the stack, wherever the live constraints stand under their proof ids
+abbrev pub LeaveClause : List Live → ℕ → (ℕ → Option Bool) → List Op → Type 0
+LeaveClause live n f ops = (context : Context) → KnowsLive context → HasUnder context live → apply_all context ops [] ≡ Ok (clause_of n f ∷ [])
+
 -- how far an analysis has come: the operations give the clause, whose literals are false before a place
 pub record Learning (live : List Live) (es : List Entry) (n place : ℕ) (f : ℕ → Option Bool) (open_count : ℕ) (ops : List Op) : Type 0 where
-  pub derives : (cs : List Linear) → HasUnder cs live → apply_all cs ops [] ≡ Some (clause_of n f ∷ [])
+  pub derives : LeaveClause live n f ops
   pub within : (x : ℕ) (b : Bool) → f x ≡ Some b → x < n
   pub false_before : Falsifies (value_in (take place es)) f
   pub propagated : (a : ℕ → Option Bool) → ClosedUnder live a → Falsifies a f → ⊥
@@ -53,7 +56,7 @@ pub record Learning (live : List Live) (es : List Entry) (n place : ℕ) (f : �
 
 -- what an analysis ends with
 pub record Learnt (live : List Live) (es : List Entry) (n : ℕ) (f : ℕ → Option Bool) (ops : List Op) : Type 0 where
-  pub derives : (cs : List Linear) → HasUnder cs live → apply_all cs ops [] ≡ Some (clause_of n f ∷ [])
+  pub derives : LeaveClause live n f ops
   pub within : (x : ℕ) (b : Bool) → f x ≡ Some b → x < n
   pub false_all : Falsifies (value_in es) f
   pub propagated : (a : ℕ → Option Bool) → ClosedUnder live a → Falsifies a f → ⊥

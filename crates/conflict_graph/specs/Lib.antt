@@ -1,3 +1,4 @@
+pub mod Clauses
 pub mod Conditions
 pub mod Derives
 pub mod Learned

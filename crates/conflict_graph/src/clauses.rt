@@ -2,7 +2,7 @@
 
 ghost use Rattle.std.specs.Prelude.{◌≡◌, ◌≢◌, ◌<◌, ◌≤◌, ◌^◌, ◌⊎◌, All, IfOk, length, true};
 ghost use Rattle.pb_rules.specs.Partial.{is_false};
-ghost use Rattle.pb_rules.specs.Clauses.{clause_of};
+ghost use Rattle.conflict_graph.specs.Clauses.{clause_of};
 ghost use Rattle.trail_state.specs.Trail.{value_in};
 ghost use Rattle.conflict_graph.specs.Learned.{IsLevelBelow};
 ghost use Rattle.conflict_graph.specs.Learning.{signs, HasLevels};

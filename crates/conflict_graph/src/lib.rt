@@ -15,7 +15,7 @@
 ghost use Rattle.std.specs.Prelude.{ℕ, List, ◌≡◌, ◌<◌, ◌^◌, IfOk, OnErr, length, None, Some};
 ghost use Rattle.pb_rules.specs.Linear.{Linear};
 ghost use Rattle.pb_rules.specs.Partial.{InConflict};
-ghost use Rattle.pb_rules.specs.Frames.{Frame, IsFrame, FitsFrom, Given, given_by, with_derived, StandsUnder};
+ghost use Rattle.pb_rules.specs.Frames.{Frame, IsFrame, FitsFrom, Given, context_of, given_by, with_derived, StandsUnder};
 ghost use Rattle.constraint_store.specs.Live.{Live, constraint_of};
 ghost use Rattle.proof_log.specs.Log.{LogValue, next_id};
 ghost use Rattle.trail_state.specs.Trail.{value_in, level_of};
@@ -48,12 +48,12 @@ pub struct Learned {
     pub proof_id: u64,
 }
 
-/// What is derived from any constraints that have the live ones under their proof ids is derived in each frame in which
+/// What is derived wherever the live constraints stand under their proof ids is derived in each frame in which
 /// the earlier lines are legal and give the live ones under these ids. In a frame that fits the log, the clause stands
 /// under the next id after the line.
 pub fn law_of_frames()
     ensures legal { (live : List Live) (old new : LogValue) (clause : Linear) → Derives live old new clause → DerivesInFrames live old new clause }
-    ensures stands { (live : List Live) (old new : LogValue) (clause : Linear) (f : Frame) (g : Given) → Derives live old new clause → IsFrame f → FitsFrom f old.first → given_by f old.lines ≡ Some g → next_id old < 2 ^ 63 → StandsUnder (with_derived g clause).constraints (next_id old) clause }
+    ensures stands { (live : List Live) (old new : LogValue) (clause : Linear) (f : Frame) (g : Given) → Derives live old new clause → IsFrame f → FitsFrom f old.first → given_by f old.lines ≡ Some g → next_id old < 2 ^ 63 → StandsUnder (context_of (with_derived g clause)) (next_id old) clause }
 {}
 
 /// Derives a clause from a conflict over tables of levels, values and signs.

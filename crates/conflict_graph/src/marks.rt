@@ -4,7 +4,7 @@
 ghost use Rattle.std.specs.Prelude.{ℕ, ◌≡◌, ◌<◌, ◌^◌, ◌==◌, Some, None, true, not, length, if◌then◌else◌};
 ghost use Rattle.pb_rules.specs.Linear.{VarsBelow};
 ghost use Rattle.pb_rules.specs.Partial.{GoesOn};
-ghost use Rattle.pb_rules.specs.Clauses.{false_signs};
+ghost use Rattle.conflict_graph.specs.Clauses.{false_signs};
 ghost use Rattle.constraint_store.specs.Live.{is_live, constraint_of};
 ghost use Rattle.trail_state.specs.Trail.{value_in};
 ghost use Rattle.conflict_graph.specs.Learning.{signs, either, currents, HasLevels};

@@ -8,7 +8,7 @@
 ghost use Rattle.std.specs.Prelude.{◌≡◌, ◌<◌, ◌++◌, ◌∷◌, [], OnOk, Option, None, true, length};
 ghost use Rattle.pb_rules.specs.Linear.{VarsBelow, IsNormal};
 ghost use Rattle.pb_rules.specs.Partial.{InConflict, is_false, flipped};
-ghost use Rattle.pb_rules.specs.Derivations.{clause_ops};
+ghost use Rattle.conflict_graph.specs.Clauses.{clause_ops};
 ghost use Rattle.constraint_store.specs.Live.{is_live, constraint_of, proof_id_of};
 ghost use Rattle.conflict_graph.specs.Learning.{signs};
 

@@ -12,8 +12,9 @@ use Rattle.spec_model.proofs.Once.{counted}
 use Rattle.spec_model.proofs.Tests.{to_test, from_test}
 use Rattle.spec_model.proofs.Counts.{bit, count-map, some_those, some_below, counted_below, some_piece, count-piece_le}
 use Rattle.encode_model.specs.Encoding.{negative, positives, on_resource, options_on, messages_of, cover_of, option_allocates, cover_allocates, resource_has_use, arc_allocates, link_arcs, link_has_use}
-use Rattle.encode_model.proofs.Weights.{trues-cons, trues-append, trues-positives, at_least-holds, holds-at_least, if_then, from_if_then, then_if, from_then_if}
-use Rattle.encode_laws.specs.Exactness.{IsRouted}
+use Rattle.pb_rules.proofs.Sums.{true_weight-cons}
+use Rattle.encode_model.proofs.Weights.{true_weight-append, weight-positives, at_least-holds, holds-at_least, if_then, from_if_then, then_if, from_then_if}
+use Rattle.spec_model.specs.Rules.{IsRouted}
 use Rattle.encode_laws.proofs.Families.{IsAllocationModel}
 use Rattle.encode_laws.proofs.Equations.{HasEnds, has_ends}
 use Rattle.encode_laws.proofs.Walked.{IsWalked}
@@ -73,7 +74,7 @@ module _ (s : SpecValue) (f : Bits) (parts : HasParts s) (walked : (m : ℕ) →
       let cs = map (cover_of s r) (messages_of s) in
       let v = resource_var s r in
       let all = holds-at_least f 1 (positives os ++ negative v ∷ positives cs) h in
-      let sum : 1 ≤ count_by f os + count_by f cs = omega (arith, all, trues-append f (positives os) (negative v ∷ positives cs), trues-cons f (negative v) (positives cs), trues-positives f os, trues-positives f cs, not_bit (f v) al) in
+      let sum : 1 ≤ count_by f os + count_by f cs = omega (arith, all, true_weight-append f (positives os) (negative v ∷ positives cs), true_weight-cons f (negative v) (positives cs), weight-positives f os, weight-positives f cs, not_bit (f v) al) in
       elim (cases_lt 0 (count_by f os)) [
         | inl l ↦ option_of_use r (omega (arith, l))
         | inr l ↦ cover_of_use r hr (omega (arith, l, sum))
@@ -93,7 +94,7 @@ module _ (s : SpecValue) (f : Bits) (parts : HasParts s) (walked : (m : ℕ) →
       let us = flat_map (link_arcs s l) (messages_of s) in
       let v = link_var s l in
       let all = holds-at_least f 1 (positives us ++ negative v ∷ []) h in
-      let sum : 1 ≤ count_by f us = omega (arith, all, trues-append f (positives us) (negative v ∷ []), trues-cons f (negative v) [], trues-positives f us, not_bit (f v) wi) in
+      let sum : 1 ≤ count_by f us = omega (arith, all, true_weight-append f (positives us) (negative v ∷ []), true_weight-cons f (negative v) [], weight-positives f us, not_bit (f v) wi) in
       let x = some_piece f (link_arcs s l) (length s.messages) sum in
       let y = some_those (λ a. f (arc_var s x.0 a)) (of_link s l) (length s.arcs) (omega (arith, x.2, count-map f (arc_var s x.0) (arcs_of s l))) in
       record { message = x.0; in_range = x.1; arc = y.0; used = record { in_range = y.1; bit = y.3 }; of_link = from_test _ _ y.2 }
@@ -118,7 +119,7 @@ module _ (s : SpecValue) (f : Bits) (parts : HasParts s) (walked : (m : ℕ) →
       let os = options_on s r in
       let cs = map (cover_of s r) (messages_of s) in
       let v = resource_var s r in
-      at_least-holds f 1 (positives os ++ negative v ∷ positives cs) (omega (arith, sum (f v) refl, trues-append f (positives os) (negative v ∷ positives cs), trues-cons f (negative v) (positives cs), trues-positives f os, trues-positives f cs))
+      at_least-holds f 1 (positives os ++ negative v ∷ positives cs) (omega (arith, sum (f v) refl, true_weight-append f (positives os) (negative v ∷ positives cs), true_weight-cons f (negative v) (positives cs), weight-positives f os, weight-positives f cs))
     where
       sum : (b : Bool) → f (resource_var s r) ≡ b → 1 ≤ count_by f (options_on s r) + count_by f (map (cover_of s r) (messages_of s)) + cond (not b) 1 0
       sum true e = omega (arith, use_of_needed r hr routed.has_walk ((routed.resource_use r hr).0 e))
@@ -127,7 +128,7 @@ module _ (s : SpecValue) (f : Bits) (parts : HasParts s) (walked : (m : ℕ) →
   link_use_holds : IsRouted s f → (l : ℕ) → l < length s.links → Holds f (link_has_use s l)
   unfolding link_has_use link_arcs of_link
   link_use_holds routed l hl =
-      at_least-holds f 1 (positives us ++ negative (link_var s l) ∷ []) (omega (arith, sum (f (link_var s l)) refl, trues-append f (positives us) (negative (link_var s l) ∷ []), trues-cons f (negative (link_var s l)) [], trues-positives f us))
+      at_least-holds f 1 (positives us ++ negative (link_var s l) ∷ []) (omega (arith, sum (f (link_var s l)) refl, true_weight-append f (positives us) (negative (link_var s l) ∷ []), true_weight-cons f (negative (link_var s l)) [], weight-positives f us))
     where
       us : List ℕ
       us = flat_map (link_arcs s l) (messages_of s)

@@ -7,17 +7,17 @@ use Rattle.std.proofs.lemmas.List.Elements.{All-contains_itself}
 use Rattle.std.proofs.lemmas.Bool.{lt-ltb, false≢true}
 use Rattle.pb_rules.specs.Linear.{Holds, IsModel}
 use Rattle.spec_model.specs.Spec.{SpecValue, Bits, bits_of, message_at, arc_at, option_at, further, base, design_variables, all_variables, covered_var}
-use Rattle.spec_model.specs.Rules.{IsOn, Uses, Walk, WalkBelow, IsValid, IsUnreached, options_of, of_task}
+use Rattle.spec_model.specs.Rules.{IsOn, Uses, Walk, WalkBelow, IsRouted, IsValid, IsUnreached, options_of, of_task}
 use Rattle.spec_model.specs.Genotypes.{IsSameDesign}
 use Rattle.spec_model.specs.WellFormed.{IsWellFormed}
 use Rattle.spec_model.proofs.Decide.{passes_some, some_passes-from, Walk-from_test, walk_test-from}
 use Rattle.spec_model.proofs.Tests.{from_test, to_test, Contains-those}
 use Rattle.spec_model.proofs.Joined.{All-piece_of, All-pieces_of, All-of_map, All-from_map, All-those}
-use Rattle.spec_model.proofs.Along.{same_back, BoundOnce-along, Walk-along, uses_into-along, into_sender-along, has_walk-along, no_dangling-along, reached-along, resource_use-along, link_use-along, IsValid-along, IsUnreached-along}
+use Rattle.spec_model.proofs.Along.{same_back, Walk-along, reached-along, IsRouted-along, IsValid-along, IsUnreached-along}
 use Rattle.encode_model.specs.Encoding.{encoding, route_encoding, receiver_covered, option_covers, view}
 use Rattle.encode_model.proofs.Weights.{if_then, from_if_then, exactly_one}
 use Rattle.spec_model.proofs.Joined.{All-first, All-second}
-use Rattle.encode_laws.specs.Exactness.{IsRouted, IsOnlyModel, ModelsAreRouted, RoutedAreModels, CoveredAreReached, ModelsAreValid, ValidAreModels}
+use Rattle.encode_laws.specs.Exactness.{IsOnlyModel, ModelsAreRouted, RoutedAreModels, CoveredAreReached, ModelsAreValid, ValidAreModels}
 use Rattle.encode_laws.specs.ModelBits.{step_bit, cover_bit, model_list}
 use Rattle.encode_laws.proofs.Families.{AreFamilies, families_of_routes, routes_of_families, families_of_encoding, encoding_of_families}
 use Rattle.encode_laws.proofs.Equations.{Equations, equations_of}
@@ -26,33 +26,10 @@ use Rattle.encode_laws.proofs.Walked.{IsWalked, walked_of, steps_agree, covers_a
 use Rattle.encode_laws.proofs.Allocated.{HasParts, has_parts, needed_of_resource, resource_of_needed, needed_of_link, link_of_needed, allocation_of}
 use Rattle.encode_laws.proofs.Routed.{option_holds, route_model_of}
 use Rattle.encode_laws.proofs.ModelBits.{step_reads, cover_reads, design_reads}
-use Rattle.encode_laws.proofs.Places.{agree_at}
-
-pub IsRouted-along : (s : SpecValue) (f g : Bits) → IsSameDesign s f g → IsRouted s f → IsRouted s g
-IsRouted-along s f g h x = record {
-  bound_once = λ t l. BoundOnce-along s f g h t (x.bound_once t l);
-  no_arc_into_sender = λ m a l. into_sender-along s f g h m a l (x.no_arc_into_sender m a l);
-  one_arc_into = λ m r l hr. omega (arith, x.one_arc_into m r l hr, uses_into-along s f g h m r l);
-  has_walk = λ m a l. has_walk-along s f g h m a l (x.has_walk m a l);
-  no_dangling = λ m a l. no_dangling-along s f g h m a l (x.no_dangling m a l);
-  resource_use = λ r l. resource_use-along s f g h r l (x.resource_use r l);
-  link_use = λ r l. link_use-along s f g h r l (x.link_use r l);
-}
+use Rattle.spec_model.proofs.Places.{agree_at}
 
 pub same_view : (s : SpecValue) (f : Bits) → IsSameDesign s f (view s f)
 same_view s f v l = sym (ap (λ (b : Bool). cond b (f v) false) (lt-ltb v (design_variables s) l))
-
--- a valid design is routed, and its receivers are reached
-pub routed_of_valid : (s : SpecValue) (f : Bits) → IsValid s f → IsRouted s f
-routed_of_valid s f x = record {
-  bound_once = x.bound_once;
-  no_arc_into_sender = x.no_arc_into_sender;
-  one_arc_into = x.one_arc_into;
-  has_walk = x.has_walk;
-  no_dangling = x.no_dangling;
-  resource_use = x.resource_use;
-  link_use = x.link_use;
-}
 
 -- From a model to its design.
 module _ (s : SpecValue) (f : Bits) (wf : IsWellFormed s) (families : AreFamilies s f) where
@@ -211,15 +188,9 @@ valid_of_model s f wf h =
     let routed = routed_of_families s f wf both.0 in
     let there = has_parts s wf in
     record {
-      bound_once = routed.bound_once;
-      no_arc_into_sender = routed.no_arc_into_sender;
-      one_arc_into = routed.one_arc_into;
-      has_walk = routed.has_walk;
+      routed = routed;
       reached = λ m w r hm member on. (let walks = walked s f wf both.0 m hm in
           reached_of_covered s f m w hm there routed walks (covered_of_holds s f m w hm there routed walks (All-piece_of (Holds f) (receiver_covered s m) (message_at s m).receivers w (both.1 m hm) member)) r on);
-      no_dangling = routed.no_dangling;
-      resource_use = routed.resource_use;
-      link_use = routed.link_use;
     }
 
 pub models_are_valid : ModelsAreValid
@@ -227,4 +198,4 @@ models_are_valid s f wf h = IsValid-along s f (view s f) (same_view s f) (valid_
 
 pub valid_are_models : ValidAreModels
 valid_are_models s f wf valid =
-    record { model = bits_of (model_list s f); only = only_model s f wf (routed_of_valid s f valid) (λ m w hm member r on. valid.reached m w r hm member on) }
+    record { model = bits_of (model_list s f); only = only_model s f wf valid.routed (λ m w hm member r on. valid.reached m w r hm member on) }

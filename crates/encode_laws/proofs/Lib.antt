@@ -5,6 +5,5 @@ pub mod Walked
 pub mod Allocated
 pub mod Routed
 pub mod ModelBits
-pub mod Places
 pub mod Laws
 pub mod Hub

@@ -14,8 +14,9 @@ use Rattle.std.proofs.lemmas.Bool.{and_parts}
 use Rattle.spec_model.proofs.Counts.{bit, count-map, some_those, some_below, counted_below, at_most_one, count-and_le}
 use Rattle.spec_model.proofs.Joined.{All-two, All-ones}
 use Rattle.encode_model.specs.Encoding.{positive, negative, positives, negatives, option_on, arc_vars, steps_from, one_option, sender_start, covered_once, one_arc_in, carries, arc_carries, leads_to, neighbours, step_at, has_cause, steps_have_cause, for_receiver, is_number, receiver_options, no_dangling}
-use Rattle.encode_model.proofs.Weights.{trues-cons, trues-append, trues-positives, trues-negatives, at_least-holds, from_if_then, from_not_both, from_if_both_then}
-use Rattle.encode_laws.specs.Exactness.{IsRouted}
+use Rattle.pb_rules.proofs.Sums.{true_weight-cons}
+use Rattle.encode_model.proofs.Weights.{true_weight-append, weight-positives, weight-negatives, at_least-holds, from_if_then, from_not_both, from_if_both_then}
+use Rattle.spec_model.specs.Rules.{IsRouted}
 use Rattle.encode_laws.proofs.Families.{IsRouteModel}
 use Rattle.encode_laws.proofs.Equations.{steps_true, length_steps}
 use Rattle.encode_laws.proofs.Routes.{steps_0, steps_1}
@@ -41,8 +42,8 @@ pub option_holds : (s : SpecValue) (f : Bits) (t : ℕ) → BoundOnce s f t → 
 option_holds s f t once =
     let vs = options_of s t in
     All-two (Holds f) _ _
-    (at_least-holds f 1 (positives vs) (omega (arith, once, trues-positives f vs)))
-    (at_least-holds f (length vs - 1) (negatives vs) (omega (arith, once, trues-negatives f vs)))
+    (at_least-holds f 1 (positives vs) (omega (arith, once, weight-positives f vs)))
+    (at_least-holds f (length vs - 1) (negatives vs) (omega (arith, once, weight-negatives f vs)))
 
 module _ (s : SpecValue) (f : Bits) (m : ℕ) (hm : m < length s.messages) (parts : HasParts s) (routed : IsRouted s f) (walked : IsWalked s f m) where
   tree : IsTree s f m
@@ -82,8 +83,8 @@ module _ (s : SpecValue) (f : Bits) (m : ℕ) (hm : m < length s.messages) (part
       let p = option_on s (sender_of s m) r in
       let h = step_var s m r 0 in
       All-two (Holds f) _ _
-      (at_least-holds f (length p) (negatives p ++ positive h ∷ []) (omega (arith, start_is r hr, trues-append f (negatives p) (positive h ∷ []), trues-negatives f p, trues-cons f (positive h) [])))
-      (at_least-holds f 1 (positives p ++ negative h ∷ []) (omega (arith, start_is r hr, trues-append f (positives p) (negative h ∷ []), trues-positives f p, trues-cons f (negative h) [], both_bits (f h))))
+      (at_least-holds f (length p) (negatives p ++ positive h ∷ []) (omega (arith, start_is r hr, true_weight-append f (negatives p) (positive h ∷ []), weight-negatives f p, true_weight-cons f (positive h) [])))
+      (at_least-holds f 1 (positives p ++ negative h ∷ []) (omega (arith, start_is r hr, true_weight-append f (positives p) (negative h ∷ []), weight-positives f p, true_weight-cons f (negative h) [], both_bits (f h))))
 
   -- covered once
   cover_is : (r : ℕ) → r < length s.resources → steps_true s f m r 0 ≡ bit (f (covered_var s m r))
@@ -110,8 +111,8 @@ module _ (s : SpecValue) (f : Bits) (m : ℕ) (hm : m < length s.messages) (part
       let xs = steps_from s m r 0 in
       let c = covered_var s m r in
       All-two (Holds f) _ _
-      (at_least-holds f ((message_at s m).limit + 1) (negatives xs ++ positive c ∷ []) (omega (arith, cover_is r hr, trues-append f (negatives xs) (positive c ∷ []), trues-negatives f xs, length_steps s m r 0, trues-cons f (positive c) [])))
-      (at_least-holds f 1 (positives xs ++ negative c ∷ []) (omega (arith, cover_is r hr, trues-append f (positives xs) (negative c ∷ []), trues-positives f xs, trues-cons f (negative c) [], both_bits (f c))))
+      (at_least-holds f ((message_at s m).limit + 1) (negatives xs ++ positive c ∷ []) (omega (arith, cover_is r hr, true_weight-append f (negatives xs) (positive c ∷ []), weight-negatives f xs, length_steps s m r 0, true_weight-cons f (positive c) [])))
+      (at_least-holds f 1 (positives xs ++ negative c ∷ []) (omega (arith, cover_is r hr, true_weight-append f (positives xs) (negative c ∷ []), weight-positives f xs, true_weight-cons f (negative c) [], both_bits (f c))))
 
   -- one arc in
   step_suc : (r t : ℕ) → r < length s.resources → suc t ≤ (message_at s m).limit → f (step_var s m r (1 + t)) ≡ true → Walk s f m r (suc t)
@@ -167,8 +168,8 @@ module _ (s : SpecValue) (f : Bits) (m : ℕ) (hm : m < length s.messages) (part
       let xs = steps_from s m r 1 in
       let us = arc_vars s m (arcs_into s r) in
       All-two (Holds f) _ _
-      (at_least-holds f (message_at s m).limit (positives us ++ negatives xs) (omega (arith, into_is r hr, trues-append f (positives us) (negatives xs), trues-positives f us, trues-negatives f xs, length_steps s m r 1, count-map f (arc_var s m) (arcs_into s r))))
-      (at_least-holds f (length (arcs_into s r)) (negatives us ++ positives xs) (omega (arith, into_is r hr, trues-append f (negatives us) (positives xs), trues-negatives f us, trues-positives f xs, length-map (arcs_into s r) (arc_var s m), count-map f (arc_var s m) (arcs_into s r))))
+      (at_least-holds f (message_at s m).limit (positives us ++ negatives xs) (omega (arith, into_is r hr, true_weight-append f (positives us) (negatives xs), weight-positives f us, weight-negatives f xs, length_steps s m r 1, count-map f (arc_var s m) (arcs_into s r))))
+      (at_least-holds f (length (arcs_into s r)) (negatives us ++ positives xs) (omega (arith, into_is r hr, true_weight-append f (negatives us) (positives xs), weight-negatives f us, weight-positives f xs, length-map (arcs_into s r) (arc_var s m), count-map f (arc_var s m) (arcs_into s r))))
 
   -- arcs carry steps
   carry_holds : (a : ℕ) → a < length s.arcs → All (Holds f) (arc_carries s m a)
@@ -206,7 +207,7 @@ module _ (s : SpecValue) (f : Bits) (m : ℕ) (hm : m < length s.messages) (part
   -- steps have a cause
   cause_holds : (q : ℕ) → q < length s.resources → All (Holds f) (steps_have_cause s m q)
   unfolding has_cause leads_to step_at goes_into leaves
-  cause_holds q hq = All-ones (Holds f) (has_cause s m q) (message_at s m).limit (λ t ht. at_least-holds f 1 (negative (step_var s m q (t + 1)) ∷ positives (earlier t)) (omega (arith, sum t ht (f (step_var s m q (t + 1))) refl, trues-cons f (negative (step_var s m q (t + 1))) (positives (earlier t)), trues-positives f (earlier t))))
+  cause_holds q hq = All-ones (Holds f) (has_cause s m q) (message_at s m).limit (λ t ht. at_least-holds f 1 (negative (step_var s m q (t + 1)) ∷ positives (earlier t)) (omega (arith, sum t ht (f (step_var s m q (t + 1))) refl, true_weight-cons f (negative (step_var s m q (t + 1))) (positives (earlier t)), weight-positives f (earlier t))))
     where
       earlier : ℕ → List ℕ
       earlier t = map (step_at s m t) (neighbours s q)
@@ -246,7 +247,7 @@ module _ (s : SpecValue) (f : Bits) (m : ℕ) (hm : m < length s.messages) (part
       let ros = receiver_options s m r in
       let h = step_var s m r 0 in
       let c = covered_var s m r in
-      All-from_recursion (Holds f) (no_dangling s m r) (at_least-holds f 1 (positives ros ++ positives us ++ positive h ∷ (negative c ∷ [])) (omega (arith, end_sum r hr (f c) refl, trues-append f (positives ros ++ positives us) (positive h ∷ (negative c ∷ [])), trues-append f (positives ros) (positives us), trues-positives f ros, trues-positives f us, trues-cons f (positive h) (negative c ∷ []), trues-cons f (negative c) [])), tt)
+      All-from_recursion (Holds f) (no_dangling s m r) (at_least-holds f 1 (positives ros ++ positives us ++ positive h ∷ (negative c ∷ [])) (omega (arith, end_sum r hr (f c) refl, true_weight-append f (positives ros ++ positives us) (positive h ∷ (negative c ∷ [])), true_weight-append f (positives ros) (positives us), weight-positives f ros, weight-positives f us, true_weight-cons f (positive h) (negative c ∷ []), true_weight-cons f (negative c) [])), tt)
 
   pub route_model_of : IsRouteModel s f m
   route_model_of = record {

@@ -5,7 +5,7 @@ use Rattle.spec_model.specs.Rules.{IsOn, Uses, Walk, WalkBelow, sender_of}
 use Rattle.spec_model.specs.Genotypes.{IsSameDesign}
 use Rattle.spec_model.proofs.Once.{Uses-same}
 use Rattle.spec_model.proofs.Along.{Walk-along, WalkBelow-along, same_back}
-use Rattle.encode_laws.specs.Exactness.{IsRouted}
+use Rattle.spec_model.specs.Rules.{IsRouted}
 use Rattle.encode_laws.proofs.Equations.{Equations, HasEnds}
 use Rattle.encode_laws.proofs.Routes.{walk_of, step_of, some_step, covered_of}
 

@@ -1,21 +1,11 @@
 -- What the models of an encoding are.
-use Rattle.std.specs.Prelude.{◌≡◌, ℕ, ◌<◌, ◌≤◌, true, List, length, Contains, ◌↔◌}
+use Rattle.std.specs.Prelude.{◌≡◌, ℕ, ◌<◌, List, length, Contains, ◌↔◌}
 use Rattle.pb_rules.specs.Linear.{Linear, IsModel}
-use Rattle.spec_model.specs.Spec.{SpecValue, Bits, all_variables, arc_at, message_at, resource_var, link_var}
-use Rattle.spec_model.specs.Rules.{IsOn, Uses, WalkBelow, BoundOnce, GoesOnFrom, IsResourceNeeded, IsLinkNeeded, IsValid, IsUnreached, uses_into, sender_of}
+use Rattle.spec_model.specs.Spec.{SpecValue, Bits, all_variables, message_at}
+use Rattle.spec_model.specs.Rules.{IsRouted, IsValid, IsUnreached}
 use Rattle.spec_model.specs.Genotypes.{IsSameDesign}
 use Rattle.spec_model.specs.WellFormed.{IsWellFormed}
 use Rattle.encode_model.specs.Encoding.{encoding, route_encoding, receiver_covered, view}
-
--- the rules of a valid design but for the one on receivers, which may be out of reach
-pub record IsRouted (s : SpecValue) (f : Bits) : Type 0 where
-  pub bound_once : (t : ℕ) → t < length s.tasks → BoundOnce s f t
-  pub no_arc_into_sender : (m a : ℕ) → m < length s.messages → Uses s f m a → ¬ IsOn s f (sender_of s m) (arc_at s a).head
-  pub one_arc_into : (m r : ℕ) → m < length s.messages → r < length s.resources → uses_into s f m r ≤ 1
-  pub has_walk : (m a : ℕ) → m < length s.messages → Uses s f m a → WalkBelow s f m (arc_at s a).tail (message_at s m).limit
-  pub no_dangling : (m a : ℕ) → m < length s.messages → Uses s f m a → GoesOnFrom s f m (arc_at s a).head
-  pub resource_use : (r : ℕ) → r < length s.resources → (f (resource_var s r) ≡ true) ↔ IsResourceNeeded s f r
-  pub link_use : (l : ℕ) → l < length s.links → (f (link_var s l) ≡ true) ↔ IsLinkNeeded s f l
 
 -- a model of constraints whose view is the design, and no other is one
 pub record IsOnlyModel (s : SpecValue) (cs : List Linear) (design model : Bits) : Type 0 where

@@ -2,7 +2,7 @@
 use Rattle.std.specs.Prelude.{ℕ, ◌+◌, Bool, List, ◌++◌, length, map}
 use Rattle.std.specs.List.{flat_map}
 use Rattle.spec_model.specs.Spec.{SpecValue, Bits, below, message_at, design_variables}
-use Rattle.spec_model.proofs.Decide.{walk_test, some_passes}
+use Rattle.spec_model.specs.Walks.{walk_test, some_passes}
 
 unfoldable pub step_bit : SpecValue → Bits → ℕ → ℕ → ℕ → Bool
 step_bit s f m r t = walk_test s f m t r

@@ -1,16 +1,18 @@
--- Literals in rising order are their own normal form.
-use Rattle.std.proofs.Common.{◌≡◌, ℕ, zero, suc, ◌+◌, ◌*◌, ◌<◌, ◌≤◌, ◌^◌, Bool, true, false, cond, List, [], ◌∷◌, ◌++◌, length, get_or, refl, sym, ap, ◌∙◌, subst, arith, add-one, ◌⊎◌, inl, inr}
+-- Terms in rising order are their own normal form.
+use Rattle.std.proofs.Common.{◌≡◌, ℕ, zero, suc, ◌+◌, ◌*◌, ◌<◌, ◌≤◌, ◌^◌, Bool, true, false, cond, List, [], ◌∷◌, ◌++◌, length, refl, sym, ap, ◌∙◌, subst, arith, add-one, ◌⊎◌, inl, inr}
 use Rattle.std.specs.Prelude.{map, nat_lt, All}
 use Rattle.std.specs.List.{flat_map, sum_by, range_with_len}
+use Rattle.std.proofs.lemmas.List.Elements.{All-cons, All-head, All-tail}
 use Rattle.std.proofs.lemmas.List.Sums.{sum_by-cons}
 use Rattle.std.proofs.lemmas.Bool.{lt-ltb, ltb-true, ltb-false, cases_lt}
 use Rattle.pb_rules.specs.declared.Term.{Term}
-use Rattle.pb_rules.specs.Literal.{Literal}
 use Rattle.pb_rules.specs.Linear.{Linear, IsNormal, VarsBelow, total}
 use Rattle.spec_model.specs.Spec.{below, those}
 use Rattle.spec_model.proofs.Those.{those-more, below-more, flat_map-below_more}
-use Rattle.encode_model.specs.Encoding.{put, by_variable, unit_term, at_least}
-use Rattle.encode_model.specs.Rising.{RisesWithin, LiteralsWithin, IsRising}
+use Rattle.pb_rules.proofs.Rising.{From, from-pairs}
+use Rattle.spec_model.proofs.Joined.{All-those}
+use Rattle.encode_model.specs.Encoding.{weighted, has_weight, put, by_variable, at_least}
+use Rattle.encode_model.specs.Rising.{RisesWithin, IsTermFrom, TermsWithin, IsRising}
 
 -- lists of numbers
 pub bounds : (a b : ℕ) (vs : List ℕ) → RisesWithin a b vs → a ≤ b
@@ -69,99 +71,136 @@ rises-pieces g c zero h = omega arith
 rises-pieces g c (suc n) h =
     subst (λ (k : ℕ). RisesWithin (c 0) (c k) (flat_map g (below k))) (add-one n) (subst (λ (xs : List ℕ). RisesWithin (c 0) (c (n + 1)) xs) (sym (flat_map-below_more g n)) (joined (c 0) (c n) (c (n + 1)) (flat_map g (below n)) (g n) (rises-pieces g c n (λ i l. h i (omega arith))) (h n (omega arith))))
 
--- lists of literals
-pub literals : (a b : ℕ) (y : Bool) (vs : List ℕ) → RisesWithin a b vs → LiteralsWithin a b (map (λ v. record { var = v; yes = y }) vs)
+-- a literal with coefficient 1
+abbrev pub literal : Bool → ℕ → Term
+literal sign v = record { coef = 1; lit = record { var = v; yes = sign } }
+
+pub literal_from : (a v : ℕ) (y : Bool) → a ≤ v → IsTermFrom (2 ^ 40) a (literal y v)
+literal_from a v y h = record { from = h; some = omega arith; small = omega arith }
+
+-- lists of terms
+pub literals : (a b : ℕ) (y : Bool) (vs : List ℕ) → RisesWithin a b vs → TermsWithin (2 ^ 40) a b (map (literal y) vs)
 literals a b y [] h = h
-literals a b y (v ∷ vs) h = (h.0, literals (v + 1) b y vs h.1)
+literals a b y (v ∷ vs) h = (literal_from a v y h.0, literals (v + 1) b y vs h.1)
 
-pub literals_bounds : (a b : ℕ) (ls : List Literal) → LiteralsWithin a b ls → a ≤ b
-literals_bounds a b [] h = h
-literals_bounds a b (l ∷ ls) h = omega (arith, h.0, literals_bounds (l.var + 1) b ls h.1)
+pub terms_bounds : (c a b : ℕ) (ts : List Term) → TermsWithin c a b ts → a ≤ b
+terms_bounds c a b [] h = h
+terms_bounds c a b (t ∷ ts) h = omega (arith, h.0.from, terms_bounds c (t.lit.var + 1) b ts h.1)
 
-pub literals_wider : (a b c d : ℕ) (ls : List Literal) → c ≤ a → b ≤ d → LiteralsWithin a b ls → LiteralsWithin c d ls
-literals_wider a b c d [] hl hr h = omega (arith, hl, hr, h)
-literals_wider a b c d (l ∷ ls) hl hr h = (omega (arith, hl, h.0), literals_wider (l.var + 1) b (l.var + 1) d ls (omega arith) hr h.1)
+pub terms_wider : (c d a b i j : ℕ) (ts : List Term) → c ≤ d → i ≤ a → b ≤ j → TermsWithin c a b ts → TermsWithin d i j ts
+terms_wider c d a b i j [] le hl hr h = omega (arith, hl, hr, h)
+terms_wider c d a b i j (t ∷ ts) le hl hr h =
+    (record { from = omega (arith, hl, h.0.from); some = h.0.some; small = omega (arith, le, h.0.small) }, terms_wider c d (t.lit.var + 1) b (t.lit.var + 1) j ts le (omega arith) hr h.1)
 
-pub literals_joined : (a b c : ℕ) (ls ks : List Literal) → LiteralsWithin a b ls → LiteralsWithin b c ks → LiteralsWithin a c (ls ++ ks)
-literals_joined a b c [] ks h g = literals_wider b c a c ks h (omega arith) g
-literals_joined a b c (l ∷ ls) ks h g = (h.0, literals_joined (l.var + 1) b c ls ks h.1 g)
+pub terms_joined : (d a b c : ℕ) (ts us : List Term) → TermsWithin d a b ts → TermsWithin d b c us → TermsWithin d a c (ts ++ us)
+terms_joined d a b c [] us h g = terms_wider d d b c a c us (omega arith) h (omega arith) g
+terms_joined d a b c (t ∷ ts) us h g = (h.0, terms_joined d (t.lit.var + 1) b c ts us h.1 g)
 
--- no literal of a list is of the variable
-abbrev pub LacksVariable : ℕ → List Literal → Type 0
+-- one term behind others
+pub terms_then : (d a b : ℕ) (ts : List Term) (t : Term) → TermsWithin d a b ts → IsTermFrom d b t → TermsWithin d a (t.lit.var + 1) (ts ++ t ∷ [])
+terms_then d a b ts t h g = terms_joined d a b (t.lit.var + 1) ts (t ∷ []) h (g, omega arith)
+
+-- the same where coefficients are as small as weights are
+pub small_wider : (a b i j : ℕ) (ts : List Term) → i ≤ a → b ≤ j → TermsWithin (2 ^ 40) a b ts → TermsWithin (2 ^ 40) i j ts
+small_wider a b i j ts hl hr h = terms_wider (2 ^ 40) (2 ^ 40) a b i j ts (omega arith) hl hr h
+
+-- no term of a list is of the variable
+abbrev pub LacksVariable : ℕ → List Term → Type 0
 LacksVariable v [] = Unit {0}
-LacksVariable v (l ∷ ls) = (l.var ≡ v → ⊥) × LacksVariable v ls
+LacksVariable v (t ∷ ts) = (t.lit.var ≡ v → ⊥) × LacksVariable v ts
 
--- a literal of a further variable put in its place
-pub literals_put : (a b : ℕ) (l : Literal) (ls : List Literal) → a ≤ l.var → l.var < b → LacksVariable l.var ls → LiteralsWithin a b ls → LiteralsWithin a b (put l ls)
-literals_put a b l [] h g lacks r = (h, omega (arith, g))
-literals_put a b l (k ∷ ks) h g lacks r = at (nat_lt l.var k.var) refl (λ le. literals_put (k.var + 1) b l ks le g lacks.1 r.1)
+-- a term of a further variable put in its place
+pub terms_put : (c a b : ℕ) (t : Term) (ts : List Term) → IsTermFrom c a t → t.lit.var < b → LacksVariable t.lit.var ts → TermsWithin c a b ts → TermsWithin c a b (put t ts)
+terms_put c a b t [] h g lacks r = (h, omega (arith, g))
+terms_put c a b t (u ∷ us) h g lacks r = at (nat_lt t.lit.var u.lit.var) refl (λ le. terms_put c (u.lit.var + 1) b t us (record { from = le; some = h.some; small = h.small }) g lacks.1 r.1)
   where
-    at : (t : Bool) → nat_lt l.var k.var ≡ t → (k.var + 1 ≤ l.var → LiteralsWithin (k.var + 1) b (put l ks)) → LiteralsWithin a b (cond t (l ∷ (k ∷ ks)) (k ∷ put l ks))
-    at true e later = (h, (omega (arith, ltb-true l.var k.var e), r.1))
-    at false e later = (r.0, later (further (ltb-false l.var k.var e)))
+    at : (q : Bool) → nat_lt t.lit.var u.lit.var ≡ q → (u.lit.var + 1 ≤ t.lit.var → TermsWithin c (u.lit.var + 1) b (put t us)) → TermsWithin c a b (cond q (t ∷ (u ∷ us)) (u ∷ put t us))
+    at true e later = (h, (record { from = omega (arith, ltb-true t.lit.var u.lit.var e); some = r.0.some; small = r.0.small }, r.1))
+    at false e later = (r.0, later (further (ltb-false t.lit.var u.lit.var e)))
       where
-        further : k.var ≤ l.var → k.var + 1 ≤ l.var
+        further : u.lit.var ≤ t.lit.var → u.lit.var + 1 ≤ t.lit.var
         further le =
-            elim (cases_lt k.var l.var) [
+            elim (cases_lt u.lit.var t.lit.var) [
               | inl less ↦ omega (arith, less)
               | inr more ↦ absurd (lacks.0 (omega (arith, le, more)))
             ]
 
--- literals in order stay as they are
-pub put_first : (b : ℕ) (l : Literal) (ls : List Literal) → LiteralsWithin (l.var + 1) b ls → put l ls ≡ l ∷ ls
-put_first b l [] h = refl
-put_first b l (k ∷ ks) h = ap (λ (t : Bool). cond t (l ∷ (k ∷ ks)) (k ∷ put l ks)) (lt-ltb l.var k.var (omega (arith, h.0)))
+-- terms in order stay as they are
+pub put_first : (c b : ℕ) (t : Term) (ts : List Term) → TermsWithin c (t.lit.var + 1) b ts → put t ts ≡ t ∷ ts
+put_first c b t [] h = refl
+put_first c b t (u ∷ us) h = ap (λ (q : Bool). cond q (t ∷ (u ∷ us)) (u ∷ put t us)) (lt-ltb t.lit.var u.lit.var (omega (arith, h.0.from)))
 
-pub sorted_already : (a b : ℕ) (ls : List Literal) → LiteralsWithin a b ls → by_variable ls ≡ ls
-sorted_already a b [] h = refl
-sorted_already a b (l ∷ ls) h = ap (put l) (sorted_already (l.var + 1) b ls h.1) ∙ put_first b l ls h.1
+pub sorted_already : (c a b : ℕ) (ts : List Term) → TermsWithin c a b ts → by_variable ts ≡ ts
+sorted_already c a b [] h = refl
+sorted_already c a b (t ∷ ts) h = ap (put t) (sorted_already c (t.lit.var + 1) b ts h.1) ∙ put_first c b t ts h.1
 
--- a constraint whose literals are in order, and one of which the first was put in its place
-pub at_least-rising : (n m : ℕ) (ls : List Literal) → IsRising n ls → at_least m ls ≡ record { terms = map unit_term ls; degree = m }
-unfolding at_least
-at_least-rising n m ls h = ap (λ (ks : List Literal). make ks) (sorted_already 0 n ls h.rises)
+-- what holds of each term holds of each where they are put in order
+put_each : (P : Term → Type 0) (t : Term) (ts : List Term) → P t → All P ts → All P (put t ts)
+put_each P t [] p h = All-cons P t [] p h
+put_each P t (u ∷ us) p h = at (nat_lt t.lit.var u.lit.var) (put_each P t us p (All-tail P u us h))
   where
-    make : List Literal → Linear
-    make ks = record { terms = map unit_term ks; degree = m }
+    at : (q : Bool) → All P (put t us) → All P (cond q (t ∷ (u ∷ us)) (u ∷ put t us))
+    at true later = All-cons P t (u ∷ us) p h
+    at false later = All-cons P u (put t us) (All-head P u us h) later
 
-pub at_least-put : (n m : ℕ) (l : Literal) (ls : List Literal) → IsRising n ls → IsRising n (put l ls) → at_least m (put l ls) ≡ at_least m (l ∷ ls)
+sorted_each : (P : Term → Type 0) (ts : List Term) → All P ts → All P (by_variable ts)
+sorted_each P [] h = h
+sorted_each P (t ∷ ts) h = put_each P t (by_variable ts) (All-head P t ts h) (sorted_each P ts (All-tail P t ts h))
+
+pub at_least-each : (P : Term → Type 0) (n : ℕ) (ts : List Term) → All P ts → All P (at_least n ts).terms
 unfolding at_least
-at_least-put n m l ls h g = ap (λ (ks : List Literal). make ks) (sorted_already 0 n (put l ls) g.rises ∙ ap (put l) (sym (sorted_already 0 n ls h.rises)))
+at_least-each P n ts h = sorted_each P ts h
+
+-- the variables that have a weight, each with it
+weights_within : (weight : ℕ → ℕ) (sign : Bool) (a b : ℕ) (xs : List ℕ) → RisesWithin a b xs → All (λ x. (0 < weight x) × (weight x ≤ 2 ^ 40)) xs → TermsWithin (2 ^ 40) a b (map (weighted weight sign) xs)
+unfolding weighted
+weights_within weight sign a b [] h small = h
+weights_within weight sign a b (x ∷ xs) h small =
+    let one = All-head (λ (y : ℕ). (0 < weight y) × (weight y ≤ 2 ^ 40)) x xs small in
+    (record { from = h.0; some = one.0; small = one.1 }, weights_within weight sign (x + 1) b xs h.1 (All-tail (λ (y : ℕ). (0 < weight y) × (weight y ≤ 2 ^ 40)) x xs small))
+
+pub weights_rise : (weight : ℕ → ℕ) (sign : Bool) (n : ℕ) → ((x : ℕ) → weight x ≤ 2 ^ 40) → TermsWithin (2 ^ 40) 0 n (map (weighted weight sign) (those (has_weight weight) n))
+unfolding has_weight
+weights_rise weight sign n small =
+    weights_within weight sign 0 n (those (has_weight weight) n) (rises-numbers (has_weight weight) n)
+    (All-those (λ (x : ℕ). (0 < weight x) × (weight x ≤ 2 ^ 40)) (has_weight weight) n (λ x l e. (ltb-true 0 (weight x) e, small x)))
+
+-- a constraint whose terms are in order, and one of which the first was put in its place
+pub at_least-within : (c a b m : ℕ) (ts : List Term) → TermsWithin c a b ts → at_least m ts ≡ record { terms = ts; degree = m }
+unfolding at_least
+at_least-within c a b m ts h = ap (λ (us : List Term). make us) (sorted_already c a b ts h)
   where
-    make : List Literal → Linear
-    make ks = record { terms = map unit_term ks; degree = m }
+    make : List Term → Linear
+    make us = record { terms = us; degree = m }
+
+pub at_least-put : (n m : ℕ) (t : Term) (ts : List Term) → IsRising n ts → IsRising n (put t ts) → at_least m (put t ts) ≡ at_least m (t ∷ ts)
+unfolding at_least
+at_least-put n m t ts h g = ap (λ (us : List Term). make us) (sorted_already (2 ^ 40) 0 n (put t ts) g.rises ∙ ap (put t) (sym (sorted_already (2 ^ 40) 0 n ts h.rises)))
+  where
+    make : List Term → Linear
+    make us = record { terms = us; degree = m }
 
 -- they are in normal form
-after : (a b : ℕ) (ls : List Literal) (j : ℕ) (d : Term) → LiteralsWithin a b ls → j < length (map unit_term ls) → a ≤ (get_or (map unit_term ls) j d).lit.var
-after a b [] j d h l = absurd (omega (arith, l))
-after a b (k ∷ ks) zero d h l = h.0
-after a b (k ∷ ks) (suc j) d h l = omega (arith, h.0, after (k.var + 1) b ks j d h.1 (omega (arith, l)))
+from_of : (c a b : ℕ) (ts : List Term) → TermsWithin c a b ts → From a ts
+from_of c a b [] h = tt
+from_of c a b (t ∷ ts) h = (h.0.from, from_of c (t.lit.var + 1) b ts h.1)
 
-rising_terms : (a b : ℕ) (ls : List Literal) → LiteralsWithin a b ls → (i j : ℕ) (d : Term) → i < j → j < length (map unit_term ls) → (get_or (map unit_term ls) i d).lit.var < (get_or (map unit_term ls) j d).lit.var
-rising_terms a b [] h i j d l k = absurd (omega (arith, k))
-rising_terms a b (x ∷ xs) h zero zero d l k = absurd (omega (arith, l))
-rising_terms a b (x ∷ xs) h zero (suc j) d l k = omega (arith, after (x.var + 1) b xs j d h.1 (omega (arith, k)))
-rising_terms a b (x ∷ xs) h (suc i) zero d l k = absurd (omega (arith, l))
-rising_terms a b (x ∷ xs) h (suc i) (suc j) d l k = rising_terms (x.var + 1) b xs h.1 i j d (omega (arith, l)) (omega (arith, k))
+some_each : (c a b : ℕ) (ts : List Term) → TermsWithin c a b ts → All (λ t. 0 < t.coef) ts
+some_each c a b [] h k d l = absurd (omega (arith, l))
+some_each c a b (t ∷ ts) h zero d l = h.0.some
+some_each c a b (t ∷ ts) h (suc k) d l = some_each c (t.lit.var + 1) b ts h.1 k d (omega (arith, l))
 
-units : (ls : List Literal) → All (λ t. 0 < t.coef) (map unit_term ls)
-units [] k d l = absurd (omega (arith, l))
-units (x ∷ xs) zero d l = omega arith
-units (x ∷ xs) (suc k) d l = units xs k d (omega (arith, l))
+pub normal_within : (c a b m : ℕ) (ts : List Term) → TermsWithin c a b ts → total ts < 2 ^ 63 → m < 2 ^ 63 → IsNormal ts m
+normal_within c a b m ts h few small = record { positive = some_each c a b ts h; rising = from-pairs a ts (from_of c a b ts h); small = few; small_degree = small }
 
-total_few : (a b : ℕ) (ls : List Literal) → LiteralsWithin a b ls → a + total (map unit_term ls) ≤ b
+pub below_within : (c a b : ℕ) (ts : List Term) → TermsWithin c a b ts → VarsBelow b ts
+below_within c a b [] h k d l = absurd (omega (arith, l))
+below_within c a b (t ∷ ts) h zero d l = omega (arith, terms_bounds c (t.lit.var + 1) b ts h.1)
+below_within c a b (t ∷ ts) h (suc k) d l = below_within c (t.lit.var + 1) b ts h.1 k d (omega (arith, l))
+
+total_few : (a b : ℕ) (ts : List Term) → TermsWithin (2 ^ 40) a b ts → a * 2 ^ 40 + total ts ≤ b * 2 ^ 40
 total_few a b [] h = omega (arith, h)
-total_few a b (x ∷ xs) h = omega (arith, h.0, total_few (x.var + 1) b xs h.1, sum_by-cons (λ (t : Term). t.coef) (unit_term x) (map unit_term xs))
+total_few a b (t ∷ ts) h = omega (arith, h.0.from, h.0.small, total_few (t.lit.var + 1) b ts h.1, sum_by-cons (λ (u : Term). u.coef) t ts)
 
-pub normal_of_rising : (n m : ℕ) (ls : List Literal) → IsRising n ls → n < 2 ^ 63 → m < 2 ^ 63 → IsNormal (map unit_term ls) m
-normal_of_rising n m ls h few small = record {
-  positive = units ls;
-  rising = rising_terms 0 n ls h.rises;
-  small = omega (arith, total_few 0 n ls h.rises, few);
-  small_degree = small;
-}
-
-pub below_of_rising : (a b : ℕ) (ls : List Literal) → LiteralsWithin a b ls → VarsBelow b (map unit_term ls)
-below_of_rising a b [] h k d l = absurd (omega (arith, l))
-below_of_rising a b (x ∷ xs) h zero d l = omega (arith, literals_bounds (x.var + 1) b xs h.1)
-below_of_rising a b (x ∷ xs) h (suc k) d l = below_of_rising (x.var + 1) b xs h.1 k d (omega (arith, l))
+pub normal_of_rising : (n m : ℕ) (ts : List Term) → IsRising n ts → n ≤ 2 ^ 20 → m < 2 ^ 63 → IsNormal ts m
+normal_of_rising n m ts h few small = normal_within (2 ^ 40) 0 n m ts h.rises (omega (arith, total_few 0 n ts h.rises, few)) small

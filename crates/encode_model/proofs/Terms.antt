@@ -8,14 +8,14 @@ use Rattle.std.proofs.lemmas.List.FromFn.{length-range_with_len}
 use Rattle.std.proofs.lemmas.Nat.{mul-le}
 use Rattle.std.proofs.lemmas.Bool.{false≢true}
 use Rattle.std.proofs.lemmas.Bool.Decides.{nat_tests}
-use Rattle.pb_rules.specs.Literal.{Literal}
+use Rattle.pb_rules.specs.declared.Term.{Term}
 use Rattle.pb_rules.specs.Linear.{Linear}
 use Rattle.spec_model.specs.Spec.{SpecValue, Message, below, those, message_at, arc_at, option_at, arc_var, resource_var, link_var, step_var, covered_var}
 use Rattle.spec_model.specs.Rules.{of_task, of_task_on, options_of, goes_into, leaves, of_link, arcs_into, arcs_from, arcs_of, sender_of}
 use Rattle.spec_model.specs.WellFormed.{IsWellFormed, size, message_size, option_count}
 use Rattle.spec_model.proofs.Counts.{bit}
-use Rattle.spec_model.proofs.Those.{those-more, below-more, map-below_more, flat_map-below_more}
-use Rattle.encode_model.specs.Encoding.{put, by_variable, unit_term, at_least, positive, negative, positives, negatives, option_on, on_resource, options_on, is_number, for_receiver, receiver_options, arc_vars, steps_from, step_after, one_option, sender_start, option_covers, receiver_covered, receivers_covered, covered_once, one_arc_in, carries, arc_carries, leads_to, neighbours, step_at, has_cause, steps_have_cause, no_dangling, resources_of, messages_of, routes_of, message_part, option_allocates, cover_allocates, covers_allocate, cover_of, resource_has_use, arc_allocates, arcs_allocate, link_arcs, link_has_use, allocation, options_chosen, encoding}
+use Rattle.spec_model.proofs.Those.{those-more, sum_by-below_more, below-more, map-below_more, flat_map-below_more}
+use Rattle.encode_model.specs.Encoding.{put, by_variable, at_least, positive, negative, positives, negatives, option_on, on_resource, options_on, is_number, for_receiver, receiver_options, arc_vars, steps_from, step_after, one_option, sender_start, option_covers, receiver_covered, receivers_covered, covered_once, one_arc_in, carries, arc_carries, leads_to, neighbours, step_at, has_cause, steps_have_cause, no_dangling, resources_of, messages_of, routes_of, message_part, option_allocates, cover_allocates, covers_allocate, cover_of, resource_has_use, arc_allocates, arcs_allocate, link_arcs, link_has_use, allocation, options_chosen, encoding}
 
 -- the terms of a list of constraints
 abbrev pub terms_of : List Linear → ℕ
@@ -30,8 +30,7 @@ terms-append cs ds = sum_by-append (λ (d : Linear). length d.terms) cs ds
 -- sums over the numbers below n
 sum-below_suc : (f : ℕ → ℕ) (n : ℕ) → sum_by f (below (suc n)) ≡ sum_by f (below n) + f n
 sum-below_suc f n =
-    let at : sum_by f (below (n + 1)) ≡ sum_by f (below n) + f n = ap (sum_by f) (below-more n) ∙ (sum_by-append f (below n) (n ∷ []) ∙ omega (arith, sum_by-cons f n [])) in
-    subst (λ (k : ℕ). sum_by f (below k) ≡ sum_by f (below n) + f n) (add-one n) at
+    subst (λ (k : ℕ). sum_by f (below k) ≡ sum_by f (below n) + f n) (add-one n) (sum_by-below_more f n)
 
 -- a bound that splits over the numbers
 sum-le : (f g : ℕ → ℕ) (n : ℕ) → ((i : ℕ) → i < n → f i ≤ g i) → sum_by f (below n) ≤ sum_by g (below n)
@@ -74,23 +73,23 @@ ones-terms g [] = refl
 ones-terms g (x ∷ xs) = omega (arith, terms-cons (g x) (map g xs), ones-terms g xs, sum_by-cons (λ y. length (g y).terms) x xs)
 
 -- the terms of one constraint
-length_put : (l : Literal) (ls : List Literal) → length (put l ls) ≡ length (l ∷ ls)
-length_put l [] = refl
-length_put l (k ∷ ks) = at (nat_lt l.var k.var) (length_put l ks)
+length_put : (t : Term) (ts : List Term) → length (put t ts) ≡ length (t ∷ ts)
+length_put t [] = refl
+length_put t (u ∷ us) = at (nat_lt t.lit.var u.lit.var) (length_put t us)
   where
-    at : (b : Bool) → length (put l ks) ≡ length (l ∷ ks) → length (cond b (l ∷ (k ∷ ks)) (k ∷ put l ks)) ≡ length (l ∷ (k ∷ ks))
+    at : (b : Bool) → length (put t us) ≡ length (t ∷ us) → length (cond b (t ∷ (u ∷ us)) (u ∷ put t us)) ≡ length (t ∷ (u ∷ us))
     at true e = refl
     at false e = omega (arith, e)
 
-length-by_variable : (ls : List Literal) → length (by_variable ls) ≡ length ls
+length-by_variable : (ts : List Term) → length (by_variable ts) ≡ length ts
 length-by_variable [] = refl
-length-by_variable (l ∷ ls) = omega (arith, length_put l (by_variable ls), length-by_variable ls)
+length-by_variable (t ∷ ts) = omega (arith, length_put t (by_variable ts), length-by_variable ts)
 
-pub length-at_least : (n : ℕ) (ls : List Literal) → length (at_least n ls).terms ≡ length ls
+pub length-at_least : (n : ℕ) (ts : List Term) → length (at_least n ts).terms ≡ length ts
 unfolding at_least
-length-at_least n ls = length-map (by_variable ls) unit_term ∙ length-by_variable ls
+length-at_least n ts = length-by_variable ts
 
-two-terms : (n m : ℕ) (ls ks : List Literal) → terms_of (at_least n ls ∷ (at_least m ks ∷ [])) ≡ length ls + length ks
+two-terms : (n m : ℕ) (ls ks : List Term) → terms_of (at_least n ls ∷ (at_least m ks ∷ [])) ≡ length ls + length ks
 two-terms n m ls ks = omega (arith, terms-cons (at_least n ls) (at_least m ks ∷ []), terms-cons (at_least m ks) [], length-at_least n ls, length-at_least m ks)
 
 -- how many pass
@@ -346,7 +345,7 @@ module _ (s : SpecValue) (m : ℕ) where
       one r =
           let ros = receiver_options s m r in
           let us = arc_vars s m (arcs_from s r) in
-          let last : List Literal = positive (step_var s m r 0) ∷ (negative (covered_var s m r) ∷ []) in
+          let last : List Term = positive (step_var s m r 0) ∷ (negative (covered_var s m r) ∷ []) in
           omega (arith, terms-cons (at_least 1 (positives ros ++ positives us ++ last)) [], length-at_least 1 (positives ros ++ positives us ++ last), length-append (positives ros ++ positives us) last, length-append (positives ros) (positives us), length-map ros positive, length-map us positive, length-map (arcs_from s r) (arc_var s m))
 
 -- what allocates, and what uses what is allocated

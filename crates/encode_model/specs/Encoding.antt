@@ -2,41 +2,44 @@
 use Rattle.std.specs.Prelude.{ℕ, ◌+◌, ◌-◌, Bool, true, false, ◌&&◌, ◌==◌, List, [], ◌∷◌, ◌++◌, length, map, nat_lt, if◌then◌else◌}
 use Rattle.std.specs.List.{flat_map, list_any}
 use Rattle.pb_rules.specs.declared.Term.{Term}
-use Rattle.pb_rules.specs.Literal.{Literal}
 use Rattle.pb_rules.specs.Linear.{Linear}
 use Rattle.spec_model.specs.Spec.{SpecValue, Bits, below, those, message_at, arc_at, option_at, arc_var, resource_var, link_var, design_variables, step_var, covered_var}
 use Rattle.spec_model.specs.Rules.{of_task_on, options_of, arcs_into, arcs_from, arcs_of, leaves, sender_of}
 
--- the literal that is true where the variable is
-abbrev pub positive : ℕ → Literal
-positive v = record { var = v; yes = true }
+-- a variable with its weight, which counts where the variable is true, or where it is false
+unfoldable pub weighted : (ℕ → ℕ) → Bool → ℕ → Term
+weighted weight sign v = record { coef = weight v; lit = record { var = v; yes = sign } }
 
--- the literal that is true where the variable is false
-abbrev pub negative : ℕ → Literal
-negative v = record { var = v; yes = false }
+unfoldable pub has_weight : (ℕ → ℕ) → ℕ → Bool
+has_weight weight v = nat_lt 0 (weight v)
 
-abbrev pub positives : List ℕ → List Literal
+-- the literal that is true where the variable is, with coefficient 1
+abbrev pub positive : ℕ → Term
+positive v = record { coef = 1; lit = record { var = v; yes = true } }
+
+-- the literal that is true where the variable is false, with coefficient 1
+abbrev pub negative : ℕ → Term
+negative v = record { coef = 1; lit = record { var = v; yes = false } }
+
+abbrev pub positives : List ℕ → List Term
 positives vs = map positive vs
 
-abbrev pub negatives : List ℕ → List Literal
+abbrev pub negatives : List ℕ → List Term
 negatives vs = map negative vs
 
--- a literal put in front of the first one of a greater variable
-abbrev pub put : Literal → List Literal → List Literal
-put l [] = l ∷ []
-put l (k ∷ ks) = if nat_lt l.var k.var then l ∷ (k ∷ ks) else k ∷ put l ks
+-- a term put in front of the first one of a greater variable
+abbrev pub put : Term → List Term → List Term
+put t [] = t ∷ []
+put t (u ∷ us) = if nat_lt t.lit.var u.lit.var then t ∷ (u ∷ us) else u ∷ put t us
 
--- literals by rising variable
-abbrev pub by_variable : List Literal → List Literal
+-- terms by rising variable
+abbrev pub by_variable : List Term → List Term
 by_variable [] = []
-by_variable (l ∷ ls) = put l (by_variable ls)
+by_variable (t ∷ ts) = put t (by_variable ts)
 
-abbrev pub unit_term : Literal → Term
-unit_term l = record { coef = 1; lit = l }
-
--- at least n of the literals are true: the normal form, where no two have one variable
-unfoldable pub at_least : ℕ → List Literal → Linear
-at_least n ls = record { terms = map unit_term (by_variable ls); degree = n }
+-- the coefficients of the true terms sum to at least n: the normal form, where no two have one variable
+unfoldable pub at_least : ℕ → List Term → Linear
+at_least n ts = record { terms = by_variable ts; degree = n }
 
 -- the option of a task on a resource, if there is one
 abbrev pub option_on : SpecValue → ℕ → ℕ → List ℕ

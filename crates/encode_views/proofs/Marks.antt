@@ -5,7 +5,7 @@ use Rattle.std.proofs.lemmas.List.{ext_get_or, get_or-set_same, get_or-set_other
 use Rattle.std.proofs.lemmas.List.FromFn.{get_or-map-range_with_len, length-map-range_with_len}
 use Rattle.std.proofs.lemmas.Bool.Decides.{nat_tests}
 use Rattle.spec_model.specs.Spec.{below}
-use Rattle.spec_model.proofs.Decide.{some_passes}
+use Rattle.spec_model.specs.Walks.{some_passes}
 
 -- the bit of each place below n says whether some number below k passes there
 pub record IsMarked (n : ℕ) (p : ℕ → ℕ → Bool) (k : ℕ) (row : List Bool) : Type 0 where

@@ -10,7 +10,7 @@ use Rattle.std.proofs.lemmas.Bool.{false≢true}
 use Rattle.spec_model.specs.Spec.{SpecValue, Bits, bits_of, below, message_at, arc_at, option_at, arc_var, further, base, design_variables, all_variables}
 use Rattle.spec_model.specs.WellFormed.{IsWellFormed}
 use Rattle.spec_model.proofs.InRange.{arc_in}
-use Rattle.spec_model.proofs.Decide.{some_passes, walk_test, puts}
+use Rattle.spec_model.specs.Walks.{some_passes, walk_test, puts}
 use Rattle.spec_model.proofs.Those.{map-below_more, flat_map-below_more}
 use Rattle.encode_laws.specs.ModelBits.{step_bit, cover_bit, step_row, message_bits, model_list}
 use Rattle.encode_laws.proofs.ModelBits.{length_model, design_reads}

@@ -2,7 +2,7 @@
 use Rattle.std.specs.Prelude.{ℕ, Bool, false, ◌&&◌, ◌==◌, List, length, map, slice_index_or}
 use Rattle.std.specs.List.{list_any}
 use Rattle.spec_model.specs.Spec.{SpecValue, Bits, below, option_at, arc_at, arc_var}
-use Rattle.spec_model.proofs.Decide.{some_passes}
+use Rattle.spec_model.specs.Walks.{some_passes}
 use Rattle.encode_laws.specs.ModelBits.{step_bit}
 
 -- the option is the task's, and chosen

@@ -1,7 +1,7 @@
 //! The design part of a model.
 
 ghost use Rattle.std.specs.Prelude.{◌≡◌, length, take, IfOk};
-ghost use Rattle.pb_rules.specs.Linear.{IsModel, assignment};
+ghost use Rattle.pb_rules.specs.Linear.{IsModel};
 ghost use Rattle.spec_model.specs.Spec.{bits_of, design_variables, all_variables};
 ghost use Rattle.spec_model.specs.Rules.{IsValid};
 ghost use Rattle.encode_model.specs.Encoding.{encoding};
@@ -13,7 +13,7 @@ use std::alloc::{AllocError, Global};
 /// The design part of a model of a specification's encoding, which is a valid design.
 pub fn design_of(alloc: Global, spec: &Spec, model: &[bool]) -> Result<Design, AllocError>
     requires variables { length model.now ≡ all_variables spec.now }
-    requires model { IsModel (encoding spec.now) (assignment model.now) }
+    requires model { IsModel (encoding spec.now) (bits_of model.now) }
     ensures variables { IfOk result (λ design. length design ≡ design_variables spec.now) }
     ensures part { IfOk result (λ design. design ≡ take (design_variables spec.now) model.now) }
     ensures valid { IfOk result (λ design. IsValid spec.now (bits_of design)) }

@@ -2,7 +2,6 @@
 
 ghost use Rattle.std.specs.Prelude.{◌≡◌, ◌<◌, ◌++◌, length, map, take, IfOk, OnOk};
 ghost use Rattle.std.specs.List.{flat_map};
-ghost use Rattle.pb_rules.specs.Linear.{assignment};
 ghost use Rattle.spec_model.specs.Spec.{below, bits_of, design_variables, all_variables};
 ghost use Rattle.spec_model.specs.Rules.{IsValid};
 ghost use Rattle.encode_model.specs.Encoding.{encoding};
@@ -106,7 +105,7 @@ pub fn model_of(alloc: Global, spec: &Spec, design: &Design) -> Result<Vec<bool>
     requires valid { IsValid spec.now (bits_of design.now) }
     ensures variables { IfOk result (λ model. length model.items ≡ all_variables spec.now) }
     ensures design { IfOk result (λ model. take (design_variables spec.now) model.items ≡ design.now) }
-    ensures only { IfOk result (λ model. IsOnlyModel spec.now (encoding spec.now) (bits_of design.now) (assignment model.items)) }
+    ensures only { IfOk result (λ model. IsOnlyModel spec.now (encoding spec.now) (bits_of design.now) (bits_of model.items)) }
 {
     spec.facts();
     let mut model = design_bits(alloc, spec, design)?;

@@ -151,15 +151,15 @@ first_miswired s f l facts bound lower found =
 
 -- a design that breaks a rule isn't valid
 pub Breaks-not_valid : (s : SpecValue) (f : Bits) (rule : Rule) → Breaks s f rule → ¬ IsValid s f
-Breaks-not_valid s f (NotBoundOnce t) b v = b.not_once (v.bound_once t.0 b.in_range)
-Breaks-not_valid s f (ArcIntoSender m a) b v = v.no_arc_into_sender m.0 a.0 b.1 b.2.used b.2.into_sender
-Breaks-not_valid s f (TwoArcsInto m r) b v = absurd (omega (arith, b.2.two, v.one_arc_into m.0 r.0 b.1 b.2.in_range))
-Breaks-not_valid s f (NoWalk m a) b v = b.2.no_walk (v.has_walk m.0 a.0 b.1 b.2.used)
+Breaks-not_valid s f (NotBoundOnce t) b v = b.not_once (v.routed.bound_once t.0 b.in_range)
+Breaks-not_valid s f (ArcIntoSender m a) b v = v.routed.no_arc_into_sender m.0 a.0 b.1 b.2.used b.2.into_sender
+Breaks-not_valid s f (TwoArcsInto m r) b v = absurd (omega (arith, b.2.two, v.routed.one_arc_into m.0 r.0 b.1 b.2.in_range))
+Breaks-not_valid s f (NoWalk m a) b v = b.2.no_walk (v.routed.has_walk m.0 a.0 b.1 b.2.used)
 Breaks-not_valid s f (NotReached m w) b v =
     let x = v.reached m.0 w.0 b.2.resource b.1 b.2.receiver b.2.on in b.2.no_walk x.0 x.1
-Breaks-not_valid s f (Dangling m a) b v = b.2.no_end (v.no_dangling m.0 a.0 b.1 b.2.used)
-Breaks-not_valid s f (ResourceUse r) b v = b.1.differ (v.resource_use r.0 b.1.in_range)
-Breaks-not_valid s f (LinkUse l) b v = b.1.differ (v.link_use l.0 b.1.in_range)
+Breaks-not_valid s f (Dangling m a) b v = b.2.no_end (v.routed.no_dangling m.0 a.0 b.1 b.2.used)
+Breaks-not_valid s f (ResourceUse r) b v = b.1.differ (v.routed.resource_use r.0 b.1.in_range)
+Breaks-not_valid s f (LinkUse l) b v = b.1.differ (v.routed.link_use l.0 b.1.in_range)
 
 pub some_not_valid : (s : SpecValue) (f : Bits) (rule : Rule) → IsFirstBroken s f rule → IsNone (Some rule) ↔ IsValid s f
 some_not_valid s f rule first = (λ e. absurd (false≢true (sym e)), λ v. absurd (Breaks-not_valid s f rule first.broken v))
@@ -167,13 +167,15 @@ some_not_valid s f rule first = (λ e. absurd (false≢true (sym e)), λ v. absu
 -- a design that meets each rule is valid
 pub valid_from : (s : SpecValue) (f : Bits) → IsWellFormed s → AreMetBelow s f 8 → AllBelow (IsWiredRightly s f) (length s.links) → IsValid s f
 valid_from s f facts met wired = record {
-  bound_once = λ t l. met 1 (omega arith) 0 t l;
-  no_arc_into_sender = λ m a l used on. met 2 (omega arith) m a l used.in_range (record { used = used; into_sender = on });
-  one_arc_into = λ m r l k. met 3 (omega arith) m r l k;
-  has_walk = λ m a l used. met 4 (omega arith) m a l used.in_range used;
+  routed = record {
+    bound_once = λ t l. met 1 (omega arith) 0 t l;
+    no_arc_into_sender = λ m a l used on. met 2 (omega arith) m a l used.in_range (record { used = used; into_sender = on });
+    one_arc_into = λ m r l k. met 3 (omega arith) m r l k;
+    has_walk = λ m a l used. met 4 (omega arith) m a l used.in_range used;
+    no_dangling = λ m a l used. met 6 (omega arith) m a l used.in_range used;
+    resource_use = λ r l. met 7 (omega arith) 0 r l;
+    link_use = λ l k. wired l k;
+  };
   reached = λ m w r l there on.
       let x = met 5 (omega arith) m w l (receiver_in s m w facts l there) there r on in (x.hops, x.walk);
-  no_dangling = λ m a l used. met 6 (omega arith) m a l used.in_range used;
-  resource_use = λ r l. met 7 (omega arith) 0 r l;
-  link_use = λ l k. wired l k;
 }

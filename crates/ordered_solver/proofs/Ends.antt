@@ -7,14 +7,14 @@ use Rattle.std.proofs.lemmas.List.Elements.{All-push, All-map, All-contains}
 use Rattle.pb_constraints.specs.declared.ConId.{ConId}
 use Rattle.pb_rules.specs.declared.Op.{Op}
 use Rattle.pb_rules.specs.Literal.{Literal}
-use Rattle.pb_rules.specs.Linear.{Linear, Holds, IsModel, AreAmong, assignment}
+use Rattle.pb_rules.specs.Linear.{Linear, Holds, IsModel, AreAmong, bits_of}
 use Rattle.pb_rules.specs.Partial.{IsClosed, whole}
 use Rattle.pb_rules.specs.Clauses.{contradiction}
 use Rattle.pb_rules.specs.Honest.{LeavesOne}
 use Rattle.pb_rules.specs.Order.{ShowsFirst}
-use Rattle.pb_rules.specs.Frames.{Line, derived, Frame, Given, base_of, given_from, derived_from, derived_by, with_derived}
+use Rattle.pb_rules.specs.Frames.{Line, derived, Frame, Given, context_of, base_of, given_from, derived_from, derived_by, with_derived}
 use Rattle.pb_rules.proofs.Closed.{no-model, contradiction-absorbed, unabsorbed-not, models-front, among-front, among-back, among-append}
-use Rattle.pb_rules.proofs.Given.{given-push, derived-push, derived-append}
+use Rattle.pb_rules.proofs.Given.{given-push, given-knows, derived-push, derived-append}
 use Rattle.proof_log.specs.Log.{LogValue}
 use Rattle.proof_log.specs.HonestLog.{AreHonestLines}
 use Rattle.constraint_store.specs.Live.{Live}
@@ -86,7 +86,7 @@ found-nothing start live ids old mid new order variables budget n es h r below c
       count = (omega arith, (omega arith, omega arith));
       shown = λ f g frame fits legal under.
           (let s = h.shown f g frame fits legal under in
-          let gives = (r.derives).legal s.after.constraints s.under in
+          let gives = (r.derives).legal (context_of s.after) (given-knows s.after) s.under in
           let L : List Line → Type 0 = λ ls. given_from f g ls ≡ Some (with_derived s.after contradiction) in
           let A : List Line → Type 0 = λ ls. IsRefutation f g (constraints_in start) ls in
           record {
@@ -103,7 +103,7 @@ found-nothing start live ids old mid new order variables budget n es h r below c
     }
 
 -- the values of a trail have its literals
-takes-values : (es : List Entry) (variables : ℕ) (values : List Bool) → IsDistinct es → All (λ (e : Entry). e.lit.var < variables) es → HasValues variables es values → TakesBelow (whole (assignment values)) es (length es)
+takes-values : (es : List Entry) (variables : ℕ) (values : List Bool) → IsDistinct es → All (λ (e : Entry). e.lit.var < variables) es → HasValues variables es values → TakesBelow (whole (bits_of values)) es (length es)
 takes-values es variables values distinct below h j d l =
     let at = first-at es (get_or es j d).lit.var j d l refl (distinct j d l) in
     ap (λ (b : Bool). Some b) (h.each (get_or es j d).lit.var (get_or es j d).lit.yes (below j d l) at.value)
@@ -123,7 +123,7 @@ AreHeld live held = (c : ConId) (k : Linear) → attached_at held c ≡ Some k �
 -- each variable has a value, and nothing is in conflict
 pub found-model : (start live : List Live) (ids : List ConId) (held : List Attached) (old new : LogValue) (order : List Literal) (variables budget n : ℕ) (es : List Entry) (values : Vec Bool) → HasLearned start live ids old new n → n < budget → IsCounted variables es n → length order ≡ variables → Covers order variables → All (IsAttached held) live → All (IsInRange variables) live → AreHeld live held → IsSearch held order es → IsFull order es → AllClosed held es → IsDistinct es → All (λ (e : Entry). e.lit.var < variables) es → HasValues variables es values.items → IsFound start old new order variables budget (Model values)
 found-model start live ids held old new order variables budget n es values h below counted every covers attached in_range among decided full closed distinct inside has =
-    let v : ℕ → Bool = assignment values.items in
+    let v : ℕ → Bool = bits_of values.items in
     let is = lines-are old new h.lines h.written in
     let len : length (new_lines old new) ≡ n = ap length is ∙ h.counted in
     let top = word-lt variables (marks es) in

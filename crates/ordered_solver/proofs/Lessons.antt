@@ -1,6 +1,6 @@
 -- A search goes on by a lesson: the trail, the clauses and the lines stay as they have to be.
 use Rattle.std.proofs.Common.{◌≡◌, ℕ, ◌+◌, ◌-◌, ◌<◌, ◌^◌, Bool, true, false, cond, eqb, Option, Some, List, [], ◌∷◌, ◌++◌, length, get_or, take, refl, sym, ap, ◌∙◌, subst, arith, inl, inr, IsTrue, append_assoc}
-use Rattle.std.specs.Prelude.{All}
+use Rattle.std.specs.Prelude.{All, Ok}
 use Rattle.std.proofs.lemmas.Bool.{cases_lt, cases_eq, false≢true}
 use Rattle.std.proofs.lemmas.Bool.Decides.{nat_tests}
 use Rattle.std.proofs.lemmas.List.{take_all, take-append-le, get_or_append_left, get_or_push, length_push, map-append}
@@ -13,9 +13,9 @@ use Rattle.pb_rules.specs.Partial.{IsClosed, IsClosedFor, Forces}
 use Rattle.pb_rules.specs.Clauses.{IsClause}
 use Rattle.pb_rules.specs.Honest.{IsUnabsorbed, AreHonest}
 use Rattle.pb_rules.specs.Operations.{line_gives}
-use Rattle.pb_rules.specs.Frames.{Line, derived, Frame, IsFrame, FitsFrom, Given, base_of, given_by, given_from, derived_from, with_derived, is_derived, StandsUnder}
+use Rattle.pb_rules.specs.Frames.{Line, derived, Frame, IsFrame, FitsFrom, Given, base_of, given_by, given_from, derived_from, context_of, with_derived, is_derived, StandsUnder}
 use Rattle.pb_rules.proofs.Closed.{propagated-follows, honest-push}
-use Rattle.pb_rules.proofs.Given.{given-append, given-push, given-ids, given-stays, derived-push, derived-stands}
+use Rattle.pb_rules.proofs.Given.{given-append, given-push, given-ids, given-stays, given-knows, derived-push, derived-stands}
 use Rattle.proof_log.specs.Log.{LogValue, next_id}
 use Rattle.proof_log.specs.HonestLog.{AreHonestLines}
 use Rattle.constraint_store.specs.Live.{Live, is_live, live_at, constraint_of, proof_id_of}
@@ -24,7 +24,7 @@ use Rattle.trail_state.specs.Trail.{Entry, value_in, level_of, upto_level}
 use Rattle.propagate.specs.Attached.{Attached, attached_at, ChangesOnly}
 use Rattle.propagate.specs.Forced.{IsForcedAt, AllClosed}
 use Rattle.propagate.proofs.Attaching.{same_id}
-use Rattle.conflict_graph.specs.Derives.{HasUnder}
+use Rattle.conflict_graph.specs.Derives.{HasUnder, GiveOver}
 use Rattle.conflict_graph.specs.Learned.{constraints_in}
 use Rattle.ordered_solver.specs.Trails.{IsOrdered}
 use Rattle.ordered_solver.specs.Engines.{IsAttached, HasAdded, id_of}
@@ -94,7 +94,7 @@ abbrev pub IsDerived : Line → Type 0
 IsDerived l = is_derived l ≡ true
 
 -- one honest line more
-honest-line : (f : Frame) (g h : Given) (base : List Linear) (ls : List Line) (ops : List Op) (c : Linear) → AreHonestLines f g base ls → given_from f g ls ≡ Some h → line_gives h.constraints ops ≡ Some c → IsClause c → IsUnabsorbed (base ++ derived_from f g ls) c → AreHonestLines f g base (ls ++ derived ops ∷ [])
+honest-line : (f : Frame) (g h : Given) (base : List Linear) (ls : List Line) (ops : List Op) (c : Linear) → AreHonestLines f g base ls → given_from f g ls ≡ Some h → line_gives (context_of h) ops ≡ Ok c → IsClause c → IsUnabsorbed (base ++ derived_from f g ls) c → AreHonestLines f g base (ls ++ derived ops ∷ [])
 honest-line f g h base ls ops c honest e gives is new = record {
   derived_each = All-append IsDerived ls (derived ops ∷ []) honest.derived_each (All-cons IsDerived (derived ops) [] refl (All-nil IsDerived));
   after = with_derived h c;
@@ -103,17 +103,16 @@ honest-line f g h base ls ops c honest e gives is new = record {
 }
 
 -- each live constraint stands under its id, one more of them too
-under-more : (f : Frame) (h : Given) (live : List Live) (x : Live) (ops : List Op) → is_live live x.id ≡ false → 0 < x.proof_id → x.proof_id < 2 ^ 63 → x.proof_id ≡ length h.constraints + 1 → line_gives h.constraints ops ≡ Some x.constraint → HasUnder h.constraints live → HasUnder (with_derived h x.constraint).constraints (live ++ x ∷ [])
-under-more f h live x ops fresh from_one small next gives under c on = elim (cases_eq x.id.0 c.0) [
+under-more : (f : Frame) (h : Given) (live : List Live) (x : Live) (ops : List Op) → is_live live x.id ≡ false → x.proof_id < 2 ^ 63 → x.proof_id ≡ length h.constraints + 1 → line_gives (context_of h) ops ≡ Ok x.constraint → HasUnder (context_of h) live → HasUnder (context_of (with_derived h x.constraint)) (live ++ x ∷ [])
+under-more f h live x ops fresh small next gives under c on = elim (cases_eq x.id.0 c.0) [
   | inl q ↦ (let is : live_at (live ++ x ∷ []) c ≡ x = ap (live_at (live ++ x ∷ [])) (sym (same_id x.id c q)) ∙ live_at_new live x fresh in
-      let S : Live → Type 0 = λ e. StandsUnder (with_derived h x.constraint).constraints e.proof_id e.constraint in
-      subst S (sym is) (record { from_one = from_one; small = small; there = derived-stands h x.constraint x.proof_id next }))
+      let S : Live → Type 0 = λ e. StandsUnder (context_of (with_derived h x.constraint)) e.proof_id e.constraint in
+      subst S (sym is) (derived-stands h x.constraint x.proof_id small next))
   | inr n ↦ (let test : eqb x.id.0 c.0 ≡ false = grind (arith, nat_tests) in
       let old : is_live live c ≡ true = before (is_live live c) (eqb x.id.0 c.0) test (sym (is_live_added live x c) ∙ on) in
       let is : live_at (live ++ x ∷ []) c ≡ live_at live c = live_at_added live x c old in
-      let s = under c old in
-      let S : Live → Type 0 = λ e. StandsUnder (with_derived h x.constraint).constraints e.proof_id e.constraint in
-      subst S (sym is) (record { from_one = s.from_one; small = s.small; there = given-stays f h (with_derived h x.constraint) (derived ops ∷ []) (proof_id_of live c - 1) (constraint_of live c) (given-push f h h [] ops x.constraint refl gives) s.there }))
+      let S : Live → Type 0 = λ e. StandsUnder (context_of (with_derived h x.constraint)) e.proof_id e.constraint in
+      subst S (sym is) (given-stays f h (with_derived h x.constraint) (derived ops ∷ []) (proof_id_of live c) (constraint_of live c) (given-push f h h [] ops x.constraint refl gives) (under c old)))
 ]
   where
     before : (a b : Bool) → b ≡ false → cond a true b ≡ true → a ≡ true
@@ -123,11 +122,11 @@ under-more f h live x ops fresh from_one small next gives under c on = elim (cas
 -- in a frame, one lesson more
 shown-more : (f : Frame) (g : Given) (start live more : List Live) (ids : List ConId) (held : List Attached) (es : List Entry) (old log : LogValue) (lines : List Line) (x : Live) (ops : List Op) (back : ℕ) →
     IsFrame f → FitsFrom f old.first → given_by f old.lines ≡ Some g → log ≡ record old { lines = old.lines ++ lines } → live ≡ start ++ more →
-    is_live live x.id ≡ false → x.proof_id ≡ next_id log → x.proof_id < 2 ^ 63 → IsClause x.constraint → IsUnabsorbed (constraints_in live) x.constraint → ((cs : List Linear) → HasUnder cs live → line_gives cs ops ≡ Some x.constraint) →
+    is_live live x.id ≡ false → x.proof_id ≡ next_id log → x.proof_id < 2 ^ 63 → IsClause x.constraint → IsUnabsorbed (constraints_in live) x.constraint → GiveOver live ops x.constraint →
     IsShown f g start live more lines → IsShown f g start (live ++ x ∷ []) (more ++ x ∷ []) (lines ++ derived ops ∷ [])
 shown-more f g start live more ids held es old log lines x ops back frame fits legal written split fresh id small clause new derives s =
     let h : Given = s.after in
-    let gives = derives h.constraints s.under in
+    let gives = derives (context_of h) (given-knows h) s.under in
     let whole : given_by f log.lines ≡ Some h = ap (λ (v : LogValue). given_by f v.lines) written ∙ given-append f (base_of f) g old.lines lines legal ∙ s.legal in
     let count = given-ids f (base_of f) h log.lines frame whole in
     let first : log.first ≡ old.first = ap (λ (v : LogValue). v.first) written in
@@ -137,7 +136,7 @@ shown-more f g start live more ids held es old log lines x ops back frame fits l
     record {
       after = with_derived h x.constraint;
       legal = given-push f g h lines ops x.constraint s.legal gives;
-      under = under-more f h live x ops fresh (omega arith) small next gives s.under;
+      under = under-more f h live x ops fresh small next gives s.under;
       honest = honest-line f g h (constraints_in start) lines ops x.constraint s.honest s.legal gives clause (subst U (sym all) new);
       gives = derived-push f g h lines ops x.constraint s.legal gives ∙ ap (λ (cs : List Linear). cs ++ x.constraint ∷ []) s.gives ∙ sym (constraints-append more (x ∷ []));
     }

@@ -1,7 +1,7 @@
 -- What an answer says of the given constraints, of the number of new lines, and of the lines in each frame that agrees.
 use Rattle.std.specs.Prelude.{ℕ, Bool, true, Some, ◌≡◌, ◌≢◌, ◌<◌, ◌≤◌, ◌^◌, ◌++◌, [], ◌∷◌, List, length, drop, All}
 use Rattle.pb_rules.specs.Literal.{Literal}
-use Rattle.pb_rules.specs.Linear.{Linear, HasNoModel, assignment}
+use Rattle.pb_rules.specs.Linear.{Linear, HasNoModel, bits_of}
 use Rattle.pb_rules.specs.Order.{IsFirstModel, ShowsFirst}
 use Rattle.pb_rules.specs.Clauses.{contradiction}
 use Rattle.pb_rules.specs.Frames.{Line, Frame, Given, given_by, derived_from, derived_by, is_derived}
@@ -14,7 +14,7 @@ use Rattle.ordered_solver.specs.declared.answer.Answer.TheVariants.{Model, Nothi
 -- the values of a model, one for each variable, that is before every other model in the order
 pub record IsFirst (given : List Linear) (order : List Literal) (values : List Bool) : Type 0 where
   pub one_each : length values ≡ length order
-  pub first : IsFirstModel given order (assignment values)
+  pub first : IsFirstModel given order (bits_of values)
 
 -- a model, the first in the order; or there is none; or nothing is said
 abbrev pub AnswerSays : List Linear → List Literal → Answer → Type 0
@@ -53,7 +53,7 @@ pub record IsRefutation (f : Frame) (before : Given) (base : List Linear) (ls : 
 -- honest lines, after which the log shows that the model is the first one
 pub record ShowsModel (f : Frame) (before : Given) (base : List Linear) (order : List Literal) (values : List Bool) (ls whole : List Line) : Type 0 where
   pub honest : AreHonestSteps f before base ls
-  pub shows : ShowsFirst (base ++ derived_by f whole) order (assignment values)
+  pub shows : ShowsFirst (base ++ derived_by f whole) order (bits_of values)
 
 -- what an answer says of the new lines, and of those of the whole log
 abbrev pub LinesSay : Frame → Given → List Linear → List Literal → List Line → List Line → Answer → Type 0

@@ -6,7 +6,7 @@ use Rattle.pb_rules.specs.Linear.{Linear, IsModel}
 use Rattle.pb_rules.specs.Partial.{Forces}
 use Rattle.pb_rules.specs.Clauses.{contradiction}
 use Rattle.pb_rules.specs.Honest.{IsPropagated}
-use Rattle.pb_rules.specs.Frames.{Line, Frame, IsFrame, FitsFrom, Given, given_by, given_from, derived_from, is_derived}
+use Rattle.pb_rules.specs.Frames.{Line, Frame, IsFrame, FitsFrom, Given, context_of, given_by, given_from, derived_from, is_derived}
 use Rattle.proof_log.specs.Log.{LogValue, next_id}
 use Rattle.proof_log.specs.HonestLog.{AreHonestLines}
 use Rattle.constraint_store.specs.Live.{Live, is_live}
@@ -45,7 +45,7 @@ pub record Refutes (live : List Live) (log log_after : LogValue) : Type 0 where
 pub record IsShown (f : Frame) (before : Given) (start live learned : List Live) (lines : List Line) : Type 0 where
   pub after : Given
   pub legal : given_from f before lines ≡ Some after
-  pub under : HasUnder after.constraints live
+  pub under : HasUnder (context_of after) live
   pub honest : AreHonestLines f before (constraints_in start) lines
   pub gives : derived_from f before lines ≡ constraints_in learned
 
@@ -57,7 +57,7 @@ pub record HasLearned (start live : List Live) (ids : List ConId) (old new : Log
   pub derived_each : All (λ l. is_derived l ≡ true) lines
   pub counted : length lines ≡ n
   pub follow : (v : ℕ → Bool) → IsModel (constraints_in start) v → IsModel (constraints_in live) v
-  pub shown : (f : Frame) (g : Given) → IsFrame f → FitsFrom f old.first → given_by f old.lines ≡ Some g → HasUnder g.constraints start → IsShown f g start live added.more lines
+  pub shown : (f : Frame) (g : Given) → IsFrame f → FitsFrom f old.first → given_by f old.lines ≡ Some g → HasUnder (context_of g) start → IsShown f g start live added.more lines
 
 -- there were no more conflicts than the trail's word says
 abbrev pub IsCounted : ℕ → List Entry → ℕ → Type 0
@@ -74,4 +74,4 @@ pub record IsFound (start : List Live) (old new : LogValue) (order : List Litera
   pub says : AnswerSays (constraints_in start) order answer
   pub log : GoesOnDerived old new
   pub count : CountSays variables budget (length (new_lines old new)) answer
-  pub shown : (f : Frame) (g : Given) → IsFrame f → FitsFrom f old.first → given_by f old.lines ≡ Some g → HasUnder g.constraints start → IsAnswered f g (constraints_in start) old new order answer
+  pub shown : (f : Frame) (g : Given) → IsFrame f → FitsFrom f old.first → given_by f old.lines ≡ Some g → HasUnder (context_of g) start → IsAnswered f g (constraints_in start) old new order answer

@@ -1,7 +1,8 @@
 -- What a solver is seen as, and the frames that agree with it.
 use Rattle.std.specs.Prelude.{ℕ, Bool, true, false, Some, ◌≡◌, ◌+◌, ◌<◌, ◌==◌, ◌&&◌, List, [], ◌∷◌, map, All, if◌then◌else◌}
 use Rattle.pb_rules.specs.Linear.{Linear}
-use Rattle.pb_rules.specs.Frames.{Line, Frame, IsFrame, FitsFrom, Given, given_by, StandsUnder, is_derived, ids_of}
+use Rattle.pb_rules.specs.Operations.{Context}
+use Rattle.pb_rules.specs.Frames.{Line, Frame, IsFrame, FitsFrom, Given, context_of, given_by, StandsUnder, is_derived, ids_of}
 use Rattle.constraint_store.specs.Live.{Content}
 use Rattle.proof_log.specs.Log.{LogValue, next_id}
 
@@ -37,8 +38,8 @@ abbrev pub HasGivenId : LogValue → Content → Type 0
 HasGivenId log c = IsGivenId log c.proof_id
 
 -- a constraint stands under its id
-abbrev pub StandsIn : List Linear → Content → Type 0
-StandsIn cs c = StandsUnder cs c.proof_id c.constraint
+abbrev pub StandsIn : Context → Content → Type 0
+StandsIn context c = StandsUnder context c.proof_id c.constraint
 
 -- a frame agrees with a solver: it fits the log, whose lines are legal in it, and each given constraint stands under its id
 pub record Agrees (f : Frame) (s : SolverValue) : Type 0 where
@@ -46,4 +47,4 @@ pub record Agrees (f : Frame) (s : SolverValue) : Type 0 where
   pub fits : FitsFrom f s.log.first
   pub given : Given
   pub legal : given_by f s.log.lines ≡ Some given
-  pub stand : All (StandsIn given.constraints) s.given
+  pub stand : All (StandsIn (context_of given)) s.given

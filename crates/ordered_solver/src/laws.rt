@@ -5,7 +5,7 @@ ghost use Rattle.std.specs.Prelude.{ℕ, Bool, List, Some, true, false, ◌≡�
 ghost use Rattle.std.specs.List.{list_all};
 ghost use Rattle.pb_rules.specs.Linear.{Linear};
 ghost use Rattle.pb_rules.specs.Operations.{small_number};
-ghost use Rattle.pb_rules.specs.Frames.{Frame, IsFrame, cover};
+ghost use Rattle.pb_rules.specs.Frames.{Frame, IsFrame, context_of, cover};
 ghost use Rattle.constraint_store.specs.Live.{Content};
 ghost use Rattle.ordered_solver.specs.Marks.{word};
 ghost use Rattle.ordered_solver.specs.Solver.{SolverValue, Agrees, StandsIn, numbered};
@@ -22,6 +22,6 @@ pub fn law_of_words()
 pub fn law_of_agreement()
     ensures new { (f : Frame) (variables : ℕ) (spent : Bool) → IsFrame f → length f.base + 1 < 2 ^ 62 → Agrees f (record { variables = variables; given = numbered 1 f.base; log = record { first = length f.base + 1; lines = [] }; spent = spent }) }
     ensures variables { (f : Frame) (s : SolverValue) (variables : ℕ) → Agrees f s → Agrees f (record s { variables = variables }) }
-    ensures constraint { (f : Frame) (s : SolverValue) (c : Content) (a : Agrees f s) → StandsIn a.given.constraints c → Agrees f (record s { given = s.given ++ c ∷ [] }) }
+    ensures constraint { (f : Frame) (s : SolverValue) (c : Content) (a : Agrees f s) → StandsIn (context_of a.given) c → Agrees f (record s { given = s.given ++ c ∷ [] }) }
     ensures cover { (f : Frame) (s : SolverValue) (v : List ℕ) → Agrees f s → list_all small_number v ≡ true → Agrees f (record s { log = record s.log { lines = s.log.lines ++ cover v ∷ [] } }) }
 {}

@@ -8,9 +8,10 @@
 #![tactic(auto)]
 
 ghost use Rattle.std.specs.Prelude.{◌≡◌, ◌↔◌, IsTrue, length, IfOk};
-ghost use Rattle.pb_rules.specs.Linear.{Linear, Holds, assignment, VarsBelow, IsNormal};
+ghost use Rattle.pb_rules.specs.Linear.{Linear, Holds, bits_of, VarsBelow, IsNormal};
 
 mod groups;
+pub mod laws;
 mod normal;
 mod parts;
 mod set;
@@ -83,7 +84,7 @@ impl Constraint {
 /// Whether a constraint holds under an assignment, which has the value of each of its variables.
 pub fn holds_under(c: &Constraint, values: &[bool]) -> bool
     requires { VarsBelow (length values.now) c.now.terms }
-    ensures { IsTrue result ↔ Holds (assignment values.now) c.now }
+    ensures { IsTrue result ↔ Holds (bits_of values.now) c.now }
 {
     let terms = c.terms();
     let mut sum = 0u64;

@@ -1,27 +1,28 @@
-use Rattle.std.proofs.Common.{◌≡◌, ℕ, ◌+◌, ◌-◌, Bool, true, false, cond, Option, Some, None, List, [], ◌∷◌, ◌++◌, length, refl, sym, ap, ◌∙◌, subst, arith, zero, suc}
-use Rattle.std.specs.Prelude.{option_and_then, option_map, slice_get}
+use Rattle.std.proofs.Common.{◌≡◌, ℕ, ◌+◌, ◌<◌, ◌^◌, Bool, true, false, cond, Option, Some, None, List, [], ◌∷◌, ◌++◌, length, refl, sym, ap, ◌∙◌, subst, arith, zero, suc}
+use Rattle.std.specs.Prelude.{All, Result, Ok, Err, option_and_then, option_map, slice_get}
+use Rattle.std.specs.Result.{result_ok}
 use Rattle.std.specs.List.{list_all}
 use Rattle.std.proofs.lemmas.List.{append_assoc, append-nil, length-append}
-use Rattle.std.proofs.lemmas.List.Elements.{All-append, All-cons, All-nil}
+use Rattle.std.proofs.lemmas.List.Elements.{All-append, All-cons, All-head, All-tail, All-nil}
 use Rattle.std.proofs.lemmas.List.Sums.{sum_by-cons}
 use Rattle.pb_rules.specs.declared.Op.{Op}
 use Rattle.pb_rules.specs.Linear.{Linear, Holds, IsModel}
-use Rattle.pb_rules.specs.Operations.{line_gives, small_number}
-use Rattle.pb_rules.specs.Frames.{Line, derived, cover, Frame, IsFrame, Given, with_derived, with_block, given_with, given_from, ids_of, ids_in, blocks_from, onto_some, derived_from}
+use Rattle.pb_rules.specs.Operations.{Fault, KnowsLive, mentions, line_gives, small_number}
+use Rattle.pb_rules.specs.Frames.{Line, derived, cover, Frame, IsFrame, Given, under, any_mentions, context_of, StandsUnder, with_derived, with_block, given_with, given_from, ids_of, ids_in, blocks_from, onto_some, derived_from}
 use Rattle.pb_rules.proofs.Sound.{line-sound}
 use Rattle.pb_rules.proofs.Closed.{models-front, models-back}
 
 -- how a legal line goes on
 pub data Goes (f : Frame) (g h : Given) : Line → Type 0 where
-  by_ops : {ops : List Op} (c : Linear) → line_gives g.constraints ops ≡ Some c → h ≡ with_derived g c → Goes f g h (derived ops)
+  by_ops : {ops : List Op} (c : Linear) → line_gives (context_of g) ops ≡ Ok c → h ≡ with_derived g c → Goes f g h (derived ops)
   by_block : {v : List ℕ} → list_all small_number v ≡ true → h ≡ with_block f g v → Goes f g h (cover v)
 
 pub goes : (f : Frame) (g h : Given) (l : Line) → given_with f g l ≡ Some h → Goes f g h l
-goes f g h (derived ops) e = go (line_gives g.constraints ops) refl e
+goes f g h (derived ops) e = go (line_gives (context_of g) ops) refl e
   where
-    go : (o : Option Linear) → line_gives g.constraints ops ≡ o → option_map (with_derived g) o ≡ Some h → Goes f g h (derived ops)
-    go None q e = absurd (cc)
-    go (Some c) q e = by_ops c q (cc)
+    go : (r : Result Linear Fault) → line_gives (context_of g) ops ≡ r → option_map (with_derived g) (result_ok r) ≡ Some h → Goes f g h (derived ops)
+    go (Err why) q e = absurd (cc)
+    go (Ok c) q e = by_ops c q (cc)
 goes f g h (cover v) e = go (list_all small_number v) refl e
   where
     go : (o : Bool) → list_all small_number v ≡ o → cond o (Some (with_block f g v)) None ≡ Some h → Goes f g h (cover v)
@@ -52,8 +53,8 @@ given-front f g h (l ∷ ls) ms e =
     (r.0, ap (option_and_then (λ k. given_from f k ls)) s.1 ∙ r.1, r.2)
 
 -- one derived line more gives one constraint more
-pub given-push : (f : Frame) (g h : Given) (ls : List Line) (ops : List Op) (c : Linear) → given_from f g ls ≡ Some h → line_gives h.constraints ops ≡ Some c → given_from f g (ls ++ derived ops ∷ []) ≡ Some (with_derived h c)
-given-push f g h ls ops c e k = given-append f g h ls (derived ops ∷ []) e ∙ ap (λ o. option_and_then (λ k. given_from f k []) (option_map (with_derived h) o)) k
+pub given-push : (f : Frame) (g h : Given) (ls : List Line) (ops : List Op) (c : Linear) → given_from f g ls ≡ Some h → line_gives (context_of h) ops ≡ Ok c → given_from f g (ls ++ derived ops ∷ []) ≡ Some (with_derived h c)
+given-push f g h ls ops c e k = given-append f g h ls (derived ops ∷ []) e ∙ ap (λ (r : Result Linear Fault). option_and_then (λ k. given_from f k []) (option_map (with_derived h) (result_ok r))) k
 
 -- one cover more gives its block
 pub given-cover : (f : Frame) (g h : Given) (ls : List Line) (v : List ℕ) → given_from f g ls ≡ Some h → list_all small_number v ≡ true → given_from f g (ls ++ cover v ∷ []) ≡ Some (with_block f h v)
@@ -74,9 +75,9 @@ derived-append f g h (l ∷ ls) ms e =
         let P : Given → Type 0 = λ m. derived_from f m (ls ++ ms) ≡ derived_from f m ls ++ derived_from f h ms in
         subst P e ih
 
-pub derived-push : (f : Frame) (g h : Given) (ls : List Line) (ops : List Op) (c : Linear) → given_from f g ls ≡ Some h → line_gives h.constraints ops ≡ Some c → derived_from f g (ls ++ derived ops ∷ []) ≡ derived_from f g ls ++ c ∷ []
+pub derived-push : (f : Frame) (g h : Given) (ls : List Line) (ops : List Op) (c : Linear) → given_from f g ls ≡ Some h → line_gives (context_of h) ops ≡ Ok c → derived_from f g (ls ++ derived ops ∷ []) ≡ derived_from f g ls ++ c ∷ []
 derived-push f g h ls ops c e k =
-    derived-append f g h ls (derived ops ∷ []) e ∙ ap (λ o. derived_from f g ls ++ onto_some o (λ c. [])) k
+    derived-append f g h ls (derived ops ∷ []) e ∙ ap (λ (r : Result Linear Fault). derived_from f g ls ++ onto_some (result_ok r) (λ c. [])) k
 
 -- each line takes as many ids as it gives constraints
 pub given-ids : (f : Frame) (g h : Given) (ls : List Line) → IsFrame f → given_from f g ls ≡ Some h → length h.constraints ≡ length g.constraints + ids_in ls
@@ -110,20 +111,56 @@ slice-front [] ds i c h = absurd (cc)
 slice-front (d ∷ cs) ds zero c h = h
 slice-front (d ∷ cs) ds (suc i) c h = slice-front cs ds i c h
 
-pub given-stays : (f : Frame) (g h : Given) (ls : List Line) (i : ℕ) (c : Linear) → given_from f g ls ≡ Some h → slice_get g.constraints i ≡ Some c → slice_get h.constraints i ≡ Some c
-given-stays f g h ls i c e k =
-    let a = given-grows f g h ls e in
-    ap (λ cs. slice_get cs i) a.1 ∙ slice-front g.constraints a.0 i c k
+under-front : (cs ds : List Linear) (id : ℕ) (c : Linear) → under cs id ≡ Some c → under (cs ++ ds) id ≡ Some c
+under-front cs ds zero c h = absurd (cc)
+under-front cs ds (suc i) c h = slice-front cs ds i c h
 
-slice-last : (cs : List Linear) (c : Linear) → slice_get (cs ++ c ∷ []) (length cs) ≡ Some c
-slice-last [] c = refl
-slice-last (d ∷ cs) c = slice-last cs c
+-- what stands under an id stays there
+pub given-stays : (f : Frame) (g h : Given) (ls : List Line) (id : ℕ) (c : Linear) → given_from f g ls ≡ Some h → StandsUnder (context_of g) id c → StandsUnder (context_of h) id c
+given-stays f g h ls id c e k =
+    let a = given-grows f g h ls e in
+    record { small = k.small; there = ap (λ cs. under cs id) a.1 ∙ under-front g.constraints a.0 id c k.there }
+
+slice-at : (xs : List Linear) (c : Linear) (ys : List Linear) → slice_get (xs ++ c ∷ ys) (length xs) ≡ Some c
+slice-at [] c ys = refl
+slice-at (x ∷ xs) c ys = slice-at xs c ys
+
+-- the constraint behind others stands under the id that follows theirs
+pub under-at : (xs : List Linear) (c : Linear) (ys : List Linear) (id : ℕ) → id ≡ length xs + 1 → under (xs ++ c ∷ ys) id ≡ Some c
+under-at xs c ys id e =
+    let q : id ≡ suc (length xs) = omega arith in
+    ap (under (xs ++ c ∷ ys)) q ∙ slice-at xs c ys
 
 -- a derived line's constraint stands under the next id
-pub derived-stands : (g : Given) (c : Linear) (i : ℕ) → i ≡ length g.constraints + 1 → slice_get (with_derived g c).constraints (i - 1) ≡ Some c
-derived-stands g c i e =
-    let q : i - 1 ≡ length g.constraints = omega arith in
-    ap (λ n. slice_get (g.constraints ++ c ∷ []) n) q ∙ slice-last g.constraints c
+pub derived-stands : (g : Given) (c : Linear) (id : ℕ) → id < 2 ^ 63 → id ≡ length g.constraints + 1 → StandsUnder (context_of (with_derived g c)) id c
+derived-stands g c id small e = record { small = small; there = under-at g.constraints c [] id e }
+
+-- what stands in a list has what all of it have
+pub under-holds : (P : Linear → Type 0) (cs : List Linear) → All P cs → (id : ℕ) (c : Linear) → under cs id ≡ Some c → P c
+under-holds P cs all zero c e = absurd (cc)
+under-holds P cs all (suc i) c e = go cs i all e
+  where
+    go : (cs : List Linear) (i : ℕ) → All P cs → slice_get cs i ≡ Some c → P c
+    go [] i all e = absurd (cc)
+    go (d ∷ cs) zero all e = let q : d ≡ c = cc in subst P q (All-head P d cs all)
+    go (d ∷ cs) (suc i) all e = go cs i (All-tail P d cs all) e
+
+-- in the context of what lines gave, each variable of each live constraint is there
+pub given-knows : (g : Given) → KnowsLive (context_of g)
+given-knows g zero c e x m = absurd (cc)
+given-knows g (suc i) c e x m = go g.constraints i e
+  where
+    or_later : (b d : Bool) → d ≡ true → cond b true d ≡ true
+    or_later true d h = refl
+    or_later false d h = h
+
+    go : (cs : List Linear) (i : ℕ) → slice_get cs i ≡ Some c → any_mentions cs x ≡ true
+    go [] i e = absurd (cc)
+    go (d ∷ cs) zero e =
+        let q : d ≡ c = cc in
+        let m' : mentions x d.terms ≡ true = ap (λ (k : Linear). mentions x k.terms) q ∙ m in
+        rw m' refl
+    go (d ∷ cs) (suc i) e = or_later (mentions x d.terms) (any_mentions cs x) (go cs i e)
 
 -- a model of what is given and of the blocks to come is one of all that lines give
 pub given-sound : (v : ℕ → Bool) (f : Frame) (g h : Given) (ls : List Line) → given_from f g ls ≡ Some h → IsModel g.constraints v → IsModel (blocks_from f g.covers ls) v → IsModel h.constraints v
@@ -135,7 +172,7 @@ given-sound v f g h (l ∷ ls) e m b =
   where
     go : (l : Line) (k : Given) → Goes f g k l → IsModel (blocks_from f g.covers (l ∷ ls)) v → IsModel k.constraints v × IsModel (blocks_from f k.covers ls) v
     go (derived ops) k (by_ops c q e) b = (
-      subst (λ (k : Given). IsModel k.constraints v) (sym e) (All-append (Holds v) g.constraints (c ∷ []) m (All-cons (Holds v) c [] (line-sound v g.constraints ops c m q) (All-nil (Holds v)))),
+      subst (λ (k : Given). IsModel k.constraints v) (sym e) (All-append (Holds v) g.constraints (c ∷ []) m (All-cons (Holds v) c [] (line-sound v (context_of g) ops c (under-holds (Holds v) g.constraints m) q) (All-nil (Holds v)))),
       subst (λ (k : Given). IsModel (blocks_from f k.covers ls) v) (sym e) b,
     )
     go (cover w) k (by_block q e) b = (

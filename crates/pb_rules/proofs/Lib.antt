@@ -1,12 +1,13 @@
 pub mod Weights
 pub mod Sums
-pub mod Rows
-pub mod Making
+pub mod Rising
+pub mod Carried
 pub mod Merges
-pub mod Exec
 pub mod Assignments
 pub mod Rooms
 pub mod Closed
 pub mod Sound
 pub mod Given
 pub mod Normal
+pub mod Known
+pub mod Worked

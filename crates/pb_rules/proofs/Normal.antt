@@ -9,13 +9,12 @@ use Rattle.pb_rules.specs.declared.Term.{Term}
 use Rattle.pb_rules.specs.Literal.{Literal}
 use Rattle.pb_rules.specs.Linear.{Linear, IsNormal, total}
 use Rattle.pb_rules.specs.CuttingPlanes.{Sum, same_sign, onto, joined, merge, axiom_of, add, times, multiplied, divide, divided, up, saturate, cut, weaken, without_var, coef_of}
-use Rattle.pb_rules.specs.Operations.{excess}
-use Rattle.pb_rules.specs.Frames.{Line, derived, cover, Frame, IsFrame, Given, given_from}
-use Rattle.pb_rules.proofs.Rows.{From, From-weaker, from-pairs}
-use Rattle.pb_rules.proofs.Making.{rising-from}
+use Rattle.pb_rules.specs.Operations.{Context, excess}
+use Rattle.pb_rules.specs.Frames.{Line, derived, cover, Frame, IsFrame, Given, context_of, given_from}
+use Rattle.pb_rules.proofs.Rising.{From, From-weaker, from-pairs, rising-from}
 use Rattle.pb_rules.proofs.Merges.{total-cons}
 use Rattle.pb_rules.proofs.Sound.{IsKept, line-keeps, up-times, up-least}
-use Rattle.pb_rules.proofs.Given.{Goes, by_ops, by_block, goes, first-line}
+use Rattle.pb_rules.proofs.Given.{Goes, by_ops, by_block, goes, first-line, under-holds}
 
 -- a term before the first of a list
 abbrev Before : Term → List Term → Type 0
@@ -146,12 +145,18 @@ axiom-normal l =
     let P : Term → Type 0 = λ (x : Term). 0 < x.coef in
     normal-from (axiom_of l).terms 0 (omega arith, tt) (All-cons P (record { coef = 1; lit = l }) [] (omega arith) (All-nil P)) (omega arith) (omega arith)
 
+-- the terms of a sum rise, and are positive
+pub add-rising : (a b : Linear) → IsNormal a.terms a.degree → IsNormal b.terms b.degree → From 0 (add a b).terms
+add-rising a b p q = merged-rising a.terms b.terms (merge a.terms b.terms) (merged a.terms b.terms) 0 (from-normal a.terms a.degree p) (from-normal b.terms b.degree q)
+
+pub add-positive : (a b : Linear) → IsNormal a.terms a.degree → IsNormal b.terms b.degree → All (λ (t : Term). 0 < t.coef) (add a b).terms
+add-positive a b p q = merged-positive a.terms b.terms (merge a.terms b.terms) (merged a.terms b.terms) p.positive q.positive
+
 -- a sum in bounds is in normal form
 pub add-normal : (a b : Linear) → IsNormal a.terms a.degree → IsNormal b.terms b.degree → excess (add a b) ≡ None → IsNormal (add a b).terms (add a b).degree
 add-normal a b p q h =
     let w = within (add a b) h in
-    let m = merged a.terms b.terms in
-    normal-from (add a b).terms (add a b).degree (merged-rising a.terms b.terms (merge a.terms b.terms) m 0 (from-normal a.terms a.degree p) (from-normal b.terms b.degree q)) (merged-positive a.terms b.terms (merge a.terms b.terms) m p.positive q.positive) w.0 w.1
+    normal-from (add a b).terms (add a b).degree (add-rising a b p q) (add-positive a b p q) w.0 w.1
 
 -- terms made one by one of others, with their literals
 module _ (g : Term → Term) (same : (t : Term) → (g t).lit ≡ t.lit) where
@@ -276,9 +281,10 @@ pub weaken-normal : (x : ℕ) (a : Linear) → IsNormal a.terms a.degree → IsN
 weaken-normal x a n = normal-shrunk a.terms (without_var x a.terms) a.degree (a.degree - coef_of x a.terms) (without-shrinks x a.terms n.positive) (omega arith) n
 
 -- the rules keep normal form
-pub normal-kept : IsKept (λ c. IsNormal c.terms c.degree)
-normal-kept = record {
-  axioms = axiom-normal;
+normal-kept : (context : Context) → ((id : ℕ) (c : Linear) → context.live id ≡ Some c → IsNormal c.terms c.degree) → IsKept context (λ c. IsNormal c.terms c.degree)
+normal-kept context live = record {
+  standing = live;
+  axioms = λ l known. axiom-normal l;
   sums = add-normal;
   multiples = times-normal;
   quotients = divide-normal;
@@ -297,7 +303,7 @@ given-normal f g h (l ∷ ls) frame e n =
     given-normal f s.0 h ls frame s.2 (go l s.0 (goes f g s.0 l s.1))
   where
     go : (l : Line) (k : Given) → Goes f g k l → All Normal k.constraints
-    go (derived ops) k (by_ops c q e) = subst (λ (k : Given). All Normal k.constraints) (sym e) (All-append Normal g.constraints (c ∷ []) n (All-cons Normal c [] (line-keeps Normal normal-kept g.constraints n ops c q) (All-nil Normal)))
+    go (derived ops) k (by_ops c q e) = subst (λ (k : Given). All Normal k.constraints) (sym e) (All-append Normal g.constraints (c ∷ []) n (All-cons Normal c [] (line-keeps (context_of g) Normal (normal-kept (context_of g) (under-holds Normal g.constraints n)) ops c q) (All-nil Normal)))
     go (cover w) k (by_block q e) = subst (λ (k : Given). All Normal k.constraints) (sym e) (All-append Normal g.constraints (f.block (g.covers + 1) w) n (frame.block_normal (g.covers + 1) w))
 
 -- which number is too large

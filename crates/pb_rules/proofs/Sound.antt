@@ -1,6 +1,6 @@
-use Rattle.std.proofs.Common.{◌≡◌, ℕ, ◌+◌, ◌-◌, ◌*◌, ◌<◌, ◌≤◌, Bool, true, false, cond, eqb, ltb, Option, Some, None, List, [], ◌∷◌, refl, sym, ap, subst, arith, inl, inr, zero, suc, map, min}
-use Rattle.std.specs.Prelude.{All, option_and_then, slice_get}
-use Rattle.std.proofs.lemmas.Bool.{cases_eq, cases_lt}
+use Rattle.std.proofs.Common.{◌≡◌, ℕ, ◌+◌, ◌*◌, ◌<◌, ◌≤◌, Bool, true, false, cond, eqb, ltb, Some, None, List, [], ◌∷◌, refl, sym, ap, subst, arith, inl, inr, map, min}
+use Rattle.std.specs.Prelude.{All, Ok}
+use Rattle.std.proofs.lemmas.Bool.{cases_lt}
 use Rattle.std.proofs.lemmas.Bool.Decides.{nat_tests}
 use Rattle.std.proofs.lemmas.List.Elements.{All-cons, All-head, All-tail, All-nil}
 use Rattle.std.proofs.lemmas.Grind.{div_ceil_times}
@@ -10,10 +10,11 @@ use Rattle.pb_rules.specs.declared.Term.{Term}
 use Rattle.pb_rules.specs.declared.Op.{Op}
 use Rattle.pb_rules.specs.declared.Op.TheVariants.{Id, Axiom, Add, Times, Divide, Saturate, Weaken}
 use Rattle.pb_rules.specs.Literal.{Literal, lit_true}
-use Rattle.pb_rules.specs.Linear.{Linear, Holds, IsModel, true_weight}
+use Rattle.pb_rules.specs.Linear.{Linear, Holds, true_weight}
 use Rattle.pb_rules.specs.CuttingPlanes.{axiom_of, add, times, multiplied, divide, divided, up, saturate, cut, weaken, without_var, coef_of}
-use Rattle.pb_rules.specs.Operations.{excess, unless_too_large, fits, push_some, small_number, may_name, apply, apply_all, only_one, line_gives}
+use Rattle.pb_rules.specs.Operations.{Context, excess, apply_all, line_gives}
 use Rattle.pb_rules.proofs.Sums.{true_weight-cons, add-holds}
+use Rattle.pb_rules.proofs.Carried.{Carried, by_id, by_axiom, by_sum, by_factor, by_divisor, by_cut, by_weakening, carried, first_op, line_stack}
 
 pub axiom-holds : (v : ℕ → Bool) (l : Literal) → Holds v (axiom_of l)
 axiom-holds v l = omega arith
@@ -132,90 +133,54 @@ without-weight v x (t ∷ ts) = go (eqb t.lit.var x) refl (without-weight v x ts
 pub weaken-holds : (v : ℕ → Bool) (x : ℕ) (c : Linear) → Holds v c → Holds v (weaken x c)
 weaken-holds v x c h = let w = without-weight v x c.terms in omega arith
 
--- what is found in a list has what all of the list have
-pub get-holds : (P : Linear → Type 0) (cs : List Linear) (i : ℕ) (c : Linear) → All P cs → slice_get cs i ≡ Some c → P c
-get-holds P [] i c all e = absurd (cc)
-get-holds P (d ∷ cs) zero c all e = let q : d ≡ c = cc in subst P q (All-head P d cs all)
-get-holds P (d ∷ cs) (suc i) c all e = get-holds P cs i c (All-tail P d cs all) e
-
--- what the operations keep: it holds of axioms and of what each rule makes
-pub record IsKept (P : Linear → Type 0) : Type 0 where
-  pub axioms : (l : Literal) → P (axiom_of l)
+-- what the operations keep in a context: it holds of what is live, and of what each rule makes
+pub record IsKept (context : Context) (P : Linear → Type 0) : Type 0 where
+  pub standing : (id : ℕ) (c : Linear) → context.live id ≡ Some c → P c
+  pub axioms : (l : Literal) → context.knows l.var ≡ true → P (axiom_of l)
   pub sums : (a b : Linear) → P a → P b → excess (add a b) ≡ None → P (add a b)
   pub multiples : (n : ℕ) (a : Linear) → 0 < n → P a → excess (times n a) ≡ None → P (times n a)
   pub quotients : (n : ℕ) (a : Linear) → 0 < n → P a → P (divide n a)
   pub cuts : (a : Linear) → P a → P (saturate a)
   pub weaker : (x : ℕ) (a : Linear) → P a → P (weaken x a)
 
-module _ (P : Linear → Type 0) (k : IsKept P) (cs : List Linear) (given : All P cs) where
-  pushed : (o : Option Linear) (st st' : List Linear) → ((a : Linear) → o ≡ Some a → P a) → All P st → push_some o st ≡ Some st' → All P st'
-  pushed None st st' h all e = absurd (cc)
-  pushed (Some a) st st' h all e = let q : a ∷ st ≡ st' = cc in subst (All P) q (All-cons P a st (h a refl) all)
-
-  fitted : (a b : Linear) → (excess a ≡ None → P a) → fits a ≡ Some b → P b
-  fitted a b h e = go (excess a) refl e
-    where
-      go : (o : Option ℕ) → excess a ≡ o → unless_too_large o a ≡ Some b → P b
-      go None q f = let s : a ≡ b = cc in subst P s (h q)
-      go (Some n) q f = absurd (cc)
-
-  put : (a : Linear) (st st' : List Linear) → P a → All P st → Some (a ∷ st) ≡ Some st' → All P st'
-  put a st st' p all e = pushed (Some a) st st' (λ b q. (let s : a ≡ b = cc in subst P s p)) all e
-
-  either_way : (o : Bool) (r : Option (List Linear)) (st' : List Linear) → (r ≡ Some st' → All P st') → cond o r None ≡ Some st' → All P st'
-  either_way true r st' h e = h e
-  either_way false r st' h e = absurd (cc)
-
-  unless_zero : (n : ℕ) (r : Option (List Linear)) (st' : List Linear) → (0 < n → r ≡ Some st' → All P st') → cond (eqb n 0) None r ≡ Some st' → All P st'
-  unless_zero n r st' h e = elim (cases_eq n 0) [
-    | inl z ↦ absurd (let t : eqb n 0 ≡ true = grind (arith, nat_tests) in let f = rw t at e in cc)
-    | inr z ↦ (let t : eqb n 0 ≡ false = grind (arith, nat_tests) in h (omega arith) (rw t at e))
-  ]
+module _ (context : Context) (P : Linear → Type 0) (k : IsKept context P) where
+  put : (a : Linear) (st after : List Linear) → P a → All P st → after ≡ a ∷ st → All P after
+  put a st after p all e = subst (All P) (sym e) (All-cons P a st p all)
 
   -- one operation keeps it
-  pub apply-keeps : (o : Op) (st st' : List Linear) → All P st → apply cs o st ≡ Some st' → All P st'
-  apply-keeps (Id i) st st' all e = unless_zero i (cond (small_number i) (push_some (slice_get cs (i - 1)) st) None) st' (λ z f. either_way (small_number i) (push_some (slice_get cs (i - 1)) st) st' (λ g. pushed (slice_get cs (i - 1)) st st' (λ a q. get-holds P cs (i - 1) a given q) all g) f) e
-  apply-keeps (Axiom l) st st' all e = either_way (may_name cs l.var) (Some (axiom_of l ∷ st)) st' (λ f. put (axiom_of l) st st' (k.axioms l) all f) e
-  apply-keeps Add [] st' all e = absurd (cc)
-  apply-keeps Add (a ∷ []) st' all e = absurd (cc)
-  apply-keeps Add (b ∷ a ∷ st) st' all e =
+  apply-keeps : (o : Op) (st after : List Linear) → All P st → Carried context after o st → All P after
+  apply-keeps (Id i) st after all (by_id c small there is) = put c st after (k.standing i c there) all is
+  apply-keeps (Axiom l) st after all (by_axiom small known is) = put (axiom_of l) st after (k.axioms l known) all is
+  apply-keeps Add [] after all h = elim h [ ]
+  apply-keeps Add (b ∷ []) after all h = elim h [ ]
+  apply-keeps Add (b ∷ a ∷ st) after all (by_sum small is) =
       let rest = All-tail P b (a ∷ st) all in
-      pushed (fits (add a b)) st st' (λ c q. fitted (add a b) c (λ x. k.sums a b (All-head P a st rest) (All-head P b (a ∷ st) all) x) q) (All-tail P a st rest) e
-  apply-keeps (Times n) [] st' all e = absurd (cc)
-  apply-keeps (Times n) (a ∷ st) st' all e = unless_zero n (cond (small_number n) (push_some (fits (times n a)) st) None) st' (λ z f. either_way (small_number n) (push_some (fits (times n a)) st) st' (λ g. pushed (fits (times n a)) st st' (λ c q. fitted (times n a) c (λ x. k.multiples n a z (All-head P a st all) x) q) (All-tail P a st all) g) f) e
-  apply-keeps (Divide n) [] st' all e = absurd (cc)
-  apply-keeps (Divide n) (a ∷ st) st' all e = unless_zero n (cond (small_number n) (Some (divide n a ∷ st)) None) st' (λ z f. either_way (small_number n) (Some (divide n a ∷ st)) st' (λ g. put (divide n a) st st' (k.quotients n a z (All-head P a st all)) (All-tail P a st all) g) f) e
-  apply-keeps Saturate [] st' all e = absurd (cc)
-  apply-keeps Saturate (a ∷ st) st' all e = put (saturate a) st st' (k.cuts a (All-head P a st all)) (All-tail P a st all) e
-  apply-keeps (Weaken x) [] st' all e = absurd (cc)
-  apply-keeps (Weaken x) (a ∷ st) st' all e = either_way (may_name cs x) (Some (weaken x a ∷ st)) st' (λ f. put (weaken x a) st st' (k.weaker x a (All-head P a st all)) (All-tail P a st all) f) e
+      put (add a b) st after (k.sums a b (All-head P a st rest) (All-head P b (a ∷ st) all) small) (All-tail P a st rest) is
+  apply-keeps (Times n) [] after all h = elim h [ ]
+  apply-keeps (Times n) (a ∷ st) after all (by_factor positive small fits is) = put (times n a) st after (k.multiples n a positive (All-head P a st all) fits) (All-tail P a st all) is
+  apply-keeps (Divide n) [] after all h = elim h [ ]
+  apply-keeps (Divide n) (a ∷ st) after all (by_divisor positive small is) = put (divide n a) st after (k.quotients n a positive (All-head P a st all)) (All-tail P a st all) is
+  apply-keeps Saturate [] after all h = elim h [ ]
+  apply-keeps Saturate (a ∷ st) after all (by_cut is) = put (saturate a) st after (k.cuts a (All-head P a st all)) (All-tail P a st all) is
+  apply-keeps (Weaken x) [] after all h = elim h [ ]
+  apply-keeps (Weaken x) (a ∷ st) after all (by_weakening small known is) = put (weaken x a) st after (k.weaker x a (All-head P a st all)) (All-tail P a st all) is
 
   -- operations one after another keep it
-  pub apply_all-keeps : (os : List Op) (st st' : List Linear) → All P st → apply_all cs os st ≡ Some st' → All P st'
-  apply_all-keeps [] st st' all e = let q : st ≡ st' = cc in subst (All P) q all
-  apply_all-keeps (o ∷ os) st st' all e = go (apply cs o st) refl e (λ mid q f. apply_all-keeps os mid st' (apply-keeps o st mid all q) f)
-    where
-      go : (r : Option (List Linear)) → apply cs o st ≡ r → option_and_then (apply_all cs os) r ≡ Some st' → ((mid : List Linear) → apply cs o st ≡ Some mid → apply_all cs os mid ≡ Some st' → All P st') → All P st'
-      go None q f h = absurd (cc)
-      go (Some mid) q f h = h mid q f
+  apply_all-keeps : (os : List Op) (st after : List Linear) → All P st → apply_all context os st ≡ Ok after → All P after
+  apply_all-keeps [] st after all e = let q : st ≡ after = cc in subst (All P) q all
+  apply_all-keeps (o ∷ os) st after all e =
+      let s = first_op context o os st after e in
+      apply_all-keeps os s.0 after (apply-keeps o st s.0 all (carried context o st s.0 s.1)) s.2
 
   -- and so does a line
-  pub line-keeps : (os : List Op) (c : Linear) → line_gives cs os ≡ Some c → P c
-  line-keeps os c e = go (apply_all cs os []) refl e
-    where
-      only : (st : List Linear) → All P st → only_one st ≡ Some c → P c
-      only [] all f = absurd (cc)
-      only (a ∷ []) all f = let q : a ≡ c = cc in subst P q (All-head P a [] all)
-      only (a ∷ b ∷ st) all f = absurd (cc)
-
-      go : (r : Option (List Linear)) → apply_all cs os [] ≡ r → option_and_then only_one r ≡ Some c → P c
-      go None q f = absurd (cc)
-      go (Some st) q f = only st (apply_all-keeps os [] st (All-nil P) q) f
+  pub line-keeps : (os : List Op) (c : Linear) → line_gives context os ≡ Ok c → P c
+  line-keeps os c e = All-head P c [] (apply_all-keeps os [] (c ∷ []) (All-nil P) (line_stack context os c e))
 
 -- each rule keeps what holds under an assignment
-pub holds-kept : (v : ℕ → Bool) → IsKept (Holds v)
-holds-kept v = record {
-  axioms = axiom-holds v;
+holds-kept : (v : ℕ → Bool) (context : Context) → ((id : ℕ) (c : Linear) → context.live id ≡ Some c → Holds v c) → IsKept context (Holds v)
+holds-kept v context live = record {
+  standing = live;
+  axioms = λ l known. axiom-holds v l;
   sums = λ a b p q x. add-holds v a b p q;
   multiples = λ n a z p x. times-holds v n a p;
   quotients = λ n a z p. divide-holds v n a z p;
@@ -223,6 +188,6 @@ holds-kept v = record {
   weaker = λ x a p. weaken-holds v x a p;
 }
 
--- a line is sound: a model of the constraints before it satisfies what it gives
-pub line-sound : (v : ℕ → Bool) (cs : List Linear) (os : List Op) (c : Linear) → IsModel cs v → line_gives cs os ≡ Some c → Holds v c
-line-sound v cs os c m e = line-keeps (Holds v) (holds-kept v) cs m os c e
+-- a line is sound: an assignment under which all that is live holds satisfies what it gives
+pub line-sound : (v : ℕ → Bool) (context : Context) (os : List Op) (c : Linear) → ((id : ℕ) (c : Linear) → context.live id ≡ Some c → Holds v c) → line_gives context os ≡ Ok c → Holds v c
+line-sound v context os c live e = line-keeps context (Holds v) (holds-kept v context live) os c e

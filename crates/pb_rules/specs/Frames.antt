@@ -1,8 +1,9 @@
 -- The lines of a log over a frame: which constraint stands under which id.
-use Rattle.std.specs.Prelude.{ℕ, Bool, true, false, Option, Some, None, ◌≡◌, ◌+◌, ◌-◌, ◌<◌, ◌^◌, slice_get, List, [], ◌∷◌, ◌++◌, length, All, option_and_then, option_map, sum_by, count_by, if◌then◌else◌}
+use Rattle.std.specs.Prelude.{ℕ, zero, suc, Bool, true, false, Option, Some, None, ◌≡◌, ◌+◌, ◌<◌, ◌^◌, slice_get, List, [], ◌∷◌, ◌++◌, length, All, option_and_then, option_map, sum_by, count_by, if◌then◌else◌}
 use Rattle.std.specs.List.{list_all}
+use Rattle.std.specs.Result.{result_ok}
 use Rattle.pb_rules.specs.Linear.{Linear, IsNormal}
-use Rattle.pb_rules.specs.Operations.{line_gives, small_number}
+use Rattle.pb_rules.specs.Operations.{Context, mentions, line_gives, small_number}
 use Rattle.pb_rules.specs.declared.Op.{Op}
 
 -- a line: the operations of a derived one, or the vector of a cover
@@ -30,11 +31,24 @@ pub record Given : Type 0 where
   pub constraints : List Linear
   pub covers : ℕ
 
+-- the constraint under an id; ids count from 1
+abbrev pub under : List Linear → ℕ → Option Linear
+under cs zero = None
+under cs (suc i) = slice_get cs i
+
+-- a constraint of a list has the variable
+abbrev pub any_mentions : List Linear → ℕ → Bool
+any_mentions [] x = false
+any_mentions (c ∷ cs) x = if mentions x c.terms then true else any_mentions cs x
+
+-- what the next line is judged by: each constraint that was given is live, and a variable is there where one of them has it
+abbrev pub context_of : Given → Context
+context_of g = record { live = under g.constraints; knows = any_mentions g.constraints }
+
 -- a constraint stands under an id, which a line can name
-pub record StandsUnder (cs : List Linear) (id : ℕ) (c : Linear) : Type 0 where
-  pub from_one : 0 < id
+pub record StandsUnder (context : Context) (id : ℕ) (c : Linear) : Type 0 where
   pub small : id < 2 ^ 63
-  pub there : slice_get cs (id - 1) ≡ Some c
+  pub there : context.live id ≡ Some c
 
 -- before the first line
 abbrev pub base_of : Frame → Given
@@ -50,7 +64,7 @@ with_block f g v = record { constraints = g.constraints ++ f.block (g.covers + 1
 
 -- after one line more, where it is legal
 abbrev pub given_with : Frame → Given → Line → Option Given
-given_with f g (derived ops) = option_map (with_derived g) (line_gives g.constraints ops)
+given_with f g (derived ops) = option_map (with_derived g) (result_ok (line_gives (context_of g) ops))
 given_with f g (cover v) = if list_all small_number v then Some (with_block f g v) else None
 
 -- after lines one by one, where each is legal at its place
@@ -81,6 +95,15 @@ ids_of (cover v) = length v + 1
 abbrev pub ids_in : List Line → ℕ
 ids_in ls = sum_by ids_of ls
 
+-- a cover has so many numbers
+abbrev pub HasNumbers : ℕ → Line → Type 0
+HasNumbers n (derived ops) = Unit {0}
+HasNumbers n (cover v) = length v ≡ n
+
+-- each cover of lines has so many numbers
+abbrev pub CoversHave : ℕ → List Line → Type 0
+CoversHave n ls = All (HasNumbers n) ls
+
 -- whether a line is a derived one
 abbrev pub is_derived : Line → Bool
 is_derived (derived ops) = true
@@ -98,7 +121,7 @@ onto_some (Some c) f = c ∷ f c
 -- the constraints that the derived lines give, in order; the blocks of covers are left out
 abbrev pub derived_from : Frame → Given → List Line → List Linear
 derived_from f g [] = []
-derived_from f g (derived ops ∷ ls) = onto_some (line_gives g.constraints ops) (λ c. derived_from f (with_derived g c) ls)
+derived_from f g (derived ops ∷ ls) = onto_some (result_ok (line_gives (context_of g) ops)) (λ c. derived_from f (with_derived g c) ls)
 derived_from f g (cover v ∷ ls) = derived_from f (with_block f g v) ls
 
 -- the constraints that all derived lines of a log give, in order

@@ -4,7 +4,7 @@ pub mod Partial
 pub mod CuttingPlanes
 pub mod Clauses
 pub mod Operations
-pub mod Derivations
 pub mod Frames
 pub mod Honest
 pub mod Order
+pub mod Laws

@@ -1,7 +1,8 @@
 -- Pseudo-Boolean constraints and their models.
-use Rattle.std.specs.Prelude.{ℕ, Bool, ◌<◌, ◌≤◌, ◌^◌, false, List, All, Contains, sum_by, slice_index_or, length, if◌then◌else◌}
+use Rattle.std.specs.Prelude.{ℕ, Bool, ◌<◌, ◌≤◌, ◌^◌, List, All, Contains, sum_by, slice_index_or, length, if◌then◌else◌}
 use Rattle.pb_rules.specs.declared.Term.{Term}
 use Rattle.pb_rules.specs.Literal.{lit_true}
+pub use Rattle.plain_lists.specs.Bits.{bits_of}
 
 -- a constraint: the sum of the coefficients of its true literals is at least its degree
 pub record Linear : Type 0 where
@@ -30,10 +31,6 @@ HasNoModel cs = (v : ℕ → Bool) → IsModel cs v → ⊥
 -- each constraint of one list stands in another
 abbrev pub AreAmong : List Linear → List Linear → Type 0
 AreAmong cs ds = (c : Linear) → Contains cs c → Contains ds c
-
--- the assignment that a list of values gives, false past its end
-abbrev pub assignment : List Bool → ℕ → Bool
-assignment values x = slice_index_or values x false
 
 -- each variable is below n
 abbrev pub VarsBelow : ℕ → List Term → Type 0

@@ -1,29 +1,36 @@
 //! What the definitions imply, as functions that do nothing: the solver and the checker rest on these laws.
 //! Each is proved once, here, from the definitions alone.
 
-ghost use Rattle.std.specs.Prelude.{ℕ, Bool, List, Option, Some, None, ◌≡◌, ◌+◌, ◌++◌, ◌∷◌, [], length, All};
+ghost use Rattle.std.specs.Prelude.{ℕ, Bool, List, Option, Some, None, ◌≡◌};
 ghost use Rattle.pb_rules.specs.Literal.{Literal};
-ghost use Rattle.pb_rules.specs.Linear.{Linear, Holds, IsModel, AreAmong, IsNormal};
+ghost use Rattle.pb_rules.specs.Linear.{Linear, Holds, IsModel, AreAmong};
 ghost use Rattle.pb_rules.specs.Partial.{Forces, IsClosed, IsClosedFor, GoesOn, whole};
 ghost use Rattle.pb_rules.specs.Clauses.{IsClause, contradiction};
-ghost use Rattle.pb_rules.specs.Operations.{line_gives};
-ghost use Rattle.pb_rules.specs.Frames.{Line, derived, cover, Frame, IsFrame, Given, with_derived, given_by, ids_in, blocks_by, derived_by};
 ghost use Rattle.pb_rules.specs.Honest.{IsAbsorbed, IsUnabsorbed, IsPropagated};
-ghost use Rattle.pb_rules.specs.declared.Op.{Op};
+ghost use Rattle.pb_rules.specs.Laws.{LinesAreSound, LinesAreNormal, IdsAreCounted, LineGivesOne, LineDerivesOne, GivenKnowsLive, LinesAreKnown, LineKeepsVariables, VariablesAreOfCovers};
 
 /// Lines are sound: where the base and the blocks of the covers hold, all that legal lines give holds. Legal lines
 /// that follow a frame in normal form give constraints in normal form.
 pub fn law_of_lines()
-    ensures sound { (v : ℕ → Bool) (f : Frame) (g : Given) (ls : List Line) → given_by f ls ≡ Some g → IsModel (f.base ++ blocks_by f ls) v → IsModel g.constraints v }
-    ensures normal { (f : Frame) (g : Given) (ls : List Line) → IsFrame f → given_by f ls ≡ Some g → All (λ c. IsNormal c.terms c.degree) g.constraints }
+    ensures sound { LinesAreSound }
+    ensures normal { LinesAreNormal }
 {}
 
 /// Ids count on: after lines there are the base's constraints and one for each id that the lines take. One derived line
 /// more gives one constraint more, under the next id.
 pub fn law_of_ids()
-    ensures counted { (f : Frame) (g : Given) (ls : List Line) → IsFrame f → given_by f ls ≡ Some g → length g.constraints ≡ length f.base + ids_in ls }
-    ensures one_more { (f : Frame) (g : Given) (ls : List Line) (ops : List Op) (c : Linear) → given_by f ls ≡ Some g → line_gives g.constraints ops ≡ Some c → given_by f (ls ++ derived ops ∷ []) ≡ Some (with_derived g c) }
-    ensures one_derived { (f : Frame) (g : Given) (ls : List Line) (ops : List Op) (c : Linear) → given_by f ls ≡ Some g → line_gives g.constraints ops ≡ Some c → derived_by f (ls ++ derived ops ∷ []) ≡ derived_by f ls ++ c ∷ [] }
+    ensures counted { IdsAreCounted }
+    ensures one_more { LineGivesOne }
+    ensures one_derived { LineDerivesOne }
+{}
+
+/// A legal line gives a constraint whose variables were there before, so that the same variables are there after it. Only
+/// covers bring new ones: after legal lines exactly the variables of the base and of the blocks are there.
+pub fn law_of_variables()
+    ensures live { GivenKnowsLive }
+    ensures known { LinesAreKnown }
+    ensures kept { LineKeepsVariables }
+    ensures of_covers { VariablesAreOfCovers }
 {}
 
 /// Closed partial assignments: what a smaller assignment forces, a closed one takes; a model is a closed one; closed for

@@ -6,13 +6,13 @@
 //! more than it has numbers, under the ids that follow.
 #![tactic(auto)]
 
-ghost use Rattle.std.specs.Prelude.{ℕ, List, ◌≡◌, ◌<◌, ◌≤◌, ◌+◌, ◌^◌, ◌++◌, [], ◌∷◌, length, IfOk, OnOk, OnErr, Some};
+ghost use Rattle.std.specs.Prelude.{ℕ, List, ◌≡◌, ◌<◌, ◌≤◌, ◌+◌, ◌^◌, ◌++◌, [], ◌∷◌, length, IfOk, OnOk, OnErr, Ok, Some};
 ghost use Rattle.pb_rules.specs.declared.Op.{Op};
 ghost use Rattle.pb_rules.specs.Linear.{Linear, AreAmong};
 ghost use Rattle.pb_rules.specs.Clauses.{IsClause};
 ghost use Rattle.pb_rules.specs.Operations.{line_gives};
 ghost use Rattle.pb_rules.specs.Honest.{IsUnabsorbed};
-ghost use Rattle.pb_rules.specs.Frames.{Line, derived, cover, derived_count, Frame, IsFrame, FitsFrom, Given, given_from, given_by, derived_from};
+ghost use Rattle.pb_rules.specs.Frames.{Line, derived, cover, derived_count, Frame, IsFrame, FitsFrom, Given, context_of, given_from, given_by, derived_from};
 ghost use Rattle.proof_log.specs.Log.{LogValue, next_id};
 ghost use Rattle.proof_log.specs.HonestLog.{AreHonestLines};
 
@@ -59,7 +59,7 @@ pub fn law_of_next_id()
 /// not absorb, leaves lines honest; and what is honest over a list is honest over a part of it.
 pub fn law_of_honest()
     ensures none { (f : Frame) (g : Given) (base : List Linear) → AreHonestLines f g base [] }
-    ensures one_more { (f : Frame) (g h : Given) (base : List Linear) (ls : List Line) (ops : List Op) (c : Linear) → AreHonestLines f g base ls → given_from f g ls ≡ Some h → line_gives h.constraints ops ≡ Some c → IsClause c → IsUnabsorbed (base ++ derived_from f g ls) c → AreHonestLines f g base (ls ++ derived ops ∷ []) }
+    ensures one_more { (f : Frame) (g h : Given) (base : List Linear) (ls : List Line) (ops : List Op) (c : Linear) → AreHonestLines f g base ls → given_from f g ls ≡ Some h → line_gives (context_of h) ops ≡ Ok c → IsClause c → IsUnabsorbed (base ++ derived_from f g ls) c → AreHonestLines f g base (ls ++ derived ops ∷ []) }
     ensures part { (f : Frame) (g : Given) (cs ds : List Linear) (ls : List Line) → AreAmong cs ds → AreHonestLines f g ds ls → AreHonestLines f g cs ls }
 {}
 

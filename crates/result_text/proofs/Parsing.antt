@@ -13,7 +13,7 @@ use Rattle.line_words.proofs.Digits.{own}
 use Rattle.line_words.proofs.Plain.{plain_whole_of-decimal}
 use Rattle.line_words.proofs.Whys.{both}
 use Rattle.names.specs.Names.{IsName, is_name_byte, number_of}
-use Rattle.spec_model.specs.Spec.{SpecValue, Arc, Choice, Name, name_at, option_at, arc_at, arc_var, resource_var, link_var, design_variables}
+use Rattle.spec_model.specs.Spec.{SpecValue, Arc, Choice, Name, name_at, option_at, arc_at, arc_var, resource_var, link_var, design_variables, choice}
 use Rattle.spec_model.specs.WellFormed.{IsWellFormed, AreDistinct}
 use Rattle.result_text.specs.Spelling.{bind_words, use_words, alloc_words, wire_words, item_words, vector_words}
 use Rattle.result_text.specs.Stating.{arc_number, bind_tests, use_tests, name_tests, item_tests, item_variable, vector_tests, is_vector, vector_numbers, no_number, too_big, number_in}
@@ -48,7 +48,7 @@ name_in : (names : List Name) (i : ℕ) → All IsName names → i < length name
 name_in names i h lt = h i [] lt
 
 abbrev no_option : Choice
-no_option = record { task = 0; resource = 0; time = 0 }
+no_option = choice 0 0 0
 
 abbrev no_arc : Arc
 no_arc = record { link = 0; tail = 0; head = 0 }

@@ -1,4 +1,3 @@
 pub mod Rows
-pub mod Shapes
 pub mod Adding
 pub mod Writing

@@ -5,7 +5,7 @@ use Rattle.std.specs.List.{list_any, filter}
 use Rattle.std.proofs.lemmas.List.{take_more, take_all, map-append, get_or_past}
 use Rattle.std.proofs.lemmas.Bool.{cases_lt}
 use Rattle.std.proofs.lemmas.List.FromFn.{get_or-map-range_with_len, length-map-range_with_len}
-use Rattle.spec_model.specs.Spec.{SpecValue, Choice, below, those, message_at}
+use Rattle.spec_model.specs.Spec.{SpecValue, Choice, below, those, message_at, choice}
 use Rattle.spec_model.specs.WellFormed.{IsWellFormed}
 use Rattle.spec_model.proofs.InRange.{option_in, message_in}
 use Rattle.spec_graph.specs.declared.numbers.TaskNo.{TaskNo}
@@ -149,7 +149,7 @@ value_at g n o past =
 pub is_on_is : (s : SpecValue) (r o : ℕ) (keys : List ℕ) (b : Bool) → b ≡ has_key keys r o → keys ≡ map (resource_of s) (below (length s.options)) → b ≡ on_resource s r o
 unfolding on_resource
 is_on_is s r o keys b h e =
-    h ∙ (ap (λ (ks : List ℕ). has_key ks r o) e ∙ ap (λ (x : ℕ). nat_eq x r) (value_at (resource_of s) (length s.options) o (λ l. ap (λ (c : Choice). c.resource) (get_or_past s.options o (record { task = 0; resource = 0; time = 0 }) l))))
+    h ∙ (ap (λ (ks : List ℕ). has_key ks r o) e ∙ ap (λ (x : ℕ). nat_eq x r) (value_at (resource_of s) (length s.options) o (λ l. ap (λ (c : Choice). c.resource) (get_or_past s.options o (choice 0 0 0) l))))
 
 among_numbers : (ws : List TaskNo) (t : ℕ) → is_among ws t ≡ list_any (is_number t) (map task_number ws)
 among_numbers [] t = refl
@@ -169,13 +169,13 @@ receivers_are s m n ws v h e =
 pub is_for_is : (s : SpecValue) (m o task : ℕ) (keys : List ℕ) (flags : List Bool) (b : Bool) → IsWellFormed s → m < length s.messages → keys ≡ map (task_of s) (below (length s.options)) → flags ≡ map (is_receiver s m) (below (length s.tasks)) → task ≡ get_or keys o 0 → b ≡ get_or flags task false → b ≡ is_for s m o
 unfolding is_for is_receiver
 is_for_is s m o task keys flags b wf hm ek ef et eb =
-    let at : task ≡ task_of s o = et ∙ (ap (λ (ks : List ℕ). get_or ks o 0) ek ∙ value_at (task_of s) (length s.options) o (λ l. ap (λ (c : Choice). c.task) (get_or_past s.options o (record { task = 0; resource = 0; time = 0 }) l))) in
+    let at : task ≡ task_of s o = et ∙ (ap (λ (ks : List ℕ). get_or ks o 0) ek ∙ value_at (task_of s) (length s.options) o (λ l. ap (λ (c : Choice). c.task) (get_or_past s.options o (choice 0 0 0) l))) in
     eb ∙ (ap (λ (fs : List Bool). get_or fs task false) ef ∙ (ap (λ (t : ℕ). get_or (map (is_receiver s m) (below (length s.tasks))) t false) at ∙ get_or-map-range_with_len (is_receiver s m) 0 (length s.tasks) (task_of s o) (task_of s o) false (there (cases_lt o (length s.options))) (omega arith)))
   where
     there : ((o < length s.options) ⊎ (length s.options ≤ o)) → task_of s o < length s.tasks
     there (inl l) = (option_in s o wf l).task
     there (inr l) =
-        let zero_task : task_of s o ≡ 0 = ap (λ (c : Choice). c.task) (get_or_past s.options o (record { task = 0; resource = 0; time = 0 }) l) in
+        let zero_task : task_of s o ≡ 0 = ap (λ (c : Choice). c.task) (get_or_past s.options o (choice 0 0 0) l) in
         omega (arith, zero_task, (message_in s m wf hm).sender)
 
 pub ruleset test_steps = (is_on_is, receivers_are, is_for_is)

@@ -1,6 +1,6 @@
 -- Constraints that a set gains.
 use Rattle.std.specs.Prelude.{◌≡◌, ℕ, Bool, List, ◌++◌, length, sum_by, nat_le}
-use Rattle.pb_rules.specs.Literal.{Literal}
+use Rattle.pb_rules.specs.declared.Term.{Term}
 use Rattle.pb_rules.specs.Linear.{Linear}
 use Rattle.pb_constraints.specs.Sets.{SetValue}
 
@@ -13,6 +13,6 @@ pub record Adds (old new : SetValue) (more : List Linear) : Type 0 where
 abbrev pub terms_of : List Linear → ℕ
 terms_of cs = sum_by (λ c. length c.terms) cs
 
--- a literal stays before one that is put in
-abbrev pub goes_first : Literal → Literal → Bool
-goes_first l k = nat_le k.var l.var
+-- a term stays before one that is put in
+abbrev pub goes_first : Term → Term → Bool
+goes_first t u = nat_le u.lit.var t.lit.var

@@ -1,8 +1,8 @@
-//! Literals and constraints as the families write them.
+//! Terms and constraints as the families write them.
 
-ghost use Rattle.std.specs.Prelude.{◌≡◌, ◌<◌, ◌≤◌, ◌^◌, [], ◌∷◌, length, map, All, IfOk, OnOk};
+ghost use Rattle.std.specs.Prelude.{◌≡◌, ◌<◌, ◌≤◌, ◌^◌, [], ◌∷◌, length, All, IfOk, OnOk};
 ghost use Rattle.std.specs.List.{take_while};
-ghost use Rattle.encode_model.specs.Encoding.{positive, negative, positives, negatives, put, unit_term, at_least};
+ghost use Rattle.encode_model.specs.Encoding.{positive, negative, positives, negatives, put, at_least};
 ghost use Rattle.encode_model.specs.Rising.{IsRising};
 ghost use Rattle.route_encode.specs.Adding.{Adds, goes_first};
 
@@ -11,51 +11,59 @@ use pb_rules::{Lit, Term};
 use std::alloc::{AllocError, Global};
 use std::marker::Model;
 
-/// A literal before its variable is known to be in range.
+/// A term before its variable is known to be in range.
 #[derive(Clone, Copy, Debug, PartialEq, Eq)]
 pub struct Signed {
+    coef: u64,
     var: u64,
     yes: bool,
 }
 
 impl Model for Signed {
-    ghost use Rattle.pb_rules.specs.Literal.{Literal};
+    ghost use Rattle.pb_rules.specs.declared.Term.{Term};
 
-    ghost Value = { Literal };
+    ghost Value = { Term };
 
-    ghost view = { λ l. record { var = l.var; yes = l.yes } };
+    ghost view = { λ t. record { coef = t.coef; lit = record { var = t.var; yes = t.yes } } };
 
-    ghost inverse = { λ v. record { var = v.var; yes = v.yes } };
+    ghost inverse = { λ v. record { coef = v.coef; var = v.lit.var; yes = v.lit.yes } };
 }
 
 impl Signed {
-    /// The literal that is true where the variable is.
+    /// A coefficient with a variable or its opposite.
+    pub fn weighted(coef: u64, var: u64, yes: bool) -> Signed
+        ensures { result ≡ record { coef = coef; lit = record { var = var; yes = yes } } }
+    {
+        Signed { coef, var, yes }
+    }
+
+    /// The literal that is true where the variable is, with coefficient 1.
     pub fn positive(var: u64) -> Signed
         ensures { result ≡ positive var }
     {
-        Signed { var, yes: true }
+        Signed::weighted(1, var, true)
     }
 
-    /// The literal that is true where the variable is false.
+    /// The literal that is true where the variable is false, with coefficient 1.
     pub fn negative(var: u64) -> Signed
         ensures { result ≡ negative var }
     {
-        Signed { var, yes: false }
+        Signed::weighted(1, var, false)
     }
 
-    /// The literal with coefficient 1.
+    /// The term itself.
     fn term(&self) -> Term
-        requires { self.now.var < 2 ^ 62 }
-        ensures { result ≡ unit_term self.now }
+        requires { self.now.lit.var < 2 ^ 62 }
+        ensures { result ≡ self.now }
     {
         if self.yes {
             return Term {
-                coef: 1,
+                coef: self.coef,
                 lit: Lit::yes(self.var),
             };
         }
         Term {
-            coef: 1,
+            coef: self.coef,
             lit: Lit::no(self.var),
         }
     }
@@ -75,10 +83,10 @@ pub fn negatives(alloc: Global, vars: &[u64]) -> Result<Vec<Signed>, AllocError>
     vars.iter().map(|v| Signed::negative(*v)).collect(alloc)
 }
 
-/// The literals with coefficient 1.
+/// The terms themselves.
 fn terms(alloc: Global, literals: &[Signed]) -> Result<Vec<Term>, AllocError>
-    requires { All (λ l. l.var < 2 ^ 62) literals.now }
-    ensures { IfOk result (λ v. v.items ≡ map unit_term literals.now) }
+    requires { All (λ t. t.lit.var < 2 ^ 62) literals.now }
+    ensures { IfOk result (λ v. v.items ≡ literals.now) }
 {
     let mut terms = Vec::new(alloc);
     for l in literals {
@@ -87,8 +95,8 @@ fn terms(alloc: Global, literals: &[Signed]) -> Result<Vec<Term>, AllocError>
     Ok(terms)
 }
 
-/// Adds the constraint that at least `degree` of the literals are true. They stand by rising variable.
-#[tactic(auto, using(crate::proofs::Writing::literal_steps))]
+/// Adds the constraint that the coefficients of the true terms sum to at least `degree`. They stand by rising variable.
+#[tactic(auto, using(crate::proofs::Writing::term_steps))]
 pub fn add(alloc: Global, out: &mut Set, degree: u64, literals: &[Signed]) -> Result<(), AllocError>
     requires rising { IsRising out.old.variables literals.now }
     requires few { out.old.variables ≤ 2 ^ 20 }
@@ -112,14 +120,14 @@ pub fn add_two(alloc: Global, out: &mut Set, a: Signed, b: Signed) -> Result<(),
     add(alloc, out, 1, &literals)
 }
 
-/// How many literals stand before the first one of a greater variable.
+/// How many terms stand before the first one of a greater variable.
 fn place_of(literals: &[Signed], literal: Signed) -> usize
     ensures { result ≡ length (take_while (goes_first literal) literals.now) }
 {
     literals.iter().take_while(|k| k.var <= literal.var).count()
 }
 
-/// Puts a literal in front of the first one of a greater variable.
+/// Puts a term in front of the first one of a greater variable.
 #[tactic(auto, using(crate::proofs::Writing::put_steps))]
 pub fn put(literals: &mut Vec<Signed>, literal: Signed) -> Result<(), AllocError>
     ensures { OnOk result (literals.new.items ≡ put literal literals.old.items) }

@@ -3,7 +3,7 @@ use Rattle.std.proofs.Common.{◌≡◌, ◌≢◌, ℕ, ◌+◌, ◌<◌, ◌�
 use Rattle.std.proofs.lemmas.Bool.{cases_lt}
 use Rattle.std.proofs.lemmas.List.{get_or-take}
 use Rattle.pb_rules.specs.Literal.{Literal, lit_true}
-use Rattle.pb_rules.specs.Linear.{Linear, HasNoModel, assignment}
+use Rattle.pb_rules.specs.Linear.{Linear, HasNoModel}
 use Rattle.pb_rules.specs.Order.{ShowsFirst}
 use Rattle.spec_model.specs.Spec.{SpecValue, Bits, bits_of, design_variables, all_variables}
 use Rattle.spec_model.specs.WellFormed.{IsWellFormed}
@@ -19,7 +19,7 @@ use Rattle.sat_decoder.specs.Decoding.{IsFirstDesign, ShowsFirstDesign}
 use Rattle.sat_decoder.specs.Models.{IsPartOf}
 
 -- a model has the values of its design part
-part_reads : (s : SpecValue) (values design : List Bool) (v : ℕ) → IsPartOf s values design → v < design_variables s → assignment values v ≡ bits_of design v
+part_reads : (s : SpecValue) (values design : List Bool) (v : ℕ) → IsPartOf s values design → v < design_variables s → bits_of values v ≡ bits_of design v
 part_reads s values design v h l = sym (ap (λ (xs : List Bool). get_or xs v false) h.part ∙ get_or-take (design_variables s) values v false l)
 
 -- before, of designs that agree at each variable with a gene
@@ -37,15 +37,15 @@ pub first_valid : (s : SpecValue) (genes : List GeneValue) (order : List Literal
 first_valid s genes order values design wf few o first part = record {
   one_each = part.one_each;
   first = record {
-    valid = part.valid;
+    meets = part.valid;
     first = λ g valid.
         (let one = valid_are_models s g wf valid in
         let m : Bits = one.model in
-        let at : (v : ℕ) → v < length genes → assignment values v ≡ bits_of design v = λ v l. part_reads s values design v part (omega (arith, l, few)) in
+        let at : (v : ℕ) → v < length genes → bits_of values v ≡ bits_of design v = λ v l. part_reads s values design v part (omega (arith, l, few)) in
         let there : (v : ℕ) → v < length genes → m v ≡ g v = λ v l. one.only.same v (omega (arith, l, few)) in
-        elim (first_along genes (all_variables s) order (assignment values) m o (omega (arith, few, design_variables-le s)) (first.first.first m one.only.holds)) [
+        elim (first_along genes (all_variables s) order (bits_of values) m o (omega (arith, few, design_variables-le s)) (first.first.first m one.only.holds)) [
           | inl same ↦ inl (λ v l. (let k : v < length genes = omega (arith, l, few) in sym (at v k) ∙ (same v k ∙ there v k)))
-          | inr b ↦ inr (before_along genes (assignment values) m (bits_of design) g at there b)
+          | inr b ↦ inr (before_along genes (bits_of values) m (bits_of design) g at there b)
         ]);
   };
 }
@@ -74,21 +74,21 @@ own_place genes variables order i v o within is lt =
     ]
 
 -- what is shown of the model is shown of its design part
-pub shows_design : (s : SpecValue) (genes : List GeneValue) (order : List Literal) (values design : List Bool) (cs : List Linear) → length genes ≡ design_variables s → IsOrderOf genes (all_variables s) order → IsPartOf s values design → ShowsFirst cs order (assignment values) → ShowsFirstDesign cs genes (bits_of design)
+pub shows_design : (s : SpecValue) (genes : List GeneValue) (order : List Literal) (values design : List Bool) (cs : List Linear) → length genes ≡ design_variables s → IsOrderOf genes (all_variables s) order → IsPartOf s values design → ShowsFirst cs order (bits_of values) → ShowsFirstDesign cs genes (bits_of design)
 shows_design s genes order values design cs few o part shows v lt other p closed before =
     let d : Literal = record { var = 0; yes = false } in
-    let at : (w : ℕ) → w < length genes → assignment values w ≡ bits_of design w = λ w l. part_reads s values design w part (omega (arith, l, few)) in
+    let at : (w : ℕ) → w < length genes → bits_of values w ≡ bits_of design w = λ w l. part_reads s values design w part (omega (arith, l, few)) in
     let place = order-covers order (all_variables s) o.each_once o.len v (omega (arith, lt, few, design_variables-le s)) in
     let i : ℕ = place.0 in
     let own : i < length genes = own_place genes (all_variables s) order i v o place.1 place.2 lt in
     let l : Literal = get_or order i d in
     let is : l.var ≡ v = place.2 d in
     let phase : l.yes ≡ (gene_at genes v).phase = o.phases i d own ∙ ap (λ (w : ℕ). (gene_at genes w).phase) is in
-    let differs : assignment values l.var ≢ l.yes = λ e. other (sym (at v lt) ∙ (ap (assignment values) (sym is) ∙ (e ∙ phase))) in
-    let got : p l.var ≡ Some (assignment values l.var) =
-    shows i d place.1 (false_there l.yes (assignment values l.var) differs) p closed
+    let differs : bits_of values l.var ≢ l.yes = λ e. other (sym (at v lt) ∙ (ap (bits_of values) (sym is) ∙ (e ∙ phase))) in
+    let got : p l.var ≡ Some (bits_of values l.var) =
+    shows i d place.1 (false_there l.yes (bits_of values l.var) differs) p closed
     (λ j e lj. (let w : ℕ = (get_or order j e).var in
     let within : w < length genes = o.leads j e (omega (arith, lj, own)) in
     let stands : StandsBefore genes w v = subst (StandsBefore genes w) (place.2 e) (o.stands j i e lj own) in
     before w within stands ∙ ap (λ (b : Bool). Some b) (sym (at w within)))) in
-    subst (λ (w : ℕ). p w ≡ Some (assignment values w)) is got ∙ ap (λ (b : Bool). Some b) (at v lt)
+    subst (λ (w : ℕ). p w ≡ Some (bits_of values w)) is got ∙ ap (λ (b : Bool). Some b) (at v lt)

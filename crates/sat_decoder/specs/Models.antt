@@ -1,6 +1,6 @@
 -- The solver's answers, and the decoder's that stand for them.
 use Rattle.std.specs.Prelude.{Bool, ◌≡◌, List, length, take}
-use Rattle.pb_rules.specs.Linear.{IsModel, assignment}
+use Rattle.pb_rules.specs.Linear.{IsModel}
 use Rattle.spec_model.specs.Spec.{SpecValue, bits_of, design_variables, all_variables}
 use Rattle.spec_model.specs.Rules.{IsValid}
 use Rattle.encode_model.specs.Encoding.{encoding}
@@ -12,7 +12,7 @@ use Rattle.sat_decoder.specs.declared.decoded.Decoded.TheVariants.{First, Nothin
 -- the values of a model of the encoding, one for each variable
 pub record IsWholeModel (s : SpecValue) (values : List Bool) : Type 0 where
   pub one_each : length values ≡ all_variables s
-  pub model : IsModel (encoding s) (assignment values)
+  pub model : IsModel (encoding s) (bits_of values)
 
 -- the values, if there are some, are a model
 abbrev pub MayHaveModel : SpecValue → Answer → Type 0

@@ -6,7 +6,7 @@ ghost use Rattle.spec_model.specs.Spec.{SpecValue};
 ghost use Rattle.spec_model.specs.WellFormed.{IsWellFormed};
 ghost use Rattle.pb_rules.specs.Linear.{IsNormal};
 ghost use Rattle.encode_model.specs.Encoding.{encoding};
-ghost use Rattle.block_encode.specs.Block.{cover_frame};
+ghost use Rattle.encode_model.specs.Block.{cover_frame};
 ghost use Rattle.sat_decoder.specs.Decoder.{IsFrameOf};
 
 /// The constraints of an encoding are in normal form, so that with the blocks of covers they are a frame.

@@ -8,7 +8,7 @@ use Rattle.std.proofs.lemmas.List.{get_or-map, get_or_default, length-map}
 use Rattle.std.proofs.lemmas.List.FromFn.{get_or-map-range_with_len, length-map-range_with_len}
 use Rattle.std.proofs.lemmas.List.Sums.{count_by-le-length}
 use Rattle.std.proofs.lemmas.List.Elements.{All-weaker, All-map}
-use Rattle.spec_model.specs.Spec.{SpecValue, Message, Arc as ArcValue, Choice as ChoiceValue, below, message_at, arc_at, all_variables, further}
+use Rattle.spec_model.specs.Spec.{SpecValue, Message, Arc as ArcValue, Choice as ChoiceValue, below, message_at, arc_at, all_variables, further, choice}
 use Rattle.spec_model.specs.Rules.{of_task}
 use Rattle.spec_model.specs.Vectors.{weight_in}
 use Rattle.spec_model.specs.WellFormed.{IsWellFormed, IsArcIn, IsMessageIn, IsOptionIn, IsDeadlineIn, message_size, option_count, size, most_hops}
@@ -36,7 +36,7 @@ finished_variables_is s o m a r l h x ms eo em ea er el eh es ex =
 options_counted : (s : SpecValue) (xs : List Choice) (t : ℕ) → map choice_value xs ≡ s.options → option_count (finished s) t ≡ options_of_task xs t
 unfolding of_task
 options_counted s xs t e =
-    count_those (λ (o : ChoiceValue). o.task == t) (record { task = 0; resource = 0; time = 0 }) (of_task (finished s) t) s.options (λ i. refl)
+    count_those (λ (o : ChoiceValue). o.task == t) (choice 0 0 0) (of_task (finished s) t) s.options (λ i. refl)
     ∙ (ap (count_by (λ (o : ChoiceValue). o.task == t)) (sym e)
     ∙ sum_by_map (λ (o : ChoiceValue). cond (o.task == t) 1 0) choice_value xs)
 

@@ -3,6 +3,7 @@ mod Growing
 mod Adding
 mod Walking
 mod Mapped
+mod Pairs
 mod Finishing
 mod Changing
 mod Parts

@@ -1,5 +1,5 @@
 -- The plan that a builder's fields state.
-use Rattle.std.specs.Prelude.{◌≤◌, length, map}
+use Rattle.std.specs.Prelude.{◌≤◌, [], length, map}
 use Rattle.spec_model.specs.Spec.{SpecValue}
 use Rattle.task_order.specs.Order.{IsOrderOf}
 use Rattle.spec_graph.specs.Lists.{arc_value, choice_value}
@@ -14,13 +14,15 @@ plan_of b = record {
   resources = b.resources;
   links = b.links;
   arcs = map arc_value b.arcs.items;
-  options = map choice_value b.options.items;
+  options = map choice_value b.options;
   deadlines = b.deadlines.items;
   objectives = b.objectives;
   option_weights = b.option_weights.items;
   resource_weights = b.resource_weights.items;
   link_weights = b.link_weights.items;
   traffic_weights = b.traffic_weights.items;
+  capacities = [];
+  pairs = [];
 }
 
 -- the fields state a plan, and the order of its tasks

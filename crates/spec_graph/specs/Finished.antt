@@ -1,5 +1,5 @@
 -- The specification that a finished one's fields state.
-use Rattle.std.specs.Prelude.{◌≡◌, map}
+use Rattle.std.specs.Prelude.{◌≡◌, [], map}
 use Rattle.spec_model.specs.Spec.{SpecValue, all_variables}
 use Rattle.spec_model.specs.WellFormed.{IsWellFormed, size}
 use Rattle.spec_graph.specs.Lists.{arc_value, choice_value}
@@ -20,6 +20,8 @@ spec_of s = record {
   resource_weights = s.resource_weights.items;
   link_weights = s.link_weights.items;
   traffic_weights = s.traffic_weights.items;
+  capacities = [];
+  pairs = [];
 }
 
 -- the specification is well formed, and the numbers that are kept of it are its own

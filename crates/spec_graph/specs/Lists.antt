@@ -1,6 +1,6 @@
 -- The lists of a specification, as the code's types hold them.
 use Rattle.std.specs.Prelude.{ℕ, List, [], map, slice_index_or}
-use Rattle.spec_model.specs.Spec.{Message, Arc as ArcValue, Choice as ChoiceValue}
+use Rattle.spec_model.specs.Spec.{Message, Arc as ArcValue, Choice as ChoiceValue, choice}
 use Rattle.spec_graph.specs.declared.numbers.TaskNo.{TaskNo}
 use Rattle.spec_graph.specs.declared.numbers.MsgNo.{MsgNo}
 use Rattle.spec_graph.specs.declared.numbers.Arc.{Arc}
@@ -22,7 +22,11 @@ abbrev pub arc_value : Arc → ArcValue
 arc_value a = record { link = a.link.0; tail = a.tail.0; head = a.head.0 }
 
 abbrev pub choice_value : Choice → ChoiceValue
-choice_value c = record { task = c.task.0; resource = c.resource.0; time = c.time }
+choice_value c = choice c.task.0 c.resource.0 c.time
+
+-- the pair of a task and a resource that an option is of
+abbrev pub choice_pair : Choice → ℕ × ℕ
+choice_pair c = (c.task.0, c.resource.0)
 
 -- a message between tasks with these numbers
 abbrev pub message_of : TaskNo → List TaskNo → ℕ → ℕ → ℕ → Message

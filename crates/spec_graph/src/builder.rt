@@ -4,8 +4,9 @@ ghost use Rattle.std.specs.Prelude.{◌≡◌, ◌≤◌, length};
 ghost use Rattle.spec_model.specs.Spec.{empty_spec};
 ghost use Rattle.spec_graph.specs.Plan.{IsPlan};
 
+use crate::choices::Choices;
 use crate::messages::Message;
-use crate::numbers::{Arc, Choice};
+use crate::numbers::Arc;
 use crate::rows::{Deadline, Weights};
 use names::Names;
 use std::alloc::Global;
@@ -26,7 +27,7 @@ pub struct SpecBuilder {
     pub(crate) resources: Names,
     pub(crate) links: Names,
     pub(crate) arcs: Vec<Arc>,
-    pub(crate) options: Vec<Choice>,
+    pub(crate) options: Choices,
     pub(crate) deadlines: Vec<Deadline>,
     pub(crate) objectives: Names,
     pub(crate) option_weights: Vec<Weights>,
@@ -68,7 +69,7 @@ impl SpecBuilder {
             resources: Names::new(alloc),
             links: Names::new(alloc),
             arcs: Vec::new(alloc),
-            options: Vec::new(alloc),
+            options: Choices::none(alloc),
             deadlines: Vec::new(alloc),
             objectives: Names::new(alloc),
             option_weights: Vec::new(alloc),

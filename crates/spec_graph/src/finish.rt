@@ -60,7 +60,7 @@ impl SpecBuilder {
     fn finished_terms(&self) -> Result<u128, AllocError>
         ensures { IfOk result (λ terms. terms ≡ size (finished self.now)) }
     {
-        let counts = option_counts(self.alloc, &self.options, self.tasks())?;
+        let counts = option_counts(self.alloc, self.options.list(), self.tasks())?;
         let resources = self.resources() as u64;
         let arcs = self.arcs() as u64;
         let terms = 5 * self.options() as u64 + resources + self.links() as u64;
@@ -124,7 +124,7 @@ impl SpecBuilder {
             resources,
             links,
             arcs,
-            options,
+            options: options.into_list(),
             deadlines,
             objectives,
             option_weights,

@@ -1,9 +1,9 @@
 //! The calls of a builder that add objectives, tasks, resources, options and deadlines.
 
-ghost use Rattle.std.specs.Prelude.{◌≡◌, ◌<◌, ◌++◌, ◌∷◌, [], ◌↔◌, IsTrue, length, map, Any, IfOk, OnOk, IfErr, OnErr};
+ghost use Rattle.std.specs.Prelude.{◌≡◌, ◌<◌, ◌++◌, ◌∷◌, [], length, IfOk, OnOk, IfErr, OnErr};
 ghost use Rattle.names.specs.Names.{IsName};
-ghost use Rattle.spec_graph.specs.Lists.{choice_value};
-ghost use Rattle.spec_graph.specs.Refusals.{IsBig, IsOfPair, IsObjectiveRefused, IsObjectiveAccepted, IsTaskRefused, IsTaskAccepted, IsResourceRefused, IsResourceAccepted, IsOptionRefused, IsOptionAccepted, IsDeadlineRefused};
+ghost use Rattle.spec_model.specs.Spec.{choice};
+ghost use Rattle.spec_graph.specs.Refusals.{IsBig, IsObjectiveRefused, IsObjectiveAccepted, IsTaskRefused, IsTaskAccepted, IsResourceRefused, IsResourceAccepted, IsOptionRefused, IsOptionAccepted, IsDeadlineRefused};
 
 use crate::builder::SpecBuilder;
 use crate::faults::BuildFault;
@@ -18,28 +18,6 @@ const MAX_TASKS: usize = 1024;
 const MAX_RESOURCES: usize = 256;
 
 const MAX_OPTIONS: usize = 16384;
-
-/// Whether an option is of the task on the resource.
-fn is_of_pair(option: &Choice, task: TaskNo, resource: ResNo) -> bool
-    ensures { IsTrue result ↔ IsOfPair task.0 resource.0 (choice_value option.now) }
-{
-    if option.task.0 != task.0 {
-        return false;
-    }
-    option.resource.0 == resource.0
-}
-
-/// Whether the task is mapped to the resource.
-pub fn is_mapped(options: &[Choice], task: TaskNo, resource: ResNo) -> bool
-    ensures { IsTrue result ↔ Any (IsOfPair task.0 resource.0) (map choice_value options.now) }
-{
-    for option in options {
-        if is_of_pair(option, task, resource) {
-            return true;
-        }
-    }
-    false
-}
 
 impl SpecBuilder {
     /// Adds a task.
@@ -110,12 +88,12 @@ impl SpecBuilder {
         requires resource_there { resource.0 < length self.old.resources }
         requires one_each { length weights.now ≡ length self.old.objectives }
         ensures number { IfOk result (λ o. o.0 ≡ length self.old.options) }
-        ensures added { OnOk result (self.new ≡ record self.old { options = self.old.options ++ record { task = task.0; resource = resource.0; time = time } ∷ []; option_weights = self.old.option_weights ++ weights.now ∷ [] }) }
-        ensures accepted { OnOk result (IsOptionAccepted self.old (record { task = task.0; resource = resource.0; time = time }) weights.now) }
-        ensures refused { IfErr result (IsOptionRefused self.old (record { task = task.0; resource = resource.0; time = time }) weights.now) }
+        ensures added { OnOk result (self.new ≡ record self.old { options = self.old.options ++ choice task.0 resource.0 time ∷ []; option_weights = self.old.option_weights ++ weights.now ∷ [] }) }
+        ensures accepted { OnOk result (IsOptionAccepted self.old (choice task.0 resource.0 time) weights.now) }
+        ensures refused { IfErr result (IsOptionRefused self.old (choice task.0 resource.0 time) weights.now) }
         ensures unchanged { OnErr result (self.new ≡ self.old) }
     {
-        if is_mapped(&self.options, task, resource) {
+        if self.options.has(task, resource) {
             return Err(BuildFault::Repeated);
         }
         if time > MAX_NUMBER {

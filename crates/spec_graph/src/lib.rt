@@ -3,6 +3,7 @@
 
 mod builder;
 mod changes;
+mod choices;
 mod faults;
 mod finish;
 mod gathered;

@@ -7,7 +7,6 @@ ghost use Rattle.spec_graph.specs.Lists.{task_number};
 ghost use Rattle.spec_graph.specs.Refusals.{IsMapped};
 
 use crate::builder::SpecBuilder;
-use crate::items::is_mapped;
 use crate::numbers::{LinkNo, MsgNo, ResNo, TaskNo};
 
 impl SpecBuilder {
@@ -62,7 +61,7 @@ impl SpecBuilder {
     pub fn is_mapped(&self, task: TaskNo, resource: ResNo) -> bool
         ensures { IsTrue result ↔ IsMapped self.now task.0 resource.0 }
     {
-        is_mapped(&self.options, task, resource)
+        self.options.has(task, resource)
     }
 
     /// The task that sends a message.

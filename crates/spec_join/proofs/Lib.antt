@@ -17,3 +17,4 @@ pub mod Keys
 pub mod QuantityLines
 pub mod MessageKinds
 pub mod Making
+pub mod Tabled

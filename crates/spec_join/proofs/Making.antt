@@ -7,7 +7,7 @@ use Rattle.std.proofs.lemmas.List.{get_or_default}
 use Rattle.std.proofs.lemmas.List.Elements.{All-nil, All-cons, All-append, All-weaker}
 use Rattle.std.proofs.lemmas.List.Sums.{fold_more}
 use Rattle.names.specs.Names.{number_of}
-use Rattle.spec_model.specs.Spec.{Name, SpecValue, Choice}
+use Rattle.spec_model.specs.Spec.{Name, SpecValue, Choice, choice}
 use Rattle.spec_graph.specs.Refusals.{IsOfPair, IsMapped, HasBig, HasBigOption, IsOptionRefused}
 use Rattle.spec_graph.specs.declared.faults.BuildFault.{BuildFault}
 use Rattle.spec_graph.specs.declared.faults.BuildFault.TheVariants as builds
@@ -125,10 +125,10 @@ only_memory_in p o row builds.SelfLink h new t w room = absurd h
 only_memory_in p o row builds.Cyclic h new t w room = absurd h
 
 -- only want of memory refuses an option that is new, for which there is room, and whose numbers are small
-pub only_memory : (p q : SpecValue) (task resource time n : ℕ) (row : List ℕ) (fault : BuildFault) → p ≡ q → resource ≡ n → IsOptionRefused p (record { task = task; resource = resource; time = time }) row fault
+pub only_memory : (p q : SpecValue) (task resource time n : ℕ) (row : List ℕ) (fault : BuildFault) → p ≡ q → resource ≡ n → IsOptionRefused p (choice task resource time) row fault
     → (IsMapped q task n → ⊥) → time ≤ 2 ^ 40 → All (λ w. w ≤ 2 ^ 40) row → length q.options < 16384 → fault ≡ builds.NoMemory
 only_memory p q task resource time n row fault e en h new t w room =
-    let o : Choice = record { task = task; resource = resource; time = time } in
+    let o : Choice = choice task resource time in
     only_memory_in q o row fault (subst (λ (x : SpecValue). IsOptionRefused x o row fault) e h) (subst (λ (m : ℕ). IsMapped q task m → ⊥) (sym en) new) t w room
 
 -- ---- the row of a task
@@ -159,7 +159,7 @@ same_time s os ws (Some column) row = refl
 
 same_choice : (s : Joining) (os : List Choice) (ws : List (List ℕ)) (resource : Name) (keys : List KeyColumn) (t : ℕ) (found : Option Row) → one_of (choice_from (with_options s os ws) resource keys t) found ≡ one_of (choice_from s resource keys t) found
 same_choice s os ws resource keys t None = refl
-same_choice s os ws resource keys t (Some row) = ap (λ (x : ℕ). record { task = t; resource = number_of s.plan.resources resource; time = x } ∷ []) (same_time s os ws (column_of keys (codes "time")) row)
+same_choice s os ws resource keys t (Some row) = ap (λ (x : ℕ). choice t (number_of s.plan.resources resource) x ∷ []) (same_time s os ws (column_of keys (codes "time")) row)
 
 -- the option of task t is added
 abbrev with_next : Joining → ℕ → Name → List KeyColumn → ℕ → Joining

@@ -2,7 +2,7 @@
 use Rattle.std.proofs.Common.{◌≡◌, ◌≢◌, ℕ, ℤ, Bool, List, Option, sym, ap, subst, ◌∙◌, arith, All, Contains, get_or, ◌≤◌, ◌^◌, inl, inr, Result, Ok, Err, OnOk}
 use Rattle.std.proofs.lemmas.List.{get_or_default}
 use Rattle.names.specs.Names.{IsNumberOf, number_of}
-use Rattle.spec_model.specs.Spec.{Name, name_at}
+use Rattle.spec_model.specs.Spec.{Name, name_at, choice}
 use Rattle.spec_graph.specs.Refusals.{HasBig, HasBigLink, HasBigOption, IsMapped, IsTaskRefused, IsTaskAccepted, IsResourceRefused, IsLinkRefused, IsOptionRefused, IsOptionAccepted, IsDeadlineRefused}
 use Rattle.spec_graph.specs.declared.faults.BuildFault.{BuildFault}
 use Rattle.spec_graph.specs.declared.faults.BuildFault.TheVariants.{Repeated, SelfLink, Cyclic, TooBig, Limit, NoMemory}
@@ -78,7 +78,7 @@ mapped_of s task resource n m x y h = subst (λ (k : ℕ). IsMapped s.plan (numb
 mapped_by : (s : Joining) (task resource : Name) (n m : ℕ) → IsNumberOf s.plan.tasks task n → IsNumberOf s.plan.resources resource m → IsMapped s.plan (number_of s.plan.tasks task) (number_of s.plan.resources resource) → IsMapped s.plan n m
 mapped_by s task resource n m x y h = subst (λ (k : ℕ). IsMapped s.plan n k) (sym y.first) (subst (λ (k : ℕ). IsMapped s.plan k (number_of s.plan.resources resource)) (sym x.first) h)
 
-pub map_refused : (s : Joining) (task resource : Name) (time : Option ℤ) (ws : List KeyAmount) (n m x : ℕ) (row : List ℕ) (fault : BuildFault) → IsOptionRefused s.plan (record { task = n; resource = m; time = x }) row fault
+pub map_refused : (s : Joining) (task resource : Name) (time : Option ℤ) (ws : List KeyAmount) (n m x : ℕ) (row : List ℕ) (fault : BuildFault) → IsOptionRefused s.plan (choice n m x) row fault
     → IsNumberOf s.plan.tasks task n → IsNumberOf s.plan.resources resource m → x ≤ 2 ^ 40 → AreSmall row → Refuses s (Map task resource time ws) (stop_for fault)
 map_refused s task resource time ws n m x row Repeated h i j b r = (λ y. y, λ y. y (there_of s.plan.tasks task n i), mapped_of s task resource n m i j h)
 map_refused s task resource time ws n m x row TooBig h i j b r = absurd (none_big_option x row b r h.1)
@@ -87,7 +87,7 @@ map_refused s task resource time ws n m x row NoMemory h i j b r = tt
 map_refused s task resource time ws n m x row SelfLink h i j b r = absurd h
 map_refused s task resource time ws n m x row Cyclic h i j b r = absurd h
 
-pub map_accepted : (s : Joining) (task resource : Name) (time : Option ℤ) (ws : List KeyAmount) (n m x : ℕ) (row : List ℕ) → IsOptionAccepted s.plan (record { task = n; resource = m; time = x }) row
+pub map_accepted : (s : Joining) (task resource : Name) (time : Option ℤ) (ws : List KeyAmount) (n m x : ℕ) (row : List ℕ) → IsOptionAccepted s.plan (choice n m x) row
     → IsNumberOf s.plan.tasks task n → IsNumberOf s.plan.resources resource m → IsAccepted s (Map task resource time ws)
 map_accepted s task resource time ws n m x row h i j = record {
   good = λ y. y;

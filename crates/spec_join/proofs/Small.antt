@@ -1,6 +1,6 @@
 -- The definitions, computed on a small file.
 use Rattle.std.proofs.Common.{◌≡◌, ℕ, ◌*◌, ◌^◌, List, [], ◌∷◌, Some, None, true, false, pos, codes, refl}
-use Rattle.spec_model.specs.Spec.{SpecValue}
+use Rattle.spec_model.specs.Spec.{SpecValue, choice}
 use Rattle.spec_graph.specs.Plan.{finished}
 use Rattle.arch_reader.specs.declared.statement.KeyAmount.{KeyAmount}
 use Rattle.arch_reader.specs.declared.statement.Statement.{Statement}
@@ -48,13 +48,15 @@ plan = record {
   resources = codes "a" ∷ codes "b" ∷ [];
   links = codes "l" ∷ [];
   arcs = record { link = 0; tail = 1; head = 0 } ∷ record { link = 0; tail = 0; head = 1 } ∷ [];
-  options = record { task = 1; resource = 1; time = 8 } ∷ [];
+  options = choice 1 1 8 ∷ [];
   deadlines = record { task = 2; time = 9 } ∷ [];
   objectives = codes "cost" ∷ codes "power" ∷ [];
   option_weights = (10 ∷ 0 ∷ []) ∷ [];
   resource_weights = (20 ∷ 3 ∷ []) ∷ (0 ∷ 0 ∷ []) ∷ [];
   link_weights = (10 ∷ 0 ∷ []) ∷ [];
   traffic_weights = (10 ∷ 7 ∷ []) ∷ [];
+  capacities = [];
+  pairs = [];
 }
 
 states : (after no_graphs file 20).plan ≡ plan

@@ -3,7 +3,7 @@
 use Rattle.std.specs.Prelude.{ℕ, ℤ, List, [], ◌∷◌, ◌++◌, length, Option, None, Some, map, fold}
 use Rattle.std.specs.Option.{option_or}
 use Rattle.names.specs.Names.{number_of}
-use Rattle.spec_model.specs.Spec.{Name, SpecValue, Message as MessageValue, Choice}
+use Rattle.spec_model.specs.Spec.{Name, SpecValue, Message as MessageValue, Choice, choice}
 use Rattle.spec_graph.specs.Plan.{with_link, with_message}
 use Rattle.spec_graph.specs.Changes.{changed, with_changed}
 use Rattle.spec_graph.specs.Merged.{merged, unlisted}
@@ -53,7 +53,7 @@ with_traffic s link ws = record s.plan { traffic_weights = fold (weighed_at s.pl
 
 -- the option of a task on a resource
 abbrev pub option_between : Joining → Name → Name → Option ℤ → Choice
-option_between s task resource time = record { task = number_of s.plan.tasks task; resource = number_of s.plan.resources resource; time = time_or_0 s time }
+option_between s task resource time = choice (number_of s.plan.tasks task) (number_of s.plan.resources resource) (time_or_0 s time)
 
 -- a hop limit of all messages, now and later, or of one
 abbrev pub with_hops : Joining → Option Name → ℕ → Joining

@@ -2,7 +2,7 @@
 -- the graphs whose type has a row that counts, and sets the weights of its resource from the first row.
 use Rattle.std.specs.Prelude.{◌≡◌, ℕ, zero, suc, ◌+◌, ◌<◌, ◌⊎◌, List, [], ◌∷◌, ◌++◌, length, fold, Bool, true, false, if◌then◌else◌, Option, None, Some, is_some, find, slice_index_or, option_map, option_and_then, Any, codes}
 use Rattle.names.specs.Names.{number_of}
-use Rattle.spec_model.specs.Spec.{Name, SpecValue, Choice}
+use Rattle.spec_model.specs.Spec.{Name, SpecValue, Choice, choice}
 use Rattle.spec_graph.specs.Refusals.{IsMapped}
 use Rattle.line_words.specs.declared.refusals.Why.{Why}
 use Rattle.line_words.specs.declared.refusals.Why.TheVariants.{UnknownName, RepeatedName, Limit}
@@ -92,7 +92,7 @@ time_from s keys row = time_in_column s (column_of keys (codes "time")) row
 
 -- the option of task t that a row states
 abbrev pub choice_from : Joining → Name → List KeyColumn → ℕ → Row → Choice
-choice_from s resource keys t row = record { task = t; resource = number_of s.plan.resources resource; time = time_from s keys row }
+choice_from s resource keys t row = choice t (number_of s.plan.resources resource) (time_from s keys row)
 
 -- one item, or none where there is no row
 abbrev pub one_of : {X : Type 0} → (Row → X) → Option Row → List X

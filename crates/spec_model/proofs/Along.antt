@@ -4,7 +4,7 @@ use Rattle.std.specs.Prelude.{◌↔◌}
 use Rattle.std.specs.List.{count_by}
 use Rattle.std.proofs.lemmas.Nat.{mul-add-lt}
 use Rattle.spec_model.specs.Spec.{SpecValue, Bits, those, arc_at, message_at, arc_var, resource_var, link_var, design_variables}
-use Rattle.spec_model.specs.Rules.{IsOn, Uses, Walk, WalkBelow, BoundOnce, IsResourceNeeded, IsLinkNeeded, GoesOnFrom, IsValid, IsUnreached, uses_into, arc_bit, goes_into, of_task, sender_of}
+use Rattle.spec_model.specs.Rules.{IsOn, Uses, Walk, WalkBelow, BoundOnce, IsResourceNeeded, IsLinkNeeded, GoesOnFrom, IsRouted, IsValid, IsUnreached, uses_into, arc_bit, goes_into, of_task, sender_of}
 use Rattle.spec_model.specs.Genotypes.{IsSameDesign}
 use Rattle.spec_model.proofs.Those.{count_by-those_suc}
 
@@ -82,17 +82,19 @@ module _ (s : SpecValue) (f g : Bits) (h : IsSameDesign s f g) where
       let e = h (link_var s l) (omega (arith, hl)) in
       (λ b. IsLinkNeeded-along s f g h l (x.0 (e ∙ b)), λ n. sym e ∙ x.1 (IsLinkNeeded-along s g f (same_back s f g h) l n))
 
-  pub IsValid-along : IsValid s f → IsValid s g
-  IsValid-along x = record {
+  pub IsRouted-along : IsRouted s f → IsRouted s g
+  IsRouted-along x = record {
     bound_once = λ t l. BoundOnce-along s f g h t (x.bound_once t l);
     no_arc_into_sender = λ m a l. into_sender-along m a l (x.no_arc_into_sender m a l);
     one_arc_into = λ m r l hr. omega (arith, x.one_arc_into m r l hr, uses_into-along s f g h m r l);
     has_walk = λ m a l. has_walk-along m a l (x.has_walk m a l);
-    reached = λ m w r l member. reached-along m w r l (x.reached m w r l member);
     no_dangling = λ m a l. no_dangling-along m a l (x.no_dangling m a l);
     resource_use = λ r l. resource_use-along r l (x.resource_use r l);
     link_use = λ r l. link_use-along r l (x.link_use r l);
   }
+
+  pub IsValid-along : IsValid s f → IsValid s g
+  IsValid-along x = record { routed = IsRouted-along x.routed; reached = λ m w r l member. reached-along m w r l (x.reached m w r l member) }
 
   pub IsUnreached-along : (m w : ℕ) → m < length s.messages → IsUnreached s f m w → IsUnreached s g m w
   IsUnreached-along m w hm x = record {

@@ -5,12 +5,8 @@ use Rattle.std.proofs.lemmas.Bool.Decides.{nat_tests}
 use Rattle.std.proofs.lemmas.Bool.{false≢true}
 use Rattle.spec_model.specs.Spec.{SpecValue, Bits, below, those, arc_at, option_at, arc_var}
 use Rattle.spec_model.specs.Rules.{IsOn, Uses, Walk, sender_of}
+use Rattle.spec_model.specs.Walks.{some_passes, puts, on_test, walk_test}
 use Rattle.spec_model.proofs.Those.{cases_suc}
-
--- whether some number below n passes
-abbrev pub some_passes : (ℕ → Bool) → ℕ → Bool
-some_passes p zero = false
-some_passes p (suc n) = cond (p n) true (some_passes p n)
 
 pub passes_some : (p : ℕ → Bool) (n : ℕ) → some_passes p n ≡ true → (i : ℕ) × (i < n) × (p i ≡ true)
 passes_some p zero e = absurd (false≢true e)
@@ -46,13 +42,6 @@ to_test e = grind (arith, nat_tests, e)
 from_test : (a b : ℕ) → nat_eq a b ≡ true → a ≡ b
 from_test a b e = grind (arith, nat_tests, e)
 
--- whether option o puts t on r
-abbrev pub puts : SpecValue → Bits → ℕ → ℕ → ℕ → Bool
-puts s f t r o = f o && (nat_eq (option_at s o).task t && nat_eq (option_at s o).resource r)
-
-abbrev pub on_test : SpecValue → Bits → ℕ → ℕ → Bool
-on_test s f t r = some_passes (puts s f t r) (length s.options)
-
 pub IsOn-from_test : (s : SpecValue) (f : Bits) (t r : ℕ) → on_test s f t r ≡ true → IsOn s f t r
 IsOn-from_test s f t r e =
     let x = passes_some (puts s f t r) (length s.options) e in
@@ -63,11 +52,6 @@ IsOn-from_test s f t r e =
 pub on_test-from : (s : SpecValue) (f : Bits) (t r : ℕ) → IsOn s f t r → on_test s f t r ≡ true
 on_test-from s f t r x =
     some_passes-from (puts s f t r) (length s.options) x.choice x.in_range (both-from _ _ x.chosen (both-from _ _ (to_test x.of_task) (to_test x.on_resource)))
-
--- whether there is a walk of n arcs
-abbrev pub walk_test : SpecValue → Bits → ℕ → ℕ → ℕ → Bool
-walk_test s f m zero r = on_test s f (sender_of s m) r
-walk_test s f m (suc n) r = some_passes (λ a. f (arc_var s m a) && (nat_eq (arc_at s a).head r && walk_test s f m n (arc_at s a).tail)) (length s.arcs)
 
 pub Walk-from_test : (s : SpecValue) (f : Bits) (m n r : ℕ) → walk_test s f m n r ≡ true → Walk s f m r n
 Walk-from_test s f m zero r e = IsOn-from_test s f (sender_of s m) r e

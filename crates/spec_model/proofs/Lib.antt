@@ -13,3 +13,7 @@ pub mod Tests
 pub mod Along
 pub mod Sums
 pub mod Chains
+pub mod Vectors
+pub mod Places
+pub mod Fronts
+pub mod Designs

@@ -2,17 +2,18 @@
 use Rattle.std.proofs.Common.{◌≡◌, ℕ, zero, suc, ◌+◌, ◌<◌, ◌≤◌, Bool, true, false, nat_eq, List, [], ◌∷◌, length, refl, sym, ◌∙◌, arith}
 use Rattle.std.specs.List.{list_any}
 use Rattle.std.proofs.lemmas.Bool.{false≢true}
-use Rattle.spec_model.specs.Spec.{Message, Arc, Choice, SpecValue, Bits, Name, empty_spec, arc_at, all_variables, design_variables}
+use Rattle.spec_model.specs.Spec.{Message, Arc, Choice, choice, SpecValue, Bits, Name, empty_spec, arc_at, all_variables, design_variables}
 use Rattle.spec_model.specs.Rules.{of_task, Uses, IsCrowded, IsStray, WalkBelow, goes_into, arc_bit, uses_into}
 use Rattle.spec_model.specs.Vectors.{vector_at, vector_of, weights_of, arc_weight}
 use Rattle.spec_model.specs.WellFormed.{size, message_size}
-use Rattle.spec_model.proofs.Decide.{walk_test, walk_test-from}
+use Rattle.spec_model.specs.Walks.{walk_test}
+use Rattle.spec_model.proofs.Decide.{walk_test-from}
 
 abbrev pub arc : ℕ → ℕ → ℕ → Arc
 arc l p q = record { link = l; tail = p; head = q }
 
-abbrev pub choice : ℕ → ℕ → Choice
-choice t r = record { task = t; resource = r; time = 0 }
+abbrev pub option : ℕ → ℕ → Choice
+option t r = choice t r 0
 
 abbrev pub names : List ℕ → List Name
 names [] = []
@@ -30,7 +31,7 @@ hub = record empty_spec {
   resources = names (97 ∷ (104 ∷ (98 ∷ (99 ∷ []))));
   links = names (97 ∷ (98 ∷ (99 ∷ [])));
   arcs = arc 0 0 1 ∷ (arc 0 1 0 ∷ (arc 1 1 2 ∷ (arc 1 2 1 ∷ (arc 2 1 3 ∷ (arc 2 3 1 ∷ [])))));
-  options = choice 0 0 ∷ (choice 1 2 ∷ (choice 2 3 ∷ []));
+  options = option 0 0 ∷ (option 1 2 ∷ (option 2 3 ∷ []));
 }
 
 variables_hub : all_variables hub ≡ 36
@@ -53,18 +54,18 @@ parallel = record empty_spec {
   resources = names (97 ∷ (98 ∷ (99 ∷ (100 ∷ []))));
   links = names (112 ∷ (113 ∷ (114 ∷ [])));
   arcs = arc 0 0 1 ∷ (arc 1 0 1 ∷ (arc 2 2 3 ∷ (arc 2 3 2 ∷ [])));
-  options = choice 0 0 ∷ (choice 1 1 ∷ []);
+  options = option 0 0 ∷ (option 1 1 ∷ []);
 }
 
-abbrev of_list : List ℕ → Bits
+abbrev pub of_list : List ℕ → Bits
 of_list vs v = list_any (λ w. nat_eq w v) vs
 
 -- both links used: two arcs go into b
-both_links : IsCrowded parallel (of_list (0 ∷ (1 ∷ (2 ∷ (3 ∷ []))))) 0 1
+pub both_links : IsCrowded parallel (of_list (0 ∷ (1 ∷ (2 ∷ (3 ∷ []))))) 0 1
 unfolding goes_into arc_bit uses_into
 both_links = record { in_range = omega arith; two = omega arith }
 
-abbrev apart : Bits
+abbrev pub apart : Bits
 apart = of_list (0 ∷ (1 ∷ (2 ∷ (4 ∷ (5 ∷ [])))))
 
 no_walk_to_c : ¬ WalkBelow parallel apart 0 2 3
@@ -74,7 +75,7 @@ no_walk_to_c (suc (suc zero), l, w) = false≢true (walk_test-from parallel apar
 no_walk_to_c (suc (suc (suc n)), l, w) = absurd (omega (arith, l))
 
 -- the arc from c, which nothing reaches
-stray : IsStray parallel apart 0 2
+pub stray : IsStray parallel apart 0 2
 stray = record { used = record { in_range = omega arith; bit = refl }; no_walk = no_walk_to_c }
 
 -- one task on one of three resources, with two objectives
@@ -82,12 +83,12 @@ abbrev pub priced : SpecValue
 priced = record empty_spec {
   tasks = names (116 ∷ []);
   resources = names (97 ∷ (98 ∷ (99 ∷ [])));
-  options = choice 0 0 ∷ (choice 0 1 ∷ (choice 0 2 ∷ []));
+  options = option 0 0 ∷ (option 0 1 ∷ (option 0 2 ∷ []));
   objectives = names (99 ∷ (101 ∷ []));
   option_weights = (0 ∷ (5 ∷ [])) ∷ ((0 ∷ (2 ∷ [])) ∷ ((0 ∷ (5 ∷ [])) ∷ []));
   resource_weights = (1 ∷ (0 ∷ [])) ∷ ((4 ∷ (0 ∷ [])) ∷ ((4 ∷ (0 ∷ [])) ∷ []));
 }
 
-vector_priced : vector_of priced (of_list (1 ∷ (4 ∷ []))) ≡ 4 ∷ (2 ∷ [])
+pub vector_priced : vector_of priced (of_list (1 ∷ (4 ∷ []))) ≡ 4 ∷ (2 ∷ [])
 unfolding vector_at weights_of arc_weight
 vector_priced = refl

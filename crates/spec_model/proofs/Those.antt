@@ -30,6 +30,10 @@ sum_by-those_more f p n = ap (sum_by f) (those-more p n) ∙ (sum_by-append f (t
     one true = omega arith
     one false = refl
 
+-- one number more in a sum
+pub sum_by-below_more : (g : ℕ → ℕ) (n : ℕ) → sum_by g (below (n + 1)) ≡ sum_by g (below n) + g n
+sum_by-below_more g n = ap (sum_by g) (below-more n) ∙ omega (arith, sum_by-append g (below n) (n ∷ []))
+
 pub count_by-those_more : (f p : ℕ → Bool) (n : ℕ) → count_by f (those p (n + 1)) ≡ count_by f (those p n) + cond (p n) (cond (f n) 1 0) 0
 count_by-those_more f p n = sum_by-those_more (λ x. cond (f x) 1 0) p n
 

@@ -32,14 +32,22 @@ pub record IsBefore (genes : List GeneValue) (f g : Bits) : Type 0 where
   pub differ : g variable ≢ f variable
   pub same : (w : ℕ) → w < length genes → StandsBefore genes w variable → f w ≡ g w
 
+-- the same at each variable below n
+abbrev pub IsSame : ℕ → Bits → Bits → Type 0
+IsSame n f g = (v : ℕ) → v < n → f v ≡ g v
+
 -- the same design: equal at each design variable
 abbrev pub IsSameDesign : SpecValue → Bits → Bits → Type 0
-IsSameDesign s f g = (v : ℕ) → v < design_variables s → f v ≡ g v
+IsSameDesign s f g = IsSame (design_variables s) f g
 
--- valid, and before each other valid design
-pub record IsFirstValid (s : SpecValue) (genes : List GeneValue) (f : Bits) : Type 0 where
-  pub valid : IsValid s f
-  pub first : (g : Bits) → IsValid s g → IsSameDesign s f g ⊎ IsBefore genes f g
+-- the first among those that meet a condition: it meets it, and each other that does is the same below n or after it
+pub record IsFirstAmong (P : Bits → Type 0) (n : ℕ) (genes : List GeneValue) (f : Bits) : Type 0 where
+  pub meets : P f
+  pub first : (g : Bits) → P g → IsSame n f g ⊎ IsBefore genes f g
+
+-- the first valid design
+abbrev pub IsFirstValid : SpecValue → List GeneValue → Bits → Type 0
+IsFirstValid s genes f = IsFirstAmong (IsValid s) (design_variables s) genes f
 
 -- no design is valid
 abbrev pub HasNoValid : SpecValue → Type 0

@@ -117,16 +117,20 @@ pub record LeavesFrom (s : SpecValue) (f : Bits) (m r : ℕ) : Type 0 where
 abbrev pub GoesOnFrom : SpecValue → Bits → ℕ → ℕ → Type 0
 GoesOnFrom s f m r = LeavesFrom s f m r ⊎ HasReceiver s f m r
 
--- the eight rules of a valid design
-pub record IsValid (s : SpecValue) (f : Bits) : Type 0 where
+-- the rules of a valid design but for the one on receivers, which may be out of reach
+pub record IsRouted (s : SpecValue) (f : Bits) : Type 0 where
   pub bound_once : (t : ℕ) → t < length s.tasks → BoundOnce s f t
   pub no_arc_into_sender : (m a : ℕ) → m < length s.messages → Uses s f m a → ¬ IsOn s f (sender_of s m) (arc_at s a).head
   pub one_arc_into : (m r : ℕ) → m < length s.messages → r < length s.resources → uses_into s f m r ≤ 1
   pub has_walk : (m a : ℕ) → m < length s.messages → Uses s f m a → WalkBelow s f m (arc_at s a).tail (message_at s m).limit
-  pub reached : (m w r : ℕ) → m < length s.messages → Contains (message_at s m).receivers w → IsOn s f w r → (n : ℕ) × Walk s f m r n
   pub no_dangling : (m a : ℕ) → m < length s.messages → Uses s f m a → GoesOnFrom s f m (arc_at s a).head
   pub resource_use : (r : ℕ) → r < length s.resources → (f (resource_var s r) ≡ true) ↔ IsResourceNeeded s f r
   pub link_use : (l : ℕ) → l < length s.links → (f (link_var s l) ≡ true) ↔ IsLinkNeeded s f l
+
+-- the rules of a valid design: it is routed, and each receiver is reached
+pub record IsValid (s : SpecValue) (f : Bits) : Type 0 where
+  pub routed : IsRouted s f
+  pub reached : (m w r : ℕ) → m < length s.messages → Contains (message_at s m).receivers w → IsOn s f w r → (n : ℕ) × Walk s f m r n
 
 -- The same rules broken at a place. Each but the first is looked at where each task is bound once.
 

@@ -1,6 +1,7 @@
 -- The value of a specification, as plain lists, and the numbering of its variables.
-use Rattle.std.specs.Prelude.{ℕ, Bool, false, ◌+◌, ◌*◌, List, [], length, sum_by, filter, take, slice_index_or}
+use Rattle.std.specs.Prelude.{ℕ, Bool, Option, ◌+◌, ◌*◌, List, [], length, sum_by, filter, take, slice_index_or}
 use Rattle.std.specs.List.{range_with_len}
+pub use Rattle.plain_lists.specs.Bits.{Bits, bits_of}
 
 -- a name, as its bytes
 abbrev pub Name : Type 0
@@ -20,17 +21,38 @@ pub record Arc : Type 0 where
   pub tail : ℕ
   pub head : ℕ
 
--- an option: a task may run on a resource, in a time
+-- an option: a task may run on a resource, in a time, as a load on it
 pub record Choice : Type 0 where
   pub task : ℕ
   pub resource : ℕ
   pub time : ℕ
+  pub load : ℕ
+
+-- the option of a task on a resource that states no load
+abbrev pub choice : ℕ → ℕ → ℕ → Choice
+choice task resource time = record { task = task; resource = resource; time = time; load = 0 }
 
 pub record Deadline : Type 0 where
   pub task : ℕ
   pub time : ℕ
 
--- a specification; of the lists of weights each has, for one option, resource or link, a number per objective
+-- what a pair is of: an option, which may be chosen, or a resource, which may be allocated
+pub data Item : Type 0 where
+  chosen : ℕ → Item
+  allocated : ℕ → Item
+
+-- the first item of a pair needs the second, or the two bar each other
+pub data PairKind : Type 0 where
+  needs : PairKind
+  bars : PairKind
+
+pub record Pair : Type 0 where
+  pub kind : PairKind
+  pub first : Item
+  pub second : Item
+
+-- a specification; of the lists of weights each has, for one option, resource or link, a number per objective; of the
+-- capacities each is that of one resource, and a resource past their end has none
 pub record SpecValue : Type 0 where
   pub tasks : List Name
   pub message_names : List Name
@@ -45,6 +67,8 @@ pub record SpecValue : Type 0 where
   pub resource_weights : List (List ℕ)
   pub link_weights : List (List ℕ)
   pub traffic_weights : List (List ℕ)
+  pub capacities : List (Option ℕ)
+  pub pairs : List Pair
 
 -- nothing yet
 abbrev pub empty_spec : SpecValue
@@ -62,15 +86,9 @@ empty_spec = record {
   resource_weights = [];
   link_weights = [];
   traffic_weights = [];
+  capacities = [];
+  pairs = [];
 }
-
--- an assignment of truth values to the variables
-abbrev pub Bits : Type 0
-Bits = ℕ → Bool
-
--- the assignment that a list of bits states: false past its end
-abbrev pub bits_of : List Bool → Bits
-bits_of bits v = slice_index_or bits v false
 
 -- the numbers below n, in order
 abbrev pub below : ℕ → List ℕ
@@ -87,7 +105,7 @@ abbrev pub arc_at : SpecValue → ℕ → Arc
 arc_at s a = slice_index_or s.arcs a (record { link = 0; tail = 0; head = 0 })
 
 abbrev pub option_at : SpecValue → ℕ → Choice
-option_at s o = slice_index_or s.options o (record { task = 0; resource = 0; time = 0 })
+option_at s o = slice_index_or s.options o (choice 0 0 0)
 
 abbrev pub deadline_at : SpecValue → ℕ → Deadline
 deadline_at s i = slice_index_or s.deadlines i (record { task = 0; time = 0 })

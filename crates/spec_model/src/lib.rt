@@ -1,6 +1,5 @@
 //! What a specification, a design and a valid design are: the definitions that the contracts of the other crates
-//! cite. The crate has no code of its own.
+//! cite. [`laws`] says what follows from them; the crate has no other code.
 #![tactic(auto)]
 
-/// How many validity rules a design has to meet.
-pub const RULES: u64 = 8;
+pub mod laws;

@@ -1,6 +1,6 @@
 use Rattle.std.proofs.Common.{◌≡◌, ◌∷◌, map}
 use Rattle.spec_model.specs.Spec.{below}
-use Rattle.block_encode.specs.Block.{below_somewhere, below_place}
+use Rattle.encode_model.specs.Block.{below_somewhere, below_place}
 use Rattle.block_encode.proofs.block.Given as goal
 
 abbrev pub invariant-loop-j : goal.invariant-loop-j

@@ -1,6 +1,6 @@
 use Rattle.std.proofs.Common.{◌≡◌, ◌∙◌, sym, ap, ℕ, Option, Bool, subst}
 use Rattle.pb_rules.specs.Linear.{Linear}
-use Rattle.pb_rules.specs.Clauses.{clause_of}
+use Rattle.conflict_graph.specs.Clauses.{clause_of}
 use Rattle.conflict_graph.specs.Learning.{signs}
 use Rattle.conflict_graph.specs.Learned.{IsLearned}
 use Rattle.conflict_graph.proofs.Ends.{learnt-clause}

@@ -2,7 +2,7 @@ use Rattle.std.proofs.Common.{rules, arith, true, false}
 use Rattle.std.proofs.lemmas.Grind.{common_steps}
 use Rattle.spec_model.specs.Rules.{options_of}
 use Rattle.encode_model.specs.Encoding.{positives, negatives}
-use Rattle.route_encode.proofs.Shapes.{options}
+use Rattle.encode_model.proofs.Shapes.{options}
 use Rattle.route_encode.proofs.Writing.{rising_of, few_of}
 use Rattle.route_encode.proofs.add_one_option.Goals as goal
 

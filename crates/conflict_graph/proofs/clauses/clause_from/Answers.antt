@@ -3,8 +3,8 @@ use Rattle.std.proofs.lemmas.List.{append-nil}
 use Rattle.pb_rules.specs.declared.Term.{Term}
 use Rattle.pb_rules.specs.Literal.{Literal}
 use Rattle.pb_rules.specs.Linear.{IsNormal}
-use Rattle.pb_rules.specs.Clauses.{clause_row, with_literal}
-use Rattle.pb_rules.proofs.Rows.{row-more}
+use Rattle.conflict_graph.specs.Clauses.{clause_row, with_literal}
+use Rattle.conflict_graph.proofs.Rows.{row-more}
 use Rattle.conflict_graph.specs.Learning.{signs}
 use Rattle.conflict_graph.proofs.Ends.{row-normal}
 use Rattle.conflict_graph.proofs.clauses.clause_from.Goals as goal

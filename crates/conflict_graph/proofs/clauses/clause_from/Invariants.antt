@@ -1,5 +1,5 @@
 use Rattle.std.proofs.Common.{◌≡◌}
-use Rattle.pb_rules.specs.Clauses.{clause_row}
+use Rattle.conflict_graph.specs.Clauses.{clause_row}
 use Rattle.conflict_graph.specs.Learning.{signs}
 use Rattle.conflict_graph.proofs.clauses.clause_from.Given as goal
 

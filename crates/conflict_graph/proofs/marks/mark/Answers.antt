@@ -2,7 +2,7 @@ use Rattle.std.proofs.Common.{◌≡◌, ◌≤◌, ◌<◌, ◌+◌, ◌^◌, �
 use Rattle.pb_rules.specs.declared.Term.{Term}
 use Rattle.pb_rules.specs.Linear.{Linear, IsNormal}
 use Rattle.pb_rules.specs.Partial.{is_false}
-use Rattle.pb_rules.specs.Clauses.{false_signs}
+use Rattle.conflict_graph.specs.Clauses.{false_signs}
 use Rattle.constraint_store.specs.Live.{constraint_of}
 use Rattle.conflict_graph.specs.Learning.{signs, either, currents}
 use Rattle.conflict_graph.proofs.Writing.{mark-false, mark-kept, counted-join}

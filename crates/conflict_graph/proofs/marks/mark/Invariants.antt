@@ -1,5 +1,5 @@
 use Rattle.std.proofs.Common.{◌≡◌, ℕ, take, length}
-use Rattle.pb_rules.specs.Clauses.{false_signs}
+use Rattle.conflict_graph.specs.Clauses.{false_signs}
 use Rattle.conflict_graph.specs.Learning.{signs, either, currents}
 use Rattle.conflict_graph.proofs.marks.mark.Given as goal
 

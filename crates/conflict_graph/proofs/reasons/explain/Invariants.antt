@@ -1,7 +1,7 @@
 use Rattle.std.proofs.Common.{◌≡◌, ◌++◌, ◌∷◌, [], take}
 use Rattle.pb_rules.specs.Partial.{open_weight}
 use Rattle.pb_rules.specs.declared.Op.TheVariants.{Id}
-use Rattle.pb_rules.specs.Derivations.{weakenings}
+use Rattle.conflict_graph.specs.Clauses.{weakenings}
 use Rattle.constraint_store.specs.Live.{proof_id_of}
 use Rattle.conflict_graph.specs.Learning.{signs}
 use Rattle.conflict_graph.proofs.reasons.explain.Given as goal

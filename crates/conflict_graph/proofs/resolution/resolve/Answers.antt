@@ -3,10 +3,9 @@ use Rattle.std.proofs.lemmas.Grind.{common_steps}
 use Rattle.pb_rules.specs.Literal.{Literal}
 use Rattle.pb_rules.specs.Linear.{Linear, VarsBelow}
 use Rattle.pb_rules.specs.Partial.{InConflict}
-use Rattle.pb_rules.specs.Clauses.{false_signs}
+use Rattle.conflict_graph.specs.Clauses.{false_signs, clause_ops}
 use Rattle.pb_rules.specs.declared.Op.{Op}
 use Rattle.pb_rules.specs.declared.Op.TheVariants.{Add, Saturate}
-use Rattle.pb_rules.specs.Derivations.{clause_ops}
 use Rattle.constraint_store.specs.Live.{constraint_of, proof_id_of}
 use Rattle.trail_state.specs.Trail.{reason_in, value_in}
 use Rattle.conflict_graph.specs.Learning.{signs, either, currents, Learning}

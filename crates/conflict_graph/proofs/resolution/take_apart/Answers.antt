@@ -3,9 +3,8 @@ use Rattle.std.proofs.lemmas.List.{take_all, length-map}
 use Rattle.pb_rules.specs.Literal.{Literal}
 use Rattle.pb_rules.specs.Linear.{Linear}
 use Rattle.pb_rules.specs.Partial.{InConflict}
-use Rattle.pb_rules.specs.Clauses.{false_signs}
+use Rattle.conflict_graph.specs.Clauses.{false_signs, clause_ops}
 use Rattle.pb_rules.specs.declared.Op.{Op}
-use Rattle.pb_rules.specs.Derivations.{clause_ops}
 use Rattle.constraint_store.specs.Live.{constraint_of, proof_id_of}
 use Rattle.trail_state.specs.Trail.{Entry, value_in}
 use Rattle.conflict_graph.specs.Learning.{signs, current_at, currents, Learning}

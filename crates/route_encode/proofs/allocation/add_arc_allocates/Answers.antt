@@ -2,7 +2,7 @@ use Rattle.std.proofs.Common.{rules, arith, [], ◌∷◌, true, false}
 use Rattle.std.proofs.lemmas.Grind.{common_steps}
 use Rattle.spec_model.specs.Spec.{arc_var, link_var}
 use Rattle.encode_model.specs.Encoding.{positive, negative}
-use Rattle.route_encode.proofs.Shapes.{arc_allocated}
+use Rattle.encode_model.proofs.Shapes.{arc_allocated}
 use Rattle.route_encode.proofs.Writing.{rising_of}
 use Rattle.route_encode.proofs.allocation.add_arc_allocates.Goals as goal
 

@@ -2,7 +2,7 @@ use Rattle.std.proofs.Common.{rules, arith, [], ◌∷◌, true, false}
 use Rattle.std.proofs.lemmas.Grind.{common_steps}
 use Rattle.spec_model.specs.Spec.{resource_var, covered_var}
 use Rattle.encode_model.specs.Encoding.{positive, negative}
-use Rattle.route_encode.proofs.Shapes.{cover_allocated}
+use Rattle.encode_model.proofs.Shapes.{cover_allocated}
 use Rattle.route_encode.proofs.Writing.{rising_of, few_of}
 use Rattle.route_encode.proofs.allocation.add_cover_allocates.Goals as goal
 

@@ -3,7 +3,7 @@ use Rattle.std.proofs.lemmas.Grind.{common_steps}
 use Rattle.spec_model.specs.Spec.{link_var}
 use Rattle.encode_model.specs.Encoding.{negative, positives, link_arcs, messages_of}
 use Rattle.std.specs.List.{flat_map}
-use Rattle.route_encode.proofs.Shapes.{link_uses}
+use Rattle.encode_model.proofs.Shapes.{link_uses}
 use Rattle.route_encode.proofs.Writing.{rising_of, few_of}
 use Rattle.route_encode.proofs.allocation.add_link_has_use.Goals as goal
 

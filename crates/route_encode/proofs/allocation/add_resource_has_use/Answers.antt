@@ -2,7 +2,7 @@ use Rattle.std.proofs.Common.{rules, arith, ◌∷◌, ◌++◌, map}
 use Rattle.std.proofs.lemmas.Grind.{common_steps}
 use Rattle.spec_model.specs.Spec.{resource_var}
 use Rattle.encode_model.specs.Encoding.{negative, positives, options_on, cover_of, messages_of}
-use Rattle.route_encode.proofs.Shapes.{resource_uses}
+use Rattle.encode_model.proofs.Shapes.{resource_uses}
 use Rattle.route_encode.proofs.Writing.{rising_of, few_of}
 use Rattle.route_encode.proofs.allocation.add_resource_has_use.Goals as goal
 

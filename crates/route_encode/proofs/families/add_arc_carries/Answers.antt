@@ -2,7 +2,7 @@ use Rattle.std.proofs.Common.{rules, arith, [], ◌∷◌, true, false}
 use Rattle.std.proofs.lemmas.Grind.{common_steps}
 use Rattle.spec_model.specs.Spec.{message_at, arc_var, step_var, covered_var}
 use Rattle.encode_model.specs.Encoding.{positive, negative}
-use Rattle.route_encode.proofs.Shapes.{arc_cover, arc_step}
+use Rattle.encode_model.proofs.Shapes.{arc_cover, arc_step}
 use Rattle.route_encode.proofs.Writing.{rising_of}
 use Rattle.route_encode.proofs.families.add_arc_carries.Goals as goal
 

@@ -3,7 +3,7 @@ use Rattle.std.specs.Prelude.{OnOk}
 use Rattle.std.proofs.lemmas.Grind.{common_steps}
 use Rattle.pb_rules.specs.Linear.{Linear}
 use Rattle.route_encode.specs.Adding.{Adds}
-use Rattle.route_encode.proofs.Writing.{carry_shape}
+use Rattle.encode_model.proofs.Shapes.{carry_shape}
 use Rattle.route_encode.proofs.families.add_carry.Goals as goal
 
 pub add-requires-clause-rising : goal.add-requires-clause-rising

@@ -5,7 +5,8 @@ use Rattle.pb_rules.specs.Linear.{Linear}
 use Rattle.encode_model.specs.Encoding.{leads_to}
 use Rattle.route_encode.specs.Adding.{Adds}
 use Rattle.route_encode.proofs.Rows.{those_below}
-use Rattle.route_encode.proofs.Writing.{few_of, cause_shape, limit_small}
+use Rattle.encode_model.proofs.Shapes.{cause_shape}
+use Rattle.route_encode.proofs.Writing.{few_of, limit_small}
 use Rattle.route_encode.proofs.families.add_cause.Goals as goal
 
 pub earlier-requires-clause-places : goal.earlier-requires-clause-places

@@ -2,7 +2,7 @@ use Rattle.std.proofs.Common.{rules, arith, [], ◌∷◌, ◌++◌, true, false
 use Rattle.std.proofs.lemmas.Grind.{common_steps}
 use Rattle.spec_model.specs.Spec.{covered_var}
 use Rattle.encode_model.specs.Encoding.{positive, negative, positives, negatives, steps_from}
-use Rattle.route_encode.proofs.Shapes.{steps_cover}
+use Rattle.encode_model.proofs.Shapes.{steps_cover}
 use Rattle.route_encode.proofs.Writing.{rising_of, few_of}
 use Rattle.route_encode.proofs.families.add_covered_once.Goals as goal
 

@@ -4,7 +4,7 @@ use Rattle.spec_model.specs.Spec.{step_var, covered_var}
 use Rattle.spec_model.specs.Rules.{leaves, arcs_from}
 use Rattle.encode_model.specs.Encoding.{positive, negative, positives, receiver_options, arc_vars}
 use Rattle.route_encode.proofs.Rows.{those_below}
-use Rattle.route_encode.proofs.Shapes.{end_literals}
+use Rattle.encode_model.proofs.Shapes.{end_literals}
 use Rattle.route_encode.proofs.Writing.{rising_of, few_of}
 use Rattle.route_encode.proofs.families.add_no_dangling.Goals as goal
 

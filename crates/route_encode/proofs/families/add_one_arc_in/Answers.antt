@@ -3,7 +3,7 @@ use Rattle.std.proofs.lemmas.Grind.{common_steps}
 use Rattle.spec_model.specs.Rules.{goes_into, arcs_into}
 use Rattle.encode_model.specs.Encoding.{positives, negatives, arc_vars, steps_from}
 use Rattle.route_encode.proofs.Rows.{those_below}
-use Rattle.route_encode.proofs.Shapes.{arcs_steps}
+use Rattle.encode_model.proofs.Shapes.{arcs_steps}
 use Rattle.route_encode.proofs.Writing.{rising_of, few_of}
 use Rattle.route_encode.proofs.families.add_one_arc_in.Goals as goal
 

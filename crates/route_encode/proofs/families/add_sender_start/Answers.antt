@@ -3,7 +3,7 @@ use Rattle.std.proofs.lemmas.Grind.{common_steps}
 use Rattle.spec_model.specs.Spec.{step_var}
 use Rattle.spec_model.specs.Rules.{sender_of}
 use Rattle.encode_model.specs.Encoding.{positive, negative, positives, negatives, option_on}
-use Rattle.route_encode.proofs.Shapes.{start}
+use Rattle.encode_model.proofs.Shapes.{start}
 use Rattle.route_encode.proofs.Writing.{rising_of}
 use Rattle.route_encode.proofs.families.add_sender_start.Goals as goal
 

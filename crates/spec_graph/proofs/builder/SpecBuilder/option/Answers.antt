@@ -1,6 +1,6 @@
 use Rattle.std.proofs.Common.{length, ◌<◌, ◌≤◌, ◌^◌, ◌++◌, ◌∷◌, [], ◌≡◌, map, sym, ap, ◌∙◌, rules, arith}
 use Rattle.std.proofs.lemmas.List.{map-append, length-map}
-use Rattle.spec_model.specs.Spec.{SpecValue, Choice}
+use Rattle.spec_model.specs.Spec.{SpecValue, Choice, choice}
 use Rattle.spec_graph.specs.Lists.{choice_value}
 use Rattle.spec_graph.specs.Builder.{plan_of}
 use Rattle.spec_graph.specs.Refusals.{HasBig, IsMapped}
@@ -14,10 +14,10 @@ invariant_of-self-2 c =
     let objectives : length c.self.inside.objectives ≡ length c.args.self.now.objectives = ap (λ (s : SpecValue). length s.objectives) c.self.view_is in
     let new : ¬ IsMapped (plan_of c.self.inside) c.args.task.0 c.args.resource.0 = search rules in
     let small : ¬ HasBig c.args.weights.now = search rules in
-    let few : length c.self.inside.options.items < 16384 = omega arith in
-    let room : length (plan_of c.self.inside).options < 16384 = omega (arith, few, length-map c.self.inside.options.items choice_value) in
-    let o : Choice = record { task = c.args.task.0; resource = c.args.resource.0; time = c.args.time } in
+    let few : length c.self.inside.options < 16384 = omega arith in
+    let room : length (plan_of c.self.inside).options < 16384 = omega (arith, few, length-map c.self.inside.options choice_value) in
+    let o : Choice = choice c.args.task.0 c.args.resource.0 c.args.time in
     let time : c.args.time ≤ 2 ^ 40 = omega arith in
-    let options : map choice_value c.push.new.self.items ≡ (plan_of c.self.inside).options ++ o ∷ [] = ap (map choice_value) c.in_ok-push.ensures.items ∙ map-append choice_value c.self.inside.options.items _ in
+    let options : map choice_value c.push.new.self ≡ (plan_of c.self.inside).options ++ o ∷ [] = ap (map choice_value) c.in_ok-push.ensures.added ∙ map-append choice_value c.self.inside.options _ in
     let rows = row_added c.self.inside.option_weights.items c.reserve.new.self.items c.push_reserved.new.self.items c.in_ok-weights.weights c.args.weights.now c.reserve.ensures.items c.push_reserved.ensures.items c.in_ok-weights.ensures in
     record { plan = plan_option_at (plan_of c.self.inside) o c.args.weights.now _ _ options rows c.self.invariant.plan (record { task = omega (arith, tasks); resource = omega (arith, resources); time = time }) new (c.requires.one_each ∙ sym objectives) small room; order = c.self.invariant.order; room = c.self.invariant.room }

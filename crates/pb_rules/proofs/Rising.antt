@@ -1,0 +1,31 @@
+-- Terms in rising order of their variables, from a variable on.
+use Rattle.std.proofs.Common.{ℕ, ◌+◌, ◌<◌, ◌≤◌, List, [], ◌∷◌, length, get_or, arith, zero, suc}
+use Rattle.pb_rules.specs.declared.Term.{Term}
+
+-- in rising order from a variable on
+abbrev pub From : ℕ → List Term → Type 0
+From k [] = Unit {0}
+From k (t ∷ ts) = (k ≤ t.lit.var) × From (t.lit.var + 1) ts
+
+pub From-weaker : (j k : ℕ) (ts : List Term) → j ≤ k → From k ts → From j ts
+From-weaker j k [] l h = tt
+From-weaker j k (t ∷ ts) l h = let a = h.0 in (omega arith, h.1)
+
+-- no variable comes before the first
+pub from-least : (k : ℕ) (ts : List Term) → From k ts → (j : ℕ) (d : Term) → j < length ts → k ≤ (get_or ts j d).lit.var
+from-least k [] f j d l = absurd (omega arith)
+from-least k (t ∷ ts) f zero d l = f.0
+from-least k (t ∷ ts) f (suc j) d l = let a = f.0 in let b = from-least (t.lit.var + 1) ts f.1 j d (omega arith) in omega arith
+
+-- rising from a variable on, for each pair of places
+pub from-pairs : (k : ℕ) (ts : List Term) → From k ts → (i j : ℕ) (d : Term) → i < j → j < length ts → (get_or ts i d).lit.var < (get_or ts j d).lit.var
+from-pairs k [] f i j d l m = absurd (omega arith)
+from-pairs k (t ∷ ts) f zero zero d l m = absurd (omega arith)
+from-pairs k (t ∷ ts) f zero (suc j) d l m = let a = from-least (t.lit.var + 1) ts f.1 j d (omega arith) in omega arith
+from-pairs k (t ∷ ts) f (suc i) zero d l m = absurd (omega arith)
+from-pairs k (t ∷ ts) f (suc i) (suc j) d l m = from-pairs (t.lit.var + 1) ts f.1 i j d (omega arith) (omega arith)
+
+pub rising-from : (k : ℕ) (ts : List Term) → ((d : Term) → 0 < length ts → k ≤ (get_or ts 0 d).lit.var) → ((i j : ℕ) (d : Term) → i < j → j < length ts → (get_or ts i d).lit.var < (get_or ts j d).lit.var) → From k ts
+rising-from k [] b h = tt
+rising-from k (t ∷ ts) b h =
+    (b t (omega arith), rising-from (t.lit.var + 1) ts (λ d l. (let r = h 0 1 d (omega arith) (omega arith) in omega arith)) (λ i j d l m. h (suc i) (suc j) d (omega arith) (omega arith)))

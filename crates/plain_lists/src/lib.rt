@@ -1,0 +1,2 @@
+//! The words on plain lists that the definitions of several crates share. It has no code.
+#![tactic(auto)]
