@@ -6,6 +6,7 @@ use Rattle.std.proofs.lemmas.Int.{ints}
 use Rattle.pb_rules.specs.declared.Term.{Term}
 use Rattle.pb_rules.specs.Linear.{Linear, IsNormal}
 use Rattle.pb_rules.specs.CuttingPlanes.{Sum, same_sign, joined, merge, add}
+use Rattle.pb_rules.proofs.Sums.{alike}
 use Rattle.pb_rules.proofs.Rising.{from-pairs}
 use Rattle.pb_rules.proofs.Normal.{Merged, done, first, second, both, merged, add-rising, add-positive}
 use Rattle.pb_constraints.specs.declared.parts.Part.{Part}
@@ -50,12 +51,6 @@ against_cancel true true m n e l = absurd (cc)
 against_cancel true false m n e l = omega (arith, ints)
 against_cancel false true m n e l = omega (arith, ints)
 against_cancel false false m n e l = absurd (cc)
-
-alike : (y z : Bool) → same_sign y z ≡ true → y ≡ z
-alike true true h = refl
-alike true false h = sym h
-alike false true h = h
-alike false false h = refl
 
 turned : (y z : Bool) → same_sign y z ≡ false → same_sign z y ≡ false
 turned true true h = h

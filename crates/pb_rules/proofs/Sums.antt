@@ -22,7 +22,7 @@ opposite true false true h = inr (λ k. refl, λ k. refl)
 opposite false false true h = inl (λ k. refl, λ k. refl)
 opposite b false false h = absurd (cc)
 
-alike : (y z : Bool) → same_sign y z ≡ true → y ≡ z
+pub alike : (y z : Bool) → same_sign y z ≡ true → y ≡ z
 alike true true h = refl
 alike true false h = sym h
 alike false true h = h
