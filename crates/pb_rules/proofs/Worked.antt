@@ -168,7 +168,7 @@ first_word_before_rest = refl
 
 -- ---- lines over a frame
 
--- blocks of the one constraint that the next variable is at least the cover's first number
+-- the block of a cover brings one more variable, in its first constraint; the other one is `0 >= 1`
 abbrev small_frame : Frame
 small_frame = record { base = base; block = λ b v. at_least 1 (on b 4 ∷ []) ∷ contradiction ∷ [] }
 
