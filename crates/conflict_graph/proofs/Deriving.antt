@@ -1,15 +1,15 @@
 -- What the written operations give: a constraint in conflict becomes a clause, and two clauses their resolvent.
-use Rattle.std.proofs.Common.{◌≡◌, ℕ, ◌+◌, ◌-◌, ◌<◌, ◌≤◌, ◌^◌, Bool, true, false, cond, eqb, ltb, Option, Some, None, List, [], ◌∷◌, ◌++◌, length, get_or, refl, sym, ap, ◌∙◌, subst, arith, suc}
-use Rattle.std.specs.Prelude.{Result, Ok, Err}
+use Rattle.std.proofs.Common.{◌≡◌, ℕ, ◌+◌, ◌-◌, ◌<◌, ◌≤◌, ◌^◌, Bool, true, false, cond, eqb, Option, List, [], ◌∷◌, ◌++◌, length, get_or, refl, sym, ap, ◌∙◌, subst, arith, suc}
+use Rattle.std.specs.Prelude.{Result, Ok}
 use Rattle.std.proofs.lemmas.Bool.Decides.{nat_tests}
 use Rattle.std.proofs.lemmas.List.{append_assoc}
 use Rattle.pb_rules.specs.declared.Term.{Term}
-use Rattle.pb_rules.specs.Linear.{Linear, total}
+use Rattle.pb_rules.specs.Linear.{Linear}
 use Rattle.pb_rules.specs.Partial.{is_false, open_weight}
-use Rattle.pb_rules.specs.CuttingPlanes.{add, saturate, coef_of, up}
+use Rattle.pb_rules.specs.CuttingPlanes.{add, coef_of, up}
 use Rattle.pb_rules.specs.declared.Op.{Op}
 use Rattle.pb_rules.specs.declared.Op.TheVariants.{Add, Divide, Saturate, Weaken}
-use Rattle.pb_rules.specs.Operations.{Context, Fault, KnowsLive, mentions, excess, small_number, and_then, push, fits, apply_all}
+use Rattle.pb_rules.specs.Operations.{Context, Fault, KnowsLive, mentions, small_number, apply_all}
 use Rattle.pb_rules.specs.Frames.{StandsUnder}
 use Rattle.pb_rules.proofs.Assignments.{open-cons}
 use Rattle.pb_rules.proofs.Normal.{excess-none}

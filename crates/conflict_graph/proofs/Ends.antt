@@ -1,7 +1,6 @@
-use Rattle.std.proofs.Common.{◌≡◌, ◌≢◌, ℕ, ◌+◌, ◌-◌, ◌<◌, ◌≤◌, ◌^◌, Bool, true, false, not, cond, eqb, ltb, Option, Some, None, List, [], ◌∷◌, ◌++◌, length, get_or, set, take, refl, sym, ap, ◌∙◌, subst, arith, inl, inr, ◌⊎◌, zero, suc, map, is_some, is_none, replicate, get_or-set_same, get_or-set_other, length-set}
-use Rattle.std.specs.Prelude.{All, count_by}
+use Rattle.std.proofs.Common.{◌≡◌, ◌≢◌, ℕ, ◌+◌, ◌<◌, ◌≤◌, ◌^◌, Bool, true, false, not, cond, eqb, Option, Some, None, List, [], ◌∷◌, length, get_or, set, take, refl, sym, ap, ◌∙◌, subst, arith, inl, inr, ◌⊎◌, zero, suc, map, is_some, is_none, replicate, get_or-set_same, get_or-set_other, length-set}
+use Rattle.std.specs.Prelude.{All}
 use Rattle.std.proofs.lemmas.Bool.{cases_eq, cases_lt}
-use Rattle.std.proofs.lemmas.Bool.Decides.{nat_tests}
 use Rattle.std.proofs.lemmas.List.{get_or_past, length-replicate, get_or-take, get_or_default}
 use Rattle.std.proofs.lemmas.List.Elements.{All-more, All-head, All-tail}
 use Rattle.std.proofs.Common.{length-take}
@@ -23,64 +22,8 @@ use Rattle.conflict_graph.proofs.Counts.{currents-row}
 use Rattle.conflict_graph.proofs.Signs.{falsifies-true, falsifies-not}
 use Rattle.constraint_store.specs.Live.{Live, is_live, live_at, constraint_of}
 use Rattle.pb_rules.specs.declared.Op.{Op}
-use Rattle.trail_state.proofs.Levels.{IsAt, first-at, level-more}
+use Rattle.trail_state.proofs.Levels.{first-at, level-more}
 use Rattle.conflict_graph.proofs.Resolving.{lit-at}
-
--- the values of all variables
-pub values-end : (es : List Entry) (n : ℕ) (items : List (Option Bool)) → length items ≡ n → ((y : ℕ) → y < n → signs items y ≡ value_in es y) → All (λ (e : Entry). e.lit.var < n) es → signs items ≡ value_in es
-values-end es n items len h w = fun_ext (λ y. elim (cases_lt y n) [
-  | inl l ↦ h y l
-  | inr g ↦ get_or_past items y None (omega arith) ∙ sym (value_in-none es y (λ k d l e. (let r = w k d l in omega arith)))
-])
-
--- the levels of the variables up to a place
-pub record LevelsTo (es : List Entry) (n i level : ℕ) (levels : List ℕ) : Type 0 where
-  pub len : length levels ≡ n
-  pub level_is : level ≡ level_of (take i es)
-  pub before : (j : ℕ) (d : Entry) → j < i → get_or levels (get_or es j d).lit.var 0 ≡ level_in es (get_or es j d).lit.var
-
-pub levels-start : (es : List Entry) (n : ℕ) → LevelsTo es n 0 0 (replicate n 0)
-levels-start es n = record { len = length-replicate n 0; level_is = refl; before = λ j d h. absurd (omega arith) }
-
-pub levels-more : (es : List Entry) (n i level level' : ℕ) (levels : List ℕ) (l : Literal) → i < length es → IsDistinct es → All (λ (e : Entry). e.lit.var < n) es → l ≡ get_or (map (λ (e : Entry). e.lit) es) i l → level' ≡ level + cond (is_none (reason_in es l.var)) 1 0 → LevelsTo es n i level levels → LevelsTo es n (i + 1) level' (set levels l.var level')
-levels-more es n i level level' levels l h distinct w e up to =
-    let d : Entry = record { lit = l; reason = None } in
-    let q : l ≡ (get_or es i d).lit = lit-at es i l d h e in
-    let v : l.var ≡ (get_or es i d).lit.var = ap (λ (m : Literal). m.var) q in
-    let first = first-at es (get_or es i d).lit.var i d h refl (distinct i d h) in
-    let reason : reason_in es l.var ≡ (get_or es i d).reason = ap (reason_in es) v ∙ first.reason in
-    let dec : cond {A = ℕ} (is_none (reason_in es l.var)) 1 0 ≡ cond {A = ℕ} (is_decision (get_or es i d)) 1 0 = ap (λ (o : Option ConId). cond {A = ℕ} (is_none o) 1 0) reason in
-    let more = level-more es i d h in
-    let level_is = to.level_is in
-    let len = to.len in
-    let here : level_in es l.var ≡ level' = (let a = first.level in let b : level_in es l.var ≡ level_in es (get_or es i d).lit.var = ap (level_in es) v in omega arith) in
-    let in' : l.var < length levels = (let r = w i d h in omega arith) in
-    record {
-      len = length-set levels l.var level' ∙ len;
-      level_is = omega arith;
-      before = λ j f k. elim (cases_eq (get_or es j f).lit.var l.var) [
-        | inl s ↦ (let P : ℕ → Type 0 = λ x. get_or (set levels l.var level') x 0 ≡ level_in es x in subst P (sym s) (get_or-set_same levels l.var level' 0 in' ∙ sym here))
-        | inr ne ↦ (let o = get_or-set_other levels l.var (get_or es j f).lit.var level' 0 ne in
-            elim (cases_lt j i) [
-              | inl a ↦ o ∙ to.before j f a
-              | inr b ↦ absurd (let z : j ≡ i = omega arith in
-                  let q' : l ≡ (get_or es i f).lit = lit-at es i l f h e in
-                  ne (ap (λ (m : ℕ). (get_or es m f).lit.var) z ∙ ap (λ (m : Literal). m.var) (sym q')))
-            ])
-      ];
-    }
-
-pub levels-end : (es : List Entry) (n i level : ℕ) (levels : List ℕ) → length es ≤ i → LevelsTo es n i level levels → HasLevels es n levels
-levels-end es n i level levels h to = record {
-  len = to.len;
-  level = λ x b v. (
-      let p = place-of es x b v in
-      let k = p.0 in
-      let lt = p.1 in
-      let d : Entry = record { lit = record { var = x; yes = b }; reason = None } in
-      let P : ℕ → Type 0 = λ y. get_or levels y 0 ≡ level_in es y in
-      subst P (p.2 d) (to.before k d (omega arith)));
-}
 
 row-ones : (n k : ℕ) (f : ℕ → Option Bool) (i : ℕ) (d : Term) → i < length (clause_row n k f) → (get_or (clause_row n k f) i d).coef ≡ 1
 row-ones zero k f i d h = absurd (omega arith)
@@ -161,14 +104,6 @@ learnt-clause live es n f ops few l = record {
   at_level_zero = λ z. ap (λ (ts : List Term). let c : Linear = record { terms = ts; degree = 1 } in c) (row-none n 0 f (l.none z));
   propagated = λ a closed h. l.propagated a (closed-in live a closed) (λ x b s. falsifies-true (a x) b (row-false n 0 f a h x b (omega arith) (let w = l.within x b s in omega arith) s));
 }
-
-pub one-more : (o : Option ConId) (level : ℕ) → is_some o ≡ false → level + 1 ≡ level + cond {A = ℕ} (is_none o) 1 0
-one-more None level h = refl
-one-more (Some r) level h = absurd (cc)
-
-pub no-more : (o : Option ConId) (level : ℕ) → is_some o ≡ true → level ≡ level + cond {A = ℕ} (is_none o) 1 0
-no-more None level h = absurd (cc)
-no-more (Some r) level h = omega arith
 
 pub below-start : (es : List Entry) (ts : List Term) → IsLevelBelow es (take 0 ts) 0
 below-start es ts = record { above = λ k d h f. absurd (none ts h); attained = inl refl }

@@ -1,9 +1,9 @@
-use Rattle.std.proofs.Common.{◌≡◌, ◌≢◌, ℕ, ◌+◌, ◌-◌, ◌<◌, ◌≤◌, ◌^◌, Bool, true, false, not, cond, eqb, ltb, Option, Some, None, List, [], ◌∷◌, ◌++◌, length, get_or, take, refl, sym, ap, ◌∙◌, subst, arith, inl, inr, ◌⊎◌, zero, suc, map, is_some, is_none}
+use Rattle.std.proofs.Common.{◌≡◌, ◌≢◌, ℕ, ◌+◌, ◌<◌, ◌^◌, Bool, true, false, not, cond, eqb, Option, Some, None, List, [], ◌∷◌, ◌++◌, length, get_or, take, refl, sym, ap, ◌∙◌, subst, arith, inl, inr, ◌⊎◌, zero, suc, map, is_some, is_none}
 use Rattle.std.specs.Prelude.{All, Result, Ok, Err, OnOk}
 use Rattle.std.proofs.Common.{set}
 use Rattle.std.proofs.Math.Path.{fun_ext}
 use Rattle.conflict_graph.proofs.Writing.{signs-set}
-use Rattle.std.proofs.lemmas.Bool.{cases_eq, cases_lt}
+use Rattle.std.proofs.lemmas.Bool.{cases_eq}
 use Rattle.std.proofs.lemmas.Bool.Decides.{nat_tests}
 use Rattle.pb_constraints.specs.declared.ConId.{ConId}
 use Rattle.pb_rules.specs.declared.Term.{Term}
@@ -14,11 +14,11 @@ use Rattle.conflict_graph.specs.Clauses.{false_signs, clause_ops}
 use Rattle.pb_rules.specs.declared.Op.{Op}
 use Rattle.pb_rules.specs.declared.Op.TheVariants.{Add, Saturate}
 use Rattle.constraint_store.specs.Live.{Live, constraint_of, proof_id_of}
-use Rattle.trail_state.specs.Trail.{Entry, is_decision, value_in, reason_in, level_of, level_in, IsDistinct}
-use Rattle.conflict_graph.specs.Conditions.{IsUsable, IsForcedBy, AllForced}
+use Rattle.trail_state.specs.Trail.{Entry, is_decision, value_in, reason_in, level_of, IsDistinct}
+use Rattle.conflict_graph.specs.Conditions.{IsUsable, AllForced}
 use Rattle.conflict_graph.specs.Learning.{signs, currents, either, Learning}
 use Rattle.pb_rules.specs.Partial.{flipped, GoesOn}
-use Rattle.trail_state.proofs.Levels.{IsAt, first-at, before-level}
+use Rattle.trail_state.proofs.Levels.{first-at, before-level}
 use Rattle.trail_state.proofs.Entries.{value-more_same, value-more_other}
 use Rattle.conflict_graph.proofs.Signs.{signs-false}
 use Rattle.conflict_graph.proofs.Steps.{not-not, IsResolvent, learning-resolve, learning-skip, decision-alone}

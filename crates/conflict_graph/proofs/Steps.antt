@@ -1,4 +1,4 @@
-use Rattle.std.proofs.Common.{◌≡◌, ◌≢◌, ℕ, ◌+◌, ◌-◌, ◌<◌, ◌≤◌, ◌^◌, Bool, true, false, not, cond, eqb, ltb, Option, Some, None, List, [], ◌∷◌, ◌++◌, length, get_or, take, refl, sym, ap, ◌∙◌, subst, arith, inl, inr, ◌⊎◌, zero, suc}
+use Rattle.std.proofs.Common.{◌≡◌, ◌≢◌, ℕ, ◌+◌, ◌<◌, ◌≤◌, ◌^◌, Bool, true, false, not, eqb, Option, Some, None, List, [], ◌∷◌, ◌++◌, length, get_or, take, refl, sym, ap, ◌∙◌, subst, arith, inl, inr, ◌⊎◌}
 use Rattle.std.specs.Prelude.{Ok}
 use Rattle.std.proofs.lemmas.Bool.{cases_eq, cases_lt}
 use Rattle.std.proofs.lemmas.Bool.Decides.{nat_tests}
@@ -8,18 +8,15 @@ use Rattle.pb_constraints.specs.declared.ConId.{ConId}
 use Rattle.pb_rules.specs.declared.Term.{Term}
 use Rattle.pb_rules.specs.Literal.{Literal}
 use Rattle.pb_rules.specs.Linear.{Linear, IsNormal}
-use Rattle.pb_rules.specs.Partial.{falsifies, is_false, open_weight, Forces, InConflict, IsClosed}
-use Rattle.pb_rules.proofs.Rising.{From}
+use Rattle.pb_rules.specs.Partial.{is_false, InConflict}
 use Rattle.pb_rules.specs.declared.Op.{Op}
 use Rattle.pb_rules.specs.declared.Op.TheVariants.{Add, Saturate}
-use Rattle.pb_rules.specs.Operations.{apply_all}
 use Rattle.pb_rules.proofs.Carried.{apply_all-append}
-use Rattle.constraint_store.specs.Live.{Live, is_live, constraint_of, proof_id_of}
-use Rattle.trail_state.specs.Trail.{Entry, is_decision, value_in, reason_in, level_of, level_in, IsDistinct}
+use Rattle.constraint_store.specs.Live.{Live, constraint_of, proof_id_of}
+use Rattle.trail_state.specs.Trail.{Entry, is_decision, value_in, level_of, level_in, IsDistinct}
 use Rattle.conflict_graph.specs.Clauses.{clause_of, false_signs, clause_ops}
-use Rattle.conflict_graph.specs.Derives.{HasUnder}
 use Rattle.conflict_graph.specs.Conditions.{IsUsable, IsForcedBy, HasCurrent}
-use Rattle.conflict_graph.specs.Learning.{Falsifies, ClosedUnder, current_at, currents, Learning, either, Learnt}
+use Rattle.conflict_graph.specs.Learning.{Falsifies, current_at, currents, Learning, either, Learnt}
 use Rattle.pb_rules.specs.Partial.{flipped}
 use Rattle.pb_rules.proofs.Assignments.{FalseToo, forced-flip, closed-conflict, closed-takes}
 use Rattle.trail_state.proofs.Levels.{before-level, level-more, level-part}
@@ -27,7 +24,7 @@ use Rattle.trail_state.proofs.Entries.{value-more_other, value-more_same}
 use Rattle.conflict_graph.proofs.Rows.{resolved, clash, clashes, clashes-one}
 use Rattle.conflict_graph.proofs.Making.{Terms, Terms-of}
 use Rattle.conflict_graph.proofs.Deriving.{making_gives, resolving_gives}
-use Rattle.conflict_graph.proofs.Counts.{current-le, currents-has, currents-loses, currents-none}
+use Rattle.conflict_graph.proofs.Counts.{currents-has, currents-loses, currents-none}
 use Rattle.conflict_graph.proofs.Signs.{signs-false, signs-at, signs-agree, signs-too, falsifies-not}
 
 usable-terms : (live : List Live) (n : ℕ) (c : ConId) → IsUsable live n c → IsNormal (constraint_of live c).terms (constraint_of live c).degree → Terms 0 n (constraint_of live c).terms

@@ -1,8 +1,8 @@
-use Rattle.std.proofs.Common.{◌≡◌, ◌≢◌, ℕ, ◌+◌, ◌-◌, ◌<◌, ◌≤◌, ◌^◌, Bool, true, false, not, cond, eqb, ltb, Option, Some, None, List, [], ◌∷◌, ◌++◌, length, get_or, set, take, refl, sym, ap, ◌∙◌, subst, arith, inl, inr, ◌⊎◌, zero, suc, get_or-set_same, get_or-set_other, is_some, length-take}
-use Rattle.std.proofs.lemmas.Bool.{cases_eq, cases_lt}
+use Rattle.std.proofs.Common.{◌≡◌, ◌≢◌, ℕ, ◌+◌, ◌-◌, ◌<◌, ◌≤◌, Bool, true, false, not, cond, eqb, Option, Some, None, List, [], ◌∷◌, ◌++◌, length, get_or, set, take, refl, sym, ap, ◌∙◌, subst, arith, inl, inr, ◌⊎◌, suc, get_or-set_same, get_or-set_other, is_some, length-take}
+use Rattle.std.proofs.lemmas.Bool.{cases_eq}
 use Rattle.std.proofs.lemmas.Bool.Decides.{nat_tests}
 use Rattle.std.proofs.lemmas.List.{append_assoc, take_more, take_all, get_or-take, get_or_default}
-use Rattle.std.proofs.lemmas.List.Sums.{sum_by_push, sum_by_more}
+use Rattle.std.proofs.lemmas.List.Sums.{sum_by_push}
 use Rattle.pb_rules.specs.declared.Term.{Term}
 use Rattle.pb_rules.specs.Literal.{Literal}
 use Rattle.pb_rules.specs.Linear.{Linear}
@@ -15,7 +15,7 @@ use Rattle.conflict_graph.specs.Learning.{signs, either, current_at, currents, H
 use Rattle.pb_rules.specs.Partial.{flipped}
 use Rattle.std.proofs.Math.Path.{fun_ext}
 use Rattle.pb_rules.specs.declared.Op.TheVariants.{Add}
-use Rattle.conflict_graph.proofs.Counts.{currents-change, currents-le}
+use Rattle.conflict_graph.proofs.Counts.{currents-change}
 
 weakenings-push : (a : ℕ → Option Bool) (ts : List Term) (t : Term) → weakenings a (ts ++ t ∷ []) ≡ weakenings a ts ++ cond (is_false a t.lit) [] (Weaken t.lit.var ∷ [])
 weakenings-push a [] t = refl

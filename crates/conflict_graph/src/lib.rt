@@ -6,10 +6,10 @@
 //! clause the analysis writes the operations that derive it, and adds them to the log as one line, last of all, so that
 //! want of memory leaves the log as it was. Neither the trail nor the store changes.
 //!
-//! The steps, each in a file: `tables` reads values and levels off the trail, `reasons` writes how a constraint is made
-//! a clause, `marks` keeps the literals of the clause and counts those of the current level, `resolution` walks the
-//! trail, and `clauses` writes the clause down and finds the level to jump back to. Propagation is no part of this, and
-//! neither is what becomes of the clause.
+//! The steps, each in a file: `reasons` writes how a constraint is made a clause, `marks` keeps the literals of the
+//! clause and counts those of the current level, `resolution` walks the trail, and `clauses` writes the clause down and
+//! finds the level to jump back to. The levels are read where the trail has them, and its values are copied, since the
+//! walk takes them off one by one. Propagation is no part of this, and neither is what becomes of the clause.
 #![tactic(auto)]
 
 ghost use Rattle.std.specs.Prelude.{ℕ, List, ◌≡◌, ◌<◌, ◌^◌, IfOk, OnErr, length, None, Some};
@@ -28,7 +28,6 @@ mod clauses;
 mod marks;
 mod reasons;
 mod resolution;
-mod tables;
 
 use clauses::{clause_from, level_below};
 use constraint_store::Store;
@@ -36,7 +35,6 @@ use pb_constraints::{ConId, Constraint};
 use proof_log::Log;
 use resolution::take_apart;
 use std::alloc::{AllocError, Global};
-use tables::{filled, levels_of, values_of};
 use trail_state::Trail;
 
 /// What an analysis gives: the clause, the greatest level of its literals other than the current one (0 where there are
@@ -117,16 +115,15 @@ pub fn analyse(
     ensures back { IfOk result (λ l. IsLevelBelow trail.now.entries l.clause.terms l.back_level) }
     ensures err { OnErr result (log.new ≡ log.old) }
 {
-    let variables = trail.variables();
-    let levels = levels_of(alloc, trail)?;
-    let mut values = values_of(alloc, trail)?;
-    let mut clause = filled(alloc, None, variables)?;
+    let mut values = Vec::from_slice(alloc, trail.values())?;
+    let mut clause = Vec::new(alloc);
+    clause.resize(trail.variables() as usize, None)?;
     learn(
         alloc,
         trail,
         store,
         conflict,
-        &levels,
+        trail.levels(),
         &mut values,
         &mut clause,
         log,

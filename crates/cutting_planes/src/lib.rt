@@ -7,12 +7,12 @@
 //! Here are the rules; `sums` merges the terms of two constraints, `terms` goes over those of one.
 #![tactic(auto)]
 
-ghost use Rattle.std.specs.Prelude.{ℕ, Bool, ◌≡◌, ◌<◌, ◌⊎◌, ◌^◌, IfOk, OnOk, IfErr, Some, None};
+ghost use Rattle.std.specs.Prelude.{ℕ, Bool, ◌≡◌, ◌<◌, ◌^◌, IfOk, OnOk, IfErr, None, Ok};
 ghost use Rattle.pb_rules.specs.Literal.{Literal};
 ghost use Rattle.pb_rules.specs.Linear.{Linear, Holds, IsNormal, total};
 ghost use Rattle.pb_rules.specs.CuttingPlanes.{axiom_of, add, times, divide, saturate, weaken};
-ghost use Rattle.pb_rules.specs.Operations.{excess};
-ghost use Rattle.cutting_planes.specs.Refusals.{refusal};
+ghost use Rattle.pb_rules.specs.Operations.{excess, fits};
+ghost use Rattle.cutting_planes.specs.Refusals.{IsRefusal};
 
 mod sums;
 mod terms;
@@ -64,8 +64,8 @@ fn accept(terms: Vec<Term>, degree: u64) -> Result<Constraint, RuleFault>
     requires sum { total terms.items < 2 ^ 64 }
     requires normal { excess (record { terms = terms.items; degree = degree }) ≡ None → IsNormal terms.items degree }
     ensures value { IfOk result (λ c. c ≡ record { terms = terms.items; degree = degree }) }
-    ensures accepted { OnOk result (refusal (record { terms = terms.items; degree = degree }) ≡ None) }
-    ensures refused { IfErr result (λ e. refusal (record { terms = terms.items; degree = degree }) ≡ Some e) }
+    ensures accepted { OnOk result (fits (record { terms = terms.items; degree = degree }) ≡ Ok (record { terms = terms.items; degree = degree })) }
+    ensures refused { IfErr result (IsRefusal (record { terms = terms.items; degree = degree })) }
 {
     let sum = u128::from(coefficient_sum(&terms));
     if sum >= LIMIT {
@@ -90,8 +90,8 @@ pub fn axiom(alloc: Global, lit: Lit) -> Result<Constraint, AllocError>
 /// where a number would be 2^63 or more, and for want of memory.
 pub fn add(alloc: Global, a: &Constraint, b: &Constraint) -> Result<Constraint, RuleFault>
     ensures value { IfOk result (λ c. c ≡ add a.now b.now) }
-    ensures accepted { OnOk result (refusal (add a.now b.now) ≡ None) }
-    ensures refused { IfErr result (λ e. (e ≡ RuleFault.NoMemory) ⊎ (refusal (add a.now b.now) ≡ Some e)) }
+    ensures accepted { OnOk result (fits (add a.now b.now) ≡ Ok (add a.now b.now)) }
+    ensures refused { IfErr result (IsRefusal (add a.now b.now)) }
 {
     let merged = merge_terms(alloc, a.terms(), b.terms())?;
     let degree = (a.degree() + b.degree()).saturating_sub(merged.cancelled);
@@ -103,8 +103,8 @@ pub fn add(alloc: Global, a: &Constraint, b: &Constraint) -> Result<Constraint, 
 pub fn times(alloc: Global, a: &Constraint, factor: u64) -> Result<Constraint, RuleFault>
     requires { 0 < factor }
     ensures value { IfOk result (λ c. c ≡ times factor a.now) }
-    ensures accepted { OnOk result (refusal (times factor a.now) ≡ None) }
-    ensures refused { IfErr result (λ e. (e ≡ RuleFault.NoMemory) ⊎ (refusal (times factor a.now) ≡ Some e)) }
+    ensures accepted { OnOk result (fits (times factor a.now) ≡ Ok (times factor a.now)) }
+    ensures refused { IfErr result (IsRefusal (times factor a.now)) }
 {
     let sum = u128::from(factor) * u128::from(coefficient_sum(a.terms()));
     if sum >= LIMIT {

@@ -12,7 +12,7 @@ use std::process::Abort;
 use std::test::Fail;
 
 /// The design in which these variables are true.
-fn design_with(
+pub fn design_with(
     rt: &impl Abort,
     alloc: Global,
     spec: &Spec,

@@ -1,3 +1,4 @@
-pub mod Loading
-pub mod Answers
+pub mod Refusing
+pub mod Decoding
+pub mod Commands
 pub mod Run

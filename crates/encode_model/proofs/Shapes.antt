@@ -201,4 +201,3 @@ cause_shape s t m q k n ls e wf hm hq hk en el =
       subst (λ (x : ℕ). IsRising x ls) (sym en) (subst (λ (js : List Term). IsRising (all_variables s) js) (sym el) rising),
       ap (at_least 1) el ∙ at_least-put (all_variables s) 1 (negative (step_var s m q (k + 1))) (positives (map (step_at s m k) (neighbours s q))) (earlier_rise s m hm q k hk) rising,
     )
-

@@ -8,6 +8,8 @@ mod architectures;
 #[cfg(test)]
 mod cells;
 #[cfg(test)]
+mod command_lines;
+#[cfg(test)]
 mod desks;
 #[cfg(test)]
 mod genotypes;

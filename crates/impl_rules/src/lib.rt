@@ -11,4 +11,4 @@ mod walks;
 
 pub use design::Design;
 pub use rules::{Rule, first_broken};
-pub use vector::vector_at;
+pub use vector::{vector_at, vector_of};

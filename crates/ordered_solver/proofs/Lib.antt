@@ -9,3 +9,4 @@ pub mod Turns
 pub mod Orders
 pub mod Agreeing
 pub mod Ids
+pub mod Places

@@ -84,7 +84,7 @@ level-none (e ∷ es) h =
     let ih = level-none es (λ k d l. h (suc k) d (omega arith)) in
     omega arith
 
-goes-split : (old new : List Entry) → take (length old) new ≡ old → new ≡ old ++ drop (length old) new
+pub goes-split : (old new : List Entry) → take (length old) new ≡ old → new ≡ old ++ drop (length old) new
 goes-split old new kept = sym (take-append-drop (length old) new) ∙ ap (λ (es : List Entry). es ++ drop (length old) new) kept
 
 pub level-appends : (held : List Attached) (old new : List Entry) → Appends held old new → level_of new ≡ level_of old

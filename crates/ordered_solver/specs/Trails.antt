@@ -14,6 +14,20 @@ pub record IsNext (order : List Literal) (es : List Entry) (l : Literal) : Type 
   pub unassigned : value_in es l.var ≡ None
   pub earlier : (j : ℕ) (d : Literal) → j < place → value_in es (slice_index_or order j d).var ≢ None
 
+-- each literal of the order before a place has a value
+abbrev pub HasPassed : List Literal → ℕ → List Entry → Type 0
+HasPassed order place es = (j : ℕ) (d : Literal) → j < place → value_in es (slice_index_or order j d).var ≢ None
+
+-- the place of the first literal of the order whose variable has no value
+pub record IsNextAt (order : List Literal) (es : List Entry) (place : ℕ) : Type 0 where
+  pub in_order : place < length order
+  pub unassigned : (d : Literal) → value_in es (slice_index_or order place d).var ≡ None
+  pub earlier : HasPassed order place es
+
+-- at the end of each level each literal of the order before the level's place has a value
+abbrev pub ArePassed : List Literal → List Entry → List ℕ → Type 0
+ArePassed order es places = (n : ℕ) → n ≤ level_of es → HasPassed order (slice_index_or places n 0) (upto_level n es)
+
 -- each variable of the order has a value
 abbrev pub IsFull : List Literal → List Entry → Type 0
 IsFull order es = (j : ℕ) (d : Literal) → j < length order → value_in es (slice_index_or order j d).var ≢ None

@@ -3,38 +3,59 @@
 //! A descent puts literals onto the trail and changes nothing else. It ends at a constraint in conflict, which
 //! `learning` takes apart, or once each variable has a value, which is a model. Decisions follow the order alone: the
 //! first literal whose variable has no value is made true (Davis, Putnam, Logemann and Loveland).
+//!
+//! The order is not gone over from its start each time. Each level has a place in it, before which each literal had a
+//! value when the level was begun, and still has as long as the level stands. So a jump back changes no place.
 
-ghost use Rattle.std.specs.Prelude.{◌≡◌, ◌≤◌, length, All, IfSome, IfNone};
+ghost use Rattle.std.specs.Prelude.{ℕ, ◌≡◌, ◌<◌, ◌≤◌, length, slice_index_or, All, IfOk, IfSome, IfNone};
 ghost use Rattle.trail_state.specs.Trail.{Entry};
 ghost use Rattle.propagate.specs.Forced.{AllClosed, IsConflict};
 ghost use Rattle.ordered_solver.specs.Engines.{IsLoaded};
-ghost use Rattle.ordered_solver.specs.Trails.{IsVarBelow, IsNext, IsFull, IsOrdered, GoesOnFrom};
+ghost use Rattle.ordered_solver.specs.Trails.{IsVarBelow, IsNextAt, HasPassed, ArePassed, IsFull, IsOrdered, GoesOnFrom};
 
 use super::engine::Engine;
 use pb_constraints::{ConId, Lit};
+use std::alloc::{AllocError, Global};
 use trail_state::Trail;
 
-/// The first literal of the order whose variable has no value.
-fn next_decision(order: &[Lit], trail: &Trail) -> Option<Lit>
-    requires { All (IsVarBelow trail.now.variables) order.now }
-    ensures next { IfSome result (IsNext order.now trail.now.entries) }
-    ensures in_range { IfSome result (IsVarBelow trail.now.variables) }
+/// The order's start as the place of each level that there can be.
+pub fn first_places(alloc: Global, variables: u64) -> Result<Vec<usize>, AllocError>
+    ensures long { IfOk result (λ p. variables < length p.items) }
+    ensures start { IfOk result (λ p. (n : ℕ) → slice_index_or p.items n 0 ≡ 0) }
+{
+    let mut places = Vec::new(alloc);
+    while places.len() as u64 <= variables {
+        places.push(0)?;
+    }
+    Ok(places)
+}
+
+/// The place of the first literal of the order whose variable has no value, where all before a place have one.
+fn next_decision(order: &[Lit], passed: usize, trail: &Trail) -> Option<usize>
+    requires { HasPassed order.now passed trail.now.entries }
+    ensures next { IfSome result (IsNextAt order.now trail.now.entries) }
     ensures full { IfNone result (IsFull order.now trail.now.entries) }
 {
-    for l in order {
-        if trail.value(l.var()).is_none() {
-            return Some(*l);
+    let mut place = passed;
+    while place < order.len() {
+        if trail.value(order[place].var()).is_none() {
+            return Some(place);
         }
+        place += 1;
     }
     None
 }
 
 impl Engine {
     /// Propagates and decides until a constraint is in conflict, or each variable has a value.
-    pub fn descend(&mut self, order: &[Lit]) -> Option<ConId>
+    pub fn descend(&mut self, order: &[Lit], places: &mut [usize]) -> Option<ConId>
         requires loaded { IsLoaded self.old.store self.old.propagator self.old.trail }
         requires in_range { All (IsVarBelow self.old.trail.variables) order.now }
         requires ordered { IsOrdered self.old.propagator.attached order.now self.old.trail.entries }
+        requires passed { ArePassed order.now self.old.trail.entries places.old }
+        requires long { self.old.trail.variables < length places.old }
+        ensures passed { ArePassed order.now self.new.trail.entries places.new }
+        ensures same_length { length places.new ≡ length places.old }
         ensures ordered { IsOrdered self.old.propagator.attached order.now self.new.trail.entries }
         ensures goes_on { GoesOnFrom self.old.trail.entries self.new.trail.entries }
         ensures conflict { IfSome result (IsConflict self.old.propagator.attached self.new.trail.entries) }
@@ -54,11 +75,14 @@ impl Engine {
             if conflict.is_some() {
                 return conflict;
             }
-            match next_decision(order, &self.trail) {
+            let passed = places[self.trail.level() as usize];
+            match next_decision(order, passed, &self.trail) {
                 None => return None,
-                Some(lit) => {
+                Some(place) => {
+                    let lit = order[place];
                     self.trail.decide(lit);
                     let _assigned = self.trail.assigned();
+                    places[self.trail.level() as usize] = place;
                 }
             }
         }

@@ -11,6 +11,7 @@ ghost use Rattle.ordered_solver.specs.Lessons.{IsFound};
 ghost use Rattle.ordered_solver.specs.Trails.{IsVarBelow, Covers, HasValues};
 
 use super::answer::Answer;
+use super::descent::first_places;
 use super::engine::Engine;
 use genotype::Order;
 use pb_constraints::Lit;
@@ -48,9 +49,10 @@ impl Engine {
         ensures loaded { OnOk result (IsLoaded self.new.store self.new.propagator self.new.trail) }
         ensures variables { self.new.trail.variables ≡ self.old.trail.variables }
     {
+        let mut places = first_places(alloc, self.trail.variables())?;
         let mut conflicts = 0;
         loop {
-            let Some(conflict) = self.descend(order) else {
+            let Some(conflict) = self.descend(order, &mut places) else {
                 let _assigned = self.trail.assigned();
                 return Ok(Answer::Model(values_of(alloc, &self.trail)?));
             };

@@ -5,3 +5,4 @@ pub mod Meaning
 pub mod Unique
 pub mod AtLeast
 pub mod Variables
+pub mod Adding

@@ -2,3 +2,4 @@ pub mod SignedSums
 pub mod NormalForm
 pub mod Groups
 pub mod Sets
+pub mod Adding

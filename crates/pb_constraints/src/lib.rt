@@ -11,6 +11,7 @@ ghost use Rattle.std.specs.Prelude.{◌≡◌, ◌↔◌, IsTrue, length, IfOk};
 ghost use Rattle.pb_rules.specs.Linear.{Linear, Holds, bits_of, VarsBelow, IsNormal};
 
 mod groups;
+pub mod laws;
 mod normal;
 mod parts;
 mod set;

@@ -1,3 +1,4 @@
 pub mod Marks
 pub mod Spellings
 pub mod Joining
+pub mod Legal

@@ -19,7 +19,7 @@ use Rattle.proof_words.proofs.Marks.{HasNoMark, op_of-numeral, after_some}
 
 -- ---- printed, and read
 
-number_of-decimal : (n : ℕ) → n < 2 ^ 63 → number_of (decimal n) ≡ Some n
+pub number_of-decimal : (n : ℕ) → n < 2 ^ 63 → number_of (decimal n) ≡ Some n
 number_of-decimal n lt = ap result_ok (plain_whole_of-decimal n lt)
 
 -- a letter that is no digit does not stand before digits

@@ -1,39 +1,36 @@
 -- The request of the words after `decode`.
-use Rattle.std.specs.Prelude.{◌∷◌, ◌&&◌, [], Bool, not, List, Option, Some, None, codes, if◌then◌else◌, length, nat_lt, option_and_then}
-use Rattle.std.specs.Str.{bytes_eq}
+use Rattle.std.specs.Prelude.{◌∷◌, ◌&&◌, [], Bool, List, Option, Some, None, codes, if◌then◌else◌, option_and_then}
 use Rattle.form_words.specs.Line.{Text, Use, line, value_of}
 use Rattle.form_words.specs.Table.{Table, form_of}
-use Rattle.run_words.specs.Values.{RequestValue, decode}
-
--- `-`, which stands for no file
-abbrev pub is_dash : Text → Bool
-is_dash text = bytes_eq text (codes "-")
-
--- a name, which may be `-`
-abbrev pub is_name : Text → Bool
-is_name text = nat_lt 0 (length text)
-
--- the name of a file, which isn't `-`
-abbrev pub is_file : Text → Bool
-is_file text = is_name text && not (is_dash text)
+use Rattle.run_words.specs.Names.{is_name, is_file}
 
 -- three places and no options
 abbrev pub decode_table : Table
 decode_table = record { places = codes "tgff" ∷ codes "arch" ∷ codes "geno" ∷ []; options = [] }
+
+-- the table in words
+abbrev pub decode_usage : Text
+decode_usage = codes "usage: dse decode TGFF ARCH GENO\n"
+
+-- the names of the file of task graphs and tables, of the architecture file and of the genotype file
+pub record DecodeValue : Type 0 where
+  pub tgff : Text
+  pub arch : Text
+  pub geno : Text
 
 -- a file or `-` for the task graphs and tables, a file for the architecture, and a file or `-` for the genotype
 abbrev pub are_taken : Text → Text → Text → Bool
 are_taken tgff arch geno = is_name tgff && (is_file arch && is_name geno)
 
 -- the request of the names at the places
-abbrev pub decode_with : Option Text → Option Text → Option Text → Option RequestValue
-decode_with (Some tgff) (Some arch) (Some geno) = if are_taken tgff arch geno then Some (decode tgff arch geno) else None
+abbrev pub decode_with : Option Text → Option Text → Option Text → Option DecodeValue
+decode_with (Some tgff) (Some arch) (Some geno) = if are_taken tgff arch geno then Some (record { tgff = tgff; arch = arch; geno = geno }) else None
 decode_with _ _ _ = None
 
 -- the request of the values of a line
-abbrev pub decode_of : List Use → Option RequestValue
+abbrev pub decode_of : List Use → Option DecodeValue
 decode_of us = decode_with (value_of (codes "tgff") us) (value_of (codes "arch") us) (value_of (codes "geno") us)
 
 -- the request of the words
-unfoldable pub decode_request : List Text → Option RequestValue
+unfoldable pub decode_request : List Text → Option DecodeValue
 decode_request words = option_and_then decode_of (line (form_of decode_table) words)

@@ -1,3 +1,4 @@
+pub mod Names
 pub mod Decoding
-pub mod Requests
 pub mod Values
+pub mod Requests

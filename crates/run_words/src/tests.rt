@@ -10,7 +10,7 @@ fn asked(alloc: Global, line: &str) -> Result<String, Fail> {
     for word in line.split(' ') {
         words.push(String::from_str(alloc, word)?)?;
     }
-    match read_words(alloc, &words)? {
+    match read_words(alloc, &words, &[])? {
         Some(Request::Decode { tgff, arch, geno }) => Ok(format!(in alloc;
             "{tgff} {arch} {geno}"
         )?),

@@ -13,12 +13,12 @@ use Rattle.spec_join.specs.Reading.{after}
 abbrev graphs : TgffValue
 graphs = record {
   graphs = record {
-        index = 0;
-        period = None;
-        tasks = record { name = codes "a"; kind = 2 } ∷ record { name = codes "b"; kind = 5 } ∷ record { name = codes "e"; kind = 9 } ∷ [];
-        arcs = record { name = codes "m"; from = 0; to = 1; kind = 1 } ∷ record { name = codes "o"; from = 0; to = 2; kind = 1 } ∷ [];
-        deadlines = record { task = 1; at = pos (200 * 10 ^ 12); hard = true } ∷ record { task = 0; at = negsuc (5 * 10 ^ 11 - 1); hard = false } ∷ [];
-      }
+    index = 0;
+    period = None;
+    tasks = record { name = codes "a"; kind = 2 } ∷ record { name = codes "b"; kind = 5 } ∷ record { name = codes "e"; kind = 9 } ∷ [];
+    arcs = record { name = codes "m"; from = 0; to = 1; kind = 1 } ∷ record { name = codes "o"; from = 0; to = 2; kind = 1 } ∷ [];
+    deadlines = record { task = 1; at = pos (200 * 10 ^ 12); hard = true } ∷ record { task = 0; at = negsuc (5 * 10 ^ 11 - 1); hard = false } ∷ [];
+  }
       ∷ record {
         index = 1;
         period = None;
@@ -28,13 +28,13 @@ graphs = record {
       }
       ∷ [];
   tables = record {
-        name = codes "PE";
-        index = 0;
-        rows = record { words = codes "33" ∷ codes "0" ∷ [] }
-            ∷ record { words = codes "2" ∷ codes "48.5" ∷ codes "1.5" ∷ codes "1" ∷ [] }
-            ∷ record { words = codes "5" ∷ codes "10" ∷ codes "2" ∷ codes "0" ∷ [] }
-            ∷ [];
-      }
+    name = codes "PE";
+    index = 0;
+    rows = record { words = codes "33" ∷ codes "0" ∷ [] }
+        ∷ record { words = codes "2" ∷ codes "48.5" ∷ codes "1.5" ∷ codes "1" ∷ [] }
+        ∷ record { words = codes "5" ∷ codes "10" ∷ codes "2" ∷ codes "0" ∷ [] }
+        ∷ [];
+  }
       ∷ record { name = codes "Q"; index = 0; rows = record { words = codes "1" ∷ codes "7" ∷ [] } ∷ record { words = codes "3" ∷ codes "2.9" ∷ [] } ∷ [] }
       ∷ [];
 }

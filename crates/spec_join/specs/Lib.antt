@@ -6,4 +6,3 @@ pub mod Refusals
 pub mod Reading
 pub mod Fits
 pub mod Stops
-pub mod Whole

@@ -8,8 +8,8 @@
 //! has it of each statement.
 //! `joiner` has the state and `starting` makes its first one, `weights`, `items`, `changes`,
 //! `messages`, `merging`, `tables` and `quantities` carry out one kind of statement each, `joining`
-//! goes over the lines once, and `whole` reads the files before. What a table line is refused for
-//! is found in `table_faults`, before anything is made of it.
+//! goes over the lines once. What a table line is refused for is found in `table_faults`, before
+//! anything is made of it.
 #![tactic(auto)]
 
 mod changes;
@@ -27,7 +27,5 @@ mod statements;
 mod table_faults;
 mod tables;
 mod weights;
-mod whole;
 
 pub use joining::join;
-pub use whole::{Loaded, MAX_BYTES, read_spec};

@@ -1,15 +1,15 @@
 use Rattle.std.proofs.Common.{◌≡◌, ◌≢◌, ℕ, ◌+◌, ◌<◌, ◌≤◌, ◌^◌, Bool, true, false, cond, eqb, Option, Some, None, List, [], ◌∷◌, ◌++◌, length, get_or, set, take, refl, sym, ap, ◌∙◌, subst, arith, is_some, is_none, map, replicate, count_by, ◌-◌, length-take, length-set, zero, suc, get_or-set_same, get_or-set_other, inl, inr}
-use Rattle.std.proofs.lemmas.List.{length-replicate, take_more, take_more_set, get_or-take, ext_get_or, get_or-map, length-map, length-append, take-append-le, take-take, take_all, get_or_past}
+use Rattle.std.proofs.lemmas.List.{length-replicate, take_more, take_more_set, get_or-take, ext_get_or, get_or-map, length-map, length-append, take-append-le, take-take, take_all, get_or_past, get_or_push}
 use Rattle.std.proofs.lemmas.List.Sums.{sum_by-set, count_by-le-length, sum_by_push, sum_by-append}
 use Rattle.std.proofs.lemmas.List.Folds.{sum_by-replicate}
 use Rattle.std.proofs.lemmas.Bool.{cases_eq, cases_lt}
 use Rattle.std.proofs.lemmas.Bool.Decides.{nat_tests}
 use Rattle.pb_rules.specs.Literal.{Literal}
 use Rattle.pb_constraints.specs.declared.ConId.{ConId}
-use Rattle.trail_state.specs.Trail.{Entry, is_decision, level_of, value_in, reason_in, IsDistinct, reasoned, with_reason}
+use Rattle.trail_state.specs.Trail.{Entry, is_decision, level_of, level_in, value_in, reason_in, IsDistinct, reasoned, with_reason}
 use Rattle.trail_state.specs.Fields.{pair_up, entries_of, IsTrail}
 use Rattle.trail_state.proofs.Entries.{value_in-none, value_in-at, reason_none}
-use Rattle.trail_state.proofs.Levels.{first-at, level_of-with_reason}
+use Rattle.trail_state.proofs.Levels.{first-at, level_of-with_reason, level_in-with_reason}
 
 abbrev none_of_ℕ : Option ℕ
 none_of_ℕ = None
@@ -329,6 +329,22 @@ distinct ls rs ps n level t k d h =
     let e : j ≡ k = cc in
     omega arith)
 
+-- before the last place its variable has no value
+pub none-before_last : (ls : List Literal) (rs : List (Option ConId)) (ps : List (Option ℕ)) (n level : ℕ) → 0 < n → IsTrail ls rs ps n level → (l : Literal) (r : Option ConId) → l ≡ get_or ls (n - 1) l → r ≡ get_or rs (n - 1) r → value_in (entries_of ls rs (n - 1)) l.var ≡ None
+none-before_last ls rs ps n level pos t l r el er =
+    let e : Entry = record { lit = l; reason = r } in
+    let es : List Entry = entries_of ls rs n in
+    let fs : List Entry = entries_of ls rs (n - 1) in
+    let b = room ls rs ps n level t in
+    let all = b.entries in
+    let lits = b.lits in
+    let reasons = b.reasons in
+    let len : length fs ≡ n - 1 = length-entries ls rs (n - 1) (omega arith) (omega arith) in
+    let more : es ≡ fs ++ e ∷ [] = (IsTrail-pop_read ls rs ps n level pos t l r el er).0 in
+    let first : take (n - 1) es ≡ fs = ap (take (n - 1)) more ∙ take-append-le (n - 1) fs (e ∷ []) (omega arith) ∙ take_all (n - 1) fs (omega arith) in
+    let last : get_or es (n - 1) e ≡ e = ap (λ (us : List Entry). get_or us (n - 1) e) more ∙ get_or_push fs e e (n - 1) len in
+    ap (λ (us : List Entry). value_in us l.var) (sym first) ∙ ap (λ (f : Entry). value_in (take (n - 1) es) f.lit.var) (sym last) ∙ distinct ls rs ps n level t (n - 1) e (omega arith)
+
 -- other lists of literals and reasons with the same entries and room
 pub IsTrail-room : (ls ls' : List Literal) (rs rs' : List (Option ConId)) (ps : List (Option ℕ)) (n level : ℕ) → IsTrail ls rs ps n level → length ps ≤ length ls' → length ps ≤ length rs' → take n ls' ≡ take n ls → take n rs' ≡ take n rs → IsTrail ls' rs' ps n level
 IsTrail-room ls ls' rs rs' ps n level t room-ls room-rs same-ls same-rs =
@@ -439,16 +455,23 @@ entries-reason ls rs ps n level t x k r e =
               rw (s, miss) refl)
         ]
 
+-- no entry of a variable that has a reason is a decision
+was-pushed : (ls : List Literal) (rs : List (Option ConId)) (ps : List (Option ℕ)) (n level : ℕ) → IsTrail ls rs ps n level → (x : ℕ) → is_none (reason_in (entries_of ls rs n) x) ≡ false → (j : ℕ) (d : Entry) → j < length (entries_of ls rs n) → (get_or (entries_of ls rs n) j d).lit.var ≡ x → is_decision (get_or (entries_of ls rs n) j d) ≡ false
+was-pushed ls rs ps n level t x some j d h v =
+    let es : List Entry = entries_of ls rs n in
+    let P : ℕ → Type 0 = λ y. value_in (take j es) y ≡ None in
+    let first = first-at es x j d h v (subst P v (distinct ls rs ps n level t j d h)) in
+    ap is_none (sym first.reason) ∙ some
+
+pub levels-reason : (ls : List Literal) (rs : List (Option ConId)) (ps : List (Option ℕ)) (n level : ℕ) → IsTrail ls rs ps n level → (x k : ℕ) (r : ConId) → get_or ps x None ≡ Some k → is_none (reason_in (entries_of ls rs n) x) ≡ false → (y : ℕ) → level_in (entries_of ls (set rs k (Some r)) n) y ≡ level_in (entries_of ls rs n) y
+levels-reason ls rs ps n level t x k r e some y =
+    ap (λ (es : List Entry). level_in es y) (entries-reason ls rs ps n level t x k r e) ∙ level_in-with_reason x r (entries_of ls rs n) y (was-pushed ls rs ps n level t x some)
+
 -- another reason for a literal that has one keeps a trail's fields tied together
 pub IsTrail-reason : (ls : List Literal) (rs : List (Option ConId)) (ps : List (Option ℕ)) (n level : ℕ) → IsTrail ls rs ps n level → (x k : ℕ) (r : ConId) → get_or ps x None ≡ Some k → is_none (reason_in (entries_of ls rs n) x) ≡ false → IsTrail ls (set rs k (Some r)) ps n level
 IsTrail-reason ls rs ps n level t x k r e some =
     let len-rs = length-set rs k (Some r) in
     let es : List Entry = entries_of ls rs n in
-    let apart = distinct ls rs ps n level t in
-    let pushed : (j : ℕ) (d : Entry) → j < length es → (get_or es j d).lit.var ≡ x → is_none (get_or es j d).reason ≡ false = λ j d h v.
-    (let P : ℕ → Type 0 = λ y. value_in (take j es) y ≡ None in
-    let first = first-at es x j d h v (subst P v (apart j d h)) in
-    ap is_none (sym first.reason) ∙ some) in
     record {
       few = t.few;
       lits_room = t.lits_room;
@@ -458,5 +481,5 @@ IsTrail-reason ls rs ps n level t x k r e some =
       placed = t.placed;
       within = t.within;
       same_var = t.same_var;
-      level_is = t.level_is ∙ sym (ap level_of (entries-reason ls rs ps n level t x k r e) ∙ level_of-with_reason x r es pushed);
+      level_is = t.level_is ∙ sym (ap level_of (entries-reason ls rs ps n level t x k r e) ∙ level_of-with_reason x r es (was-pushed ls rs ps n level t x some));
     }

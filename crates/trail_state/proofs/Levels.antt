@@ -1,7 +1,7 @@
 use Rattle.std.proofs.Common.{◌≡◌, ℕ, ◌+◌, ◌<◌, ◌≤◌, Bool, true, false, cond, eqb, Option, Some, None, List, [], ◌∷◌, ◌++◌, length, get_or, take, refl, sym, ap, ◌∙◌, subst, arith, zero, suc}
 use Rattle.std.proofs.lemmas.Bool.Decides.{nat_tests}
 use Rattle.std.proofs.lemmas.Grind.{common_steps}
-use Rattle.std.proofs.lemmas.List.{take_more}
+use Rattle.std.proofs.lemmas.List.{take_more, take_all, take-append-le, length_push, get_or_push}
 use Rattle.std.proofs.lemmas.List.Sums.{sum_by-cons, sum_by_push, count_by-le-length}
 use Rattle.pb_rules.specs.Partial.{GoesOn}
 use Rattle.pb_constraints.specs.declared.ConId.{ConId}
@@ -81,6 +81,34 @@ level_in-le (e ∷ es) x = go (eqb e.lit.var x) refl (level_in-le es x)
     go : (o : Bool) → eqb e.lit.var x ≡ o → level_in es x ≤ level_of es → level_in (e ∷ es) x ≤ level_of (e ∷ es)
     go true q ih = (let c = level-cons e es in rw q (omega arith))
     go false q ih = (let c = level-cons e es in rw q (omega arith))
+
+-- further entries leave the level of a variable that has a value
+pub level_in-append : (fs gs : List Entry) (x : ℕ) (b : Bool) → value_in fs x ≡ Some b → level_in (fs ++ gs) x ≡ level_in fs x
+level_in-append [] gs x b h = absurd (cc)
+level_in-append (e ∷ fs) gs x b h = go (eqb e.lit.var x) refl (level_in-append fs gs x b)
+  where
+    go : (o : Bool) → eqb e.lit.var x ≡ o → (value_in fs x ≡ Some b → level_in (fs ++ gs) x ≡ level_in fs x) → level_in ((e ∷ fs) ++ gs) x ≡ level_in (e ∷ fs) x
+    go true q ih = rw q refl
+    go false q ih = (let n : value_in (e ∷ fs) x ≡ value_in fs x = rw q refl in rw (q, ih (sym n ∙ h)) refl)
+
+-- a new entry's variable has the current level
+pub level_in-push : (es : List Entry) (e : Entry) → value_in es e.lit.var ≡ None → level_in (es ++ e ∷ []) e.lit.var ≡ level_of (es ++ e ∷ [])
+level_in-push es e h =
+    let fs : List Entry = es ++ e ∷ [] in
+    let len = length_push es e in
+    let g : get_or fs (length es) e ≡ e = get_or_push es e e (length es) refl in
+    let t : take (length es) fs ≡ es = take-append-le (length es) es (e ∷ []) (omega arith) ∙ take_all (length es) es (omega arith) in
+    let at = first-at fs e.lit.var (length es) e (omega arith) (ap (λ (f : Entry). f.lit.var) g) (ap (λ (us : List Entry). value_in us e.lit.var) t ∙ h) in
+    at.level ∙ ap (λ (us : List Entry). level_of us + cond (is_decision (get_or fs (length es) e)) 1 0) t ∙ ap (λ (f : Entry). level_of es + cond (is_decision f) 1 0) g ∙ sym (level-push es e)
+
+-- another reason leaves the levels, where no entry of the variable is a decision
+pub level_in-with_reason : (x : ℕ) (reason : ConId) (es : List Entry) (y : ℕ) → ((k : ℕ) (d : Entry) → k < length es → (get_or es k d).lit.var ≡ x → is_decision (get_or es k d) ≡ false) → level_in (with_reason x reason es) y ≡ level_in es y
+level_in-with_reason x reason [] y h = refl
+level_in-with_reason x reason (e ∷ es) y h = go (eqb e.lit.var x) refl (h 0 e (omega arith)) (level_in-with_reason x reason es y (λ k d l. h (suc k) d (omega arith)))
+  where
+    go : (b : Bool) → eqb e.lit.var x ≡ b → (e.lit.var ≡ x → is_decision e ≡ false) → level_in (with_reason x reason es) y ≡ level_in es y → level_in (with_reason x reason (e ∷ es)) y ≡ level_in (e ∷ es) y
+    go true q n ih = (let hit : e.lit.var ≡ x = grind (arith, nat_tests) in rw (q, n hit, ih) refl)
+    go false q n ih = rw (q, ih) refl
 
 -- another reason leaves the level, where no entry of the variable is a decision
 pub level_of-with_reason : (x : ℕ) (reason : ConId) (es : List Entry) → ((k : ℕ) (d : Entry) → k < length es → (get_or es k d).lit.var ≡ x → is_decision (get_or es k d) ≡ false) → level_of (with_reason x reason es) ≡ level_of es

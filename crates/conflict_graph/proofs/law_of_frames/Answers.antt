@@ -1,5 +1,5 @@
-use Rattle.std.proofs.Common.{◌≡◌, ◌∙◌, ◌+◌, ap, arith, length, List, Some}
-use Rattle.pb_rules.specs.Frames.{Line, Given, context_of, base_of, given_by}
+use Rattle.std.proofs.Common.{◌≡◌, ◌∙◌, ◌+◌, ap, arith, length}
+use Rattle.pb_rules.specs.Frames.{context_of, base_of, given_by}
 use Rattle.pb_rules.proofs.Given.{given-push, given-ids, given-knows, derived-stands}
 use Rattle.proof_log.specs.Log.{LogValue, next_id}
 use Rattle.conflict_graph.proofs.law_of_frames.Goals as goal

@@ -1,11 +1,14 @@
-use Rattle.std.proofs.Common.{◌≡◌, ◌*◌, ◌∙◌, sym, ap, subst, arith, List, ℕ, Some, inr, map}
-use Rattle.std.specs.Prelude.{option_map}
+use Rattle.std.proofs.Common.{◌≡◌, ◌*◌, ◌∙◌, sym, ap, subst, arith, List, ℕ, map}
+use Rattle.std.specs.Prelude.{Option, Result, Err}
 use Rattle.pb_rules.specs.declared.Term.{Term}
-use Rattle.pb_rules.specs.Linear.{IsNormal, total}
+use Rattle.pb_rules.specs.Linear.{Linear, IsNormal, total}
 use Rattle.pb_rules.specs.CuttingPlanes.{times, multiplied}
+use Rattle.pb_rules.specs.Operations.{Fault, too_large, unless_too_large}
 use Rattle.pb_rules.proofs.Normal.{times-total, times-normal, excess-sum, excess-degree, excess-none}
-use Rattle.cutting_planes.specs.declared.RuleFault.TheVariants.{TooLarge}
 use Rattle.cutting_planes.proofs.times.Goals as goal
+
+abbrev failed : ℕ → Result Linear Fault
+failed m = Err (too_large m)
 
 pub returns-then-sum-ge-LIMIT-clause-refused : goal.returns-then-sum-ge-LIMIT-clause-refused
 returns-then-sum-ge-LIMIT-clause-refused c =
@@ -13,7 +16,7 @@ returns-then-sum-ge-LIMIT-clause-refused c =
     let n = c.args.factor in
     let e : c.from.result * c.from-2.result ≡ total (times n a).terms = ap (λ (x : ℕ). x * c.from-2.result) c.from.ensures ∙ ap (λ (y : ℕ). n * y) (c.from-2.ensures ∙ c.coefficient_sum.ensures ∙ ap total c.terms.ensures.value) ∙ sym (times-total n a.terms) in
     let big = c.if-sum-ge-LIMIT.true in
-    inr (ap (option_map TooLarge) (excess-sum (times n a) (omega arith)) ∙ ap (λ (m : ℕ). Some (TooLarge m)) (sym e))
+    ap (λ (o : Option ℕ). unless_too_large o (times n a)) (excess-sum (times n a) (omega arith)) ∙ ap failed (sym e)
 
 pub returns-then-degree-ge-LIMIT-clause-refused : goal.returns-then-degree-ge-LIMIT-clause-refused
 returns-then-degree-ge-LIMIT-clause-refused c =
@@ -23,7 +26,7 @@ returns-then-degree-ge-LIMIT-clause-refused c =
     let f : c.from-3.result * c.from-4.result ≡ (times n a).degree = ap (λ (x : ℕ). x * c.from-4.result) c.from-3.ensures ∙ ap (λ (y : ℕ). n * y) (c.from-4.ensures ∙ c.degree.ensures.value) in
     let small = c.if-sum-ge-LIMIT.false in
     let big = c.if-degree-ge-LIMIT.true in
-    inr (ap (option_map TooLarge) (excess-degree (times n a) (omega arith) (omega arith)) ∙ ap (λ (m : ℕ). Some (TooLarge m)) (sym f))
+    ap (λ (o : Option ℕ). unless_too_large o (times n a)) (excess-degree (times n a) (omega arith) (omega arith)) ∙ ap failed (sym f)
 
 pub of_normal-requires : goal.of_normal-requires
 of_normal-requires c =

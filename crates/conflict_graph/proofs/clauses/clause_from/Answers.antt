@@ -1,4 +1,4 @@
-use Rattle.std.proofs.Common.{◌≡◌, ◌∙◌, ◌<◌, ◌≤◌, ◌+◌, ◌++◌, ◌∷◌, [], arith, ℕ, sym, ap, refl, Option, Some, None, Bool, List, subst, zero-add, length, ◌^◌}
+use Rattle.std.proofs.Common.{◌≡◌, ◌∙◌, ◌<◌, ◌++◌, ◌∷◌, [], arith, sym, ap, Option, Some, Bool, List, subst, zero-add, length, ◌^◌}
 use Rattle.std.proofs.lemmas.List.{append-nil}
 use Rattle.pb_rules.specs.declared.Term.{Term}
 use Rattle.pb_rules.specs.Literal.{Literal}

@@ -1,4 +1,4 @@
-use Rattle.std.proofs.Common.{◌≡◌, ◌≢◌, ◌<◌, ◌≤◌, ◌∙◌, ◌⊎◌, inl, inr, sym, ap, arith, ℕ, List, length, get_or, subst, true, not}
+use Rattle.std.proofs.Common.{◌≡◌, ◌≢◌, ◌<◌, ◌≤◌, ◌∙◌, ◌⊎◌, sym, ap, arith, ℕ, List, length, get_or, subst, true, not}
 use Rattle.pb_rules.specs.declared.Term.{Term}
 use Rattle.pb_rules.specs.Partial.{is_false}
 use Rattle.trail_state.specs.Trail.{value_in, level_in, level_of}

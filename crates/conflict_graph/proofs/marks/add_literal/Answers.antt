@@ -1,4 +1,4 @@
-use Rattle.std.proofs.Common.{◌≡◌, ◌≢◌, ◌≤◌, ◌<◌, ◌+◌, ◌^◌, ◌∙◌, sym, ap, refl, arith, Bool, true, false, not, get_or, set, None, Some, List, length, subst, Option, ℕ}
+use Rattle.std.proofs.Common.{◌≡◌, ◌≢◌, ◌+◌, ◌∙◌, sym, ap, refl, arith, not, get_or, set, None, Some, length, subst, ℕ}
 use Rattle.conflict_graph.specs.Learning.{signs, currents}
 use Rattle.conflict_graph.proofs.Counts.{currents-le}
 use Rattle.conflict_graph.proofs.Writing.{added-current, added-lower, none-of}

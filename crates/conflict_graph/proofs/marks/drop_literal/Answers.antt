@@ -1,4 +1,4 @@
-use Rattle.std.proofs.Common.{◌≡◌, ◌≢◌, ◌≤◌, ◌<◌, ◌+◌, ◌-◌, ◌^◌, ◌∙◌, sym, ap, refl, arith, Bool, true, false, not, get_or, set, None, Some, List, length, subst, Option, ℕ}
+use Rattle.std.proofs.Common.{◌≡◌, ◌≢◌, ◌-◌, ◌∙◌, sym, ap, refl, Bool, not, get_or, set, None, length, subst, Option, ℕ}
 use Rattle.conflict_graph.specs.Learning.{signs, currents}
 use Rattle.conflict_graph.proofs.Writing.{dropped-current, dropped-lower}
 use Rattle.conflict_graph.proofs.marks.drop_literal.Goals as goal

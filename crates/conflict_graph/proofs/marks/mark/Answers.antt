@@ -1,10 +1,9 @@
-use Rattle.std.proofs.Common.{◌≡◌, ◌≤◌, ◌<◌, ◌+◌, ◌^◌, ◌∙◌, sym, ap, refl, arith, Bool, true, false, get_or, None, Some, List, length, subst, ℕ, take, Option, cond, eqb}
+use Rattle.std.proofs.Common.{◌≡◌, ◌∙◌, sym, ap, refl, Bool, true, false, List, length, subst, Option}
 use Rattle.pb_rules.specs.declared.Term.{Term}
-use Rattle.pb_rules.specs.Linear.{Linear, IsNormal}
+use Rattle.pb_rules.specs.Linear.{IsNormal}
 use Rattle.pb_rules.specs.Partial.{is_false}
-use Rattle.conflict_graph.specs.Clauses.{false_signs}
 use Rattle.constraint_store.specs.Live.{constraint_of}
-use Rattle.conflict_graph.specs.Learning.{signs, either, currents}
+use Rattle.conflict_graph.specs.Learning.{signs}
 use Rattle.conflict_graph.proofs.Writing.{mark-false, mark-kept, counted-join}
 use Rattle.conflict_graph.proofs.marks.mark.Goals as goal
 use Rattle.conflict_graph.proofs.marks.mark.Goals.{then-is_false, else-is_false}

@@ -1,12 +1,11 @@
-use Rattle.std.proofs.Common.{◌≡◌, ◌≤◌, ◌<◌, ◌+◌, ◌++◌, ◌∷◌, [], ◌^◌, ◌∙◌, sym, ap, refl, arith, Bool, true, false, get_or, None, List, length, subst}
-use Rattle.pb_rules.specs.declared.Term.{Term}
-use Rattle.pb_rules.specs.Linear.{Linear, IsNormal, total}
+use Rattle.std.proofs.Common.{◌≡◌, ◌<◌, ◌++◌, ◌∷◌, [], ◌^◌, ◌∙◌, sym, ap, arith, true, false}
+use Rattle.pb_rules.specs.Linear.{total}
 use Rattle.pb_rules.specs.Partial.{is_false}
 use Rattle.pb_rules.specs.declared.Op.TheVariants.{Id, Weaken}
 use Rattle.constraint_store.specs.Live.{proof_id_of}
 use Rattle.conflict_graph.specs.Learning.{signs}
 use Rattle.pb_rules.proofs.Rooms.{open_weight_fits}
-use Rattle.conflict_graph.proofs.Writing.{explain-kept, explain-weakened, explain-end}
+use Rattle.conflict_graph.proofs.Writing.{explain-kept, explain-weakened}
 use Rattle.conflict_graph.proofs.reasons.explain.Goals as goal
 use Rattle.conflict_graph.proofs.reasons.explain.Goals.{then-not-is_false+in_ok-push-2, else-not-is_false}
 

@@ -1,4 +1,4 @@
-use Rattle.std.proofs.Common.{◌≡◌, ◌≢◌, ◌≤◌, ◌<◌, ◌+◌, ◌-◌, ◌^◌, ◌∙◌, sym, ap, refl, arith, Bool, true, false, not, get_or, set, None, Some, List, length, subst, Option, ℕ}
+use Rattle.std.proofs.Common.{◌≡◌, ◌∙◌, ap, Bool, not, set, Some, ℕ}
 use Rattle.constraint_store.specs.Live.{constraint_of, proof_id_of}
 use Rattle.conflict_graph.specs.Learning.{signs}
 use Rattle.pb_rules.specs.Partial.{flipped}

@@ -1,15 +1,14 @@
-use Rattle.std.proofs.Common.{◌≡◌, ◌≢◌, ◌≤◌, ◌<◌, ◌+◌, ◌-◌, ◌++◌, ◌∷◌, [], ◌^◌, ◌∙◌, sym, ap, refl, arith, Bool, true, false, not, get_or, set, None, Some, List, length, subst, Option, ℕ, take, IsTrue}
-use Rattle.std.proofs.lemmas.Grind.{common_steps}
+use Rattle.std.proofs.Common.{◌≡◌, ◌++◌, ◌∷◌, [], ◌∙◌, sym, ap, arith, Bool, get_or, List, length, subst, Option, ℕ, take}
 use Rattle.pb_rules.specs.Literal.{Literal}
 use Rattle.pb_rules.specs.Linear.{Linear, VarsBelow}
 use Rattle.pb_rules.specs.Partial.{InConflict}
-use Rattle.conflict_graph.specs.Clauses.{false_signs, clause_ops}
+use Rattle.conflict_graph.specs.Clauses.{clause_ops}
 use Rattle.pb_rules.specs.declared.Op.{Op}
 use Rattle.pb_rules.specs.declared.Op.TheVariants.{Add, Saturate}
 use Rattle.constraint_store.specs.Live.{constraint_of, proof_id_of}
 use Rattle.trail_state.specs.Trail.{reason_in, value_in}
-use Rattle.conflict_graph.specs.Learning.{signs, either, currents, Learning}
-use Rattle.pb_rules.specs.Partial.{flipped, GoesOn}
+use Rattle.conflict_graph.specs.Learning.{signs, currents}
+use Rattle.pb_rules.specs.Partial.{flipped}
 use Rattle.pb_rules.proofs.Assignments.{forced-flip}
 use Rattle.conflict_graph.proofs.Resolving.{at-place, can-resolve, no-decision, before-goes-on, is-resolvent, learning-same}
 use Rattle.conflict_graph.proofs.resolution.resolve.Goals as goal

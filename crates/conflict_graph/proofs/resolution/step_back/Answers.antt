@@ -1,6 +1,6 @@
-use Rattle.std.proofs.Common.{◌≡◌, ◌≢◌, ◌≤◌, ◌<◌, ◌+◌, ◌-◌, ◌++◌, ◌∷◌, [], ◌^◌, ◌∙◌, sym, ap, refl, arith, Bool, true, false, not, get_or, set, None, Some, List, length, subst, Option, ℕ, take, IsTrue}
+use Rattle.std.proofs.Common.{◌≡◌, ◌<◌, ◌∙◌, sym, ap, arith, Bool, get_or, set, None, List, length, subst, Option, ℕ, take}
 use Rattle.pb_rules.specs.Literal.{Literal}
-use Rattle.trail_state.specs.Trail.{reason_in, value_in}
+use Rattle.trail_state.specs.Trail.{value_in}
 use Rattle.conflict_graph.specs.Learning.{signs}
 use Rattle.conflict_graph.proofs.Resolving.{at-place, values-back, skip-place, on-ok}
 use Rattle.conflict_graph.proofs.Writing.{none-of}

@@ -1,4 +1,4 @@
-use Rattle.std.proofs.Common.{◌≡◌, ◌≢◌, ◌≤◌, ◌<◌, ◌+◌, ◌-◌, ◌++◌, ◌∷◌, [], ◌^◌, ◌∙◌, sym, ap, refl, arith, Bool, true, false, not, get_or, set, None, Some, List, length, subst, Option, ℕ, take, IsTrue, map}
+use Rattle.std.proofs.Common.{◌≡◌, ◌++◌, ◌∙◌, sym, ap, refl, arith, Bool, List, length, subst, Option, ℕ, take}
 use Rattle.std.proofs.lemmas.List.{take_all, length-map}
 use Rattle.pb_rules.specs.Literal.{Literal}
 use Rattle.pb_rules.specs.Linear.{Linear}

@@ -1,6 +1,5 @@
 use Rattle.std.proofs.Common.{◌≡◌, sym, ap, ◌∙◌, ◌++◌, List, Bool, length, take, subst}
 use Rattle.std.specs.List.{flat_map}
-
 use Rattle.spec_model.specs.Spec.{bits_of, below, design_variables}
 use Rattle.encode_model.specs.Encoding.{encoding}
 use Rattle.encode_laws.specs.Exactness.{IsOnlyModel}

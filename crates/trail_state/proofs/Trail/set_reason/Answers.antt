@@ -1,51 +1,15 @@
-use Rattle.std.proofs.Common.{◌≡◌, ◌∙◌, sym, arith, None, Some, false, get_or, is_none}
-use Rattle.std.proofs.lemmas.Grind.{common_steps}
-use Rattle.std.proofs.lemmas.List.{get_or_read}
-use Rattle.trail_state.specs.Trail.{reason_in}
-use Rattle.trail_state.specs.Fields.{entries_of}
-use Rattle.trail_state.proofs.Fields.{room, place_some, place_there, entries-reason, IsTrail-reason}
+use Rattle.std.proofs.Common.{◌∙◌, refl, ap, arith, List}
+use Rattle.trail_state.specs.Trail.{Entry, value_in}
+use Rattle.trail_state.proofs.Entries.{value_in-with_reason}
+use Rattle.trail_state.proofs.Tabled.{tables-same}
 use Rattle.trail_state.proofs.Trail.set_reason.Goals as goal
-
-pub index-requires : goal.index-requires
-index-requires c =
-    let i = c.self.inside in
-    let pushed = rw (← c.self.view_is) at c.requires in
-    let some : is_none (reason_in (entries_of i.lits.items i.reasons.items i.used) c.args.var) ≡ false = grind (arith, common_steps) in
-    omega (arith, place_there i.lits.items i.reasons.items i.places.items i.used i.depth c.self.invariant c.args.var some)
-
-pub index_mut-requires : goal.index_mut-requires
-index_mut-requires c =
-    let i = c.self.inside in
-    let pushed = rw (← c.self.view_is) at c.requires in
-    let some : is_none (reason_in (entries_of i.lits.items i.reasons.items i.used) c.args.var) ≡ false = grind (arith, common_steps) in
-    let there = place_there i.lits.items i.reasons.items i.places.items i.used i.depth c.self.invariant c.args.var some in
-    let e : get_or i.places.items c.args.var None ≡ Some c.in-Some.place = sym (get_or_read i.places.items c.args.var c.index.result.now there c.index.ensures None) ∙ c.in-Some.is in
-    omega (arith, c.self.invariant.within c.args.var c.in-Some.place e, (room i.lits.items i.reasons.items i.places.items i.used i.depth c.self.invariant).reasons)
 
 pub invariant_of-self : goal.invariant_of-self
 invariant_of-self c =
     let i = c.self.inside in
-    let pushed = rw (← c.self.view_is) at c.requires in
-    let some : is_none (reason_in (entries_of i.lits.items i.reasons.items i.used) c.args.var) ≡ false = grind (arith, common_steps) in
-    let there = place_there i.lits.items i.reasons.items i.places.items i.used i.depth c.self.invariant c.args.var some in
-    let e : get_or i.places.items c.args.var None ≡ Some c.in-Some.place = sym (get_or_read i.places.items c.args.var c.index.result.now there c.index.ensures None) ∙ c.in-Some.is in
-    IsTrail-reason i.lits.items i.reasons.items i.places.items i.used i.depth c.self.invariant c.args.var c.in-Some.place c.args.reason e some
-
-pub returns-in-Some-clause-entries : goal.returns-in-Some-clause-entries
-returns-in-Some-clause-entries c =
-    let i = c.self.inside in
-    let pushed = rw (← c.self.view_is) at c.requires in
-    let some : is_none (reason_in (entries_of i.lits.items i.reasons.items i.used) c.args.var) ≡ false = grind (arith, common_steps) in
-    let there = place_there i.lits.items i.reasons.items i.places.items i.used i.depth c.self.invariant c.args.var some in
-    let e : get_or i.places.items c.args.var None ≡ Some c.in-Some.place = sym (get_or_read i.places.items c.args.var c.index.result.now there c.index.ensures None) ∙ c.in-Some.is in
-    rw (← c.self.view_is) (entries-reason i.lits.items i.reasons.items i.places.items i.used i.depth c.self.invariant c.args.var c.in-Some.place c.args.reason e)
-
-pub returns-in_default-clause-entries : goal.returns-in_default-clause-entries
-returns-in_default-clause-entries c =
-    let i = c.self.inside in
-    let pushed = rw (← c.self.view_is) at c.requires in
-    let some : is_none (reason_in (entries_of i.lits.items i.reasons.items i.used) c.args.var) ≡ false = grind (arith, common_steps) in
-    let there = place_there i.lits.items i.reasons.items i.places.items i.used i.depth c.self.invariant c.args.var some in
-    let e : get_or i.places.items c.args.var None ≡ c.index.result.now = sym (get_or_read i.places.items c.args.var c.index.result.now there c.index.ensures None) in
-    let none : c.index.result.now ≡ None = grind (arith, common_steps) in
-    absurd (place_some i.lits.items i.reasons.items i.places.items i.used i.depth c.self.invariant c.args.var some (e ∙ none))
+    let h = c.self.invariant in
+    let values = h.values_room in
+    let levels = h.levels_room in
+    let same = c.set_reason.ensures.variables in
+    tables-same i.stack c.set_reason.new.self i.values.items i.values.items i.levels.items i.levels.items h (omega arith) (omega arith) (λ x. refl) (λ x. refl)
+    (λ x. ap (λ (es : List Entry). value_in es x) c.set_reason.ensures.entries ∙ value_in-with_reason c.args.var c.args.reason i.stack.entries x) c.set_reason.ensures.levels

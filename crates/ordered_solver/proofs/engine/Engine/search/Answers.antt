@@ -1,13 +1,16 @@
-use Rattle.std.proofs.Common.{◌≡◌, ◌∙◌, ◌<◌, ◌+◌, ℕ, sym, ap, subst, refl, arith, List, vec_items}
+use Rattle.std.proofs.Common.{◌≡◌, ◌∙◌, ◌<◌, ◌+◌, ℕ, sym, ap, subst, refl, arith, List, length, vec_items}
+use Rattle.std.specs.Vec.{with_items}
+use Rattle.std.proofs.lemmas.List.{with_items_is}
 use Rattle.pb_constraints.specs.declared.ConId.{ConId}
 use Rattle.trail_state.specs.Trail.{level_of}
 use Rattle.propagate.specs.Attached.{Attached}
 use Rattle.propagate.specs.Forced.{IsConflict, AllClosed}
 use Rattle.ordered_solver.specs.declared.answer.Answer.TheVariants.{Model}
 use Rattle.ordered_solver.specs.Lessons.{HasLearned, IsCounted, IsFound}
-use Rattle.ordered_solver.specs.Trails.{IsOrdered, Covers}
+use Rattle.ordered_solver.specs.Trails.{IsOrdered, ArePassed, Covers}
 use Rattle.ordered_solver.proofs.Ends.{found-budget, found-nothing, found-model}
 use Rattle.ordered_solver.proofs.Lessons.{learned-none}
+use Rattle.ordered_solver.proofs.Places.{passed-start, passed-learns}
 use Rattle.ordered_solver.proofs.Turns.{usable, all-forced, current, are-held, learned-same, turn-learned, turn-ordered, turn-word, turn-smaller, turn-counted, still-counted, empty-ordered}
 use Rattle.ordered_solver.proofs.engine.Engine.search.Goals as goal
 
@@ -15,10 +18,15 @@ pub loop-conflict-init : goal.loop-conflict-init
 loop-conflict-init c =
     let s = c.args.self.now in
     let P : List ConId → Type 0 = λ is. HasLearned s.store s.store is s.log s.log 0 in
+    let many = c.variables.ensures.value in
+    let enough = c.in_ok-places.ensures.long in
+    let long : s.trail.variables < length c.in_ok-places.places.items = omega arith in
     record {
       loaded = c.requires.loaded;
       variables = refl;
       ordered = empty-ordered s.propagator.attached c.args.order.now s.trail.entries c.requires.nothing;
+      passed = passed-start c.args.order.now s.trail.entries c.in_ok-places.places.items c.in_ok-places.ensures.start;
+      long = long;
       learned = subst P (sym c.requires.none_learned) (learned-none s.store s.log);
       counted = omega arith;
       below = c.requires.some;
@@ -173,10 +181,18 @@ loop-conflict-preserved c =
     let rise = turn-word s.store w.store s.propagator.attached w.propagator.attached l.trail.entries s.trail.entries w.trail.entries s.log w.log c.in_ok-learn.field-0 l.trail.variables d.goes_on (omega arith) high c.in_ok-learn.ensures.learns in
     let below = i.below in
     let not-all = c.if-conflicts-budget.false in
+    let same : length c.descend.new.places ≡ length c.loop-conflict.places.items = d.same_length ∙ ap (λ (us : List ℕ). length us) c.deref_mut.ensures.value in
+    let items : (with_items c.loop-conflict.places c.descend.new.places).items ≡ c.descend.new.places = with_items_is c.loop-conflict.places c.descend.new.places (omega (arith, same, c.loop-conflict.places.ok.0)) in
+    let S : List ℕ → Type 0 = λ us. ArePassed order w.trail.entries us in
+    let N : List ℕ → Type 0 = λ us. w.trail.variables < length us in
+    let after = c.learn.ensures.variables in
+    let long = i.long in
     record {
       loaded = c.in_ok-learn.ensures.loaded;
       variables = c.learn.ensures.variables ∙ d.variables ∙ i.variables;
       ordered = turn-ordered s.store w.store s.propagator s.trail w.propagator.attached order w.trail.entries s.log w.log c.in_ok-learn.field-0 d.loaded ordered high c.in_ok-learn.ensures.learns;
+      passed = subst S (sym items) (passed-learns s.store w.store s.propagator.attached w.propagator.attached order c.descend.new.places s.trail.entries w.trail.entries s.log w.log c.in_ok-learn.field-0 c.in_ok-learn.ensures.learns high d.passed);
+      long = subst N (sym items) (omega arith);
       learned = turn-learned start.store s.store w.store s.learned.items w.learned.items s.propagator s.trail w.propagator.attached order w.trail.entries start.log s.log w.log n c.in_ok-learn.field-0 d.loaded ordered high learned c.in_ok-learn.ensures.learns c.in_ok-learn.ensures.id;
       counted = turn-counted l.trail.variables w.trail.variables l.trail.entries w.trail.entries n (c.learn.ensures.variables ∙ d.variables) rise i.counted;
       below = omega arith;

@@ -1,0 +1,5 @@
+pub mod After
+pub mod Loading
+pub mod Reading
+pub mod Worlds
+pub mod Outcomes

@@ -1,0 +1,61 @@
+//! The request of a line, by its first word.
+
+ghost use Rattle.std.specs.Prelude.{◌≡◌, ◌∷◌, ◌++◌, IfOk, OnOk, map, option_map, string_bytes};
+ghost use Rattle.run_words.specs.Requests.{request, usage_text};
+ghost use Rattle.run_words.specs.Values.{request_value};
+
+use crate::decode::{put_decode_usage, read_decode};
+use std::alloc::{AllocError, Global};
+
+/// What a command line asks for.
+#[derive(Debug, Drop)]
+pub enum Request {
+    /// `decode TGFF ARCH GENO`: the first valid implementation of a file of task graphs and tables and an architecture
+    /// file, in the order of a genotype file, or in the natural order where that is `-`.
+    Decode {
+        /// The file of task graphs and tables, or `-` for no graphs and no tables.
+        tgff: String,
+        /// The architecture file.
+        arch: String,
+        /// The genotype file, or `-`.
+        geno: String,
+    },
+}
+
+/// The request of the words after a first one.
+fn read_named(
+    alloc: Global,
+    name: &str,
+    words: &[String],
+    tags: &[String],
+) -> Result<Option<Request>, AllocError>
+    ensures { IfOk result (λ r. option_map request_value r ≡ request (map string_bytes tags.now) (name.now ∷ map string_bytes words.now)) }
+{
+    let _ = tags;
+    if name == "decode" {
+        return read_decode(alloc, words);
+    }
+    Ok(None)
+}
+
+/// The request of the words of a command line, without the program's name, or `None` exactly where there is none. A
+/// line names tools by their tags; no command has tools yet.
+pub fn read_words(
+    alloc: Global,
+    words: &[String],
+    tags: &[String],
+) -> Result<Option<Request>, AllocError>
+    ensures { IfOk result (λ r. option_map request_value r ≡ request (map string_bytes tags.now) (map string_bytes words.now)) }
+{
+    match words {
+        [] => Ok(None),
+        [first, rest @ ..] => read_named(alloc, first.as_str(), rest, tags),
+    }
+}
+
+/// Appends the lines of usage of all commands.
+pub fn put_usage(out: &mut Vec<u8>) -> Result<(), AllocError>
+    ensures { OnOk result (out.new.items ≡ out.old.items ++ usage_text) }
+{
+    put_decode_usage(out)
+}
