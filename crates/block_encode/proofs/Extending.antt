@@ -116,4 +116,4 @@ all_extend s ls f wf m h =
   where
     at : (x : ℕ) → (x < all_variables s) ⊎ (variables_to s (covers_in ls) ≤ x) → (x < variables_to s 0) ⊎ (variables_to s (0 + covers_in ls) ≤ x)
     at x (inl l) = inl (omega (arith, l))
-    at x (inr l) = inr l
+    at x (inr l) = (let e : covers_in ls ≡ 0 + covers_in ls = omega arith in inr (subst (λ (n : ℕ). variables_to s n ≤ x) e l))

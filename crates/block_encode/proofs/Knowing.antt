@@ -89,4 +89,5 @@ blocks_known s (cover v ∷ ls) b cs h known =
 pub frames_know : FramesKnow
 frames_know s ls wf h =
     let e : all_variables s ≡ variables_to s 0 = omega arith in
-    blocks_known s ls 0 (encoding s) h (subst (λ (n : ℕ). KnowsBelow (encoding s) n) e (encoding_known s wf))
+    let count : 0 + covers_in ls ≡ covers_in ls = omega arith in
+    subst (λ (n : ℕ). KnowsBelow (encoding s ++ blocks_by (cover_frame s) ls) (variables_to s n)) count (blocks_known s ls 0 (encoding s) h (subst (λ (n : ℕ). KnowsBelow (encoding s) n) e (encoding_known s wf)))

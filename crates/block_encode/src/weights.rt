@@ -8,7 +8,7 @@ use spec_graph::Spec;
 use std::alloc::{AllocError, Global};
 
 /// The weights of an objective, added up: what no design's number is above. It takes no memory.
-#[tactic(auto, unfolding(crate::specs::Block::total_weight))]
+#[tactic(auto, unfolding(encode_model::specs::Block::total_weight))]
 pub fn weight_sum(spec: &Spec, j: usize) -> u64
     requires { j < length spec.now.objectives }
     ensures sum { result ≡ total_weight spec.now j }
