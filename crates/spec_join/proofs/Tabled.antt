@@ -1,10 +1,10 @@
--- The definitions, computed on two graphs and their tables: the clock's scale, deadlines, marks, rows, and a quantity
--- table after a merge.
+-- The definitions, computed on two graphs and their tables: the clock's scale, deadlines, delays, marks, rows, and a
+-- quantity table after a merge.
 use Rattle.std.proofs.Common.{◌≡◌, ℕ, ◌*◌, ◌-◌, ◌^◌, List, [], ◌∷◌, Some, None, true, false, pos, negsuc, codes, refl}
 use Rattle.spec_model.specs.Spec.{Name, SpecValue, choice}
 use Rattle.arch_reader.specs.declared.statement.KeyColumn.{KeyColumn}
 use Rattle.arch_reader.specs.declared.statement.Statement.{Statement}
-use Rattle.arch_reader.specs.declared.statement.Statement.TheVariants.{Objective, Clock, Resource, Table, Merge, QuantityTable}
+use Rattle.arch_reader.specs.declared.statement.Statement.TheVariants.{Objective, Clock, Resource, Table, Merge, QuantityTable, Delay}
 use Rattle.tgff_reader.specs.Facts.{TgffValue}
 use Rattle.spec_join.specs.Reading.{after}
 
@@ -53,17 +53,19 @@ file = Objective (codes "energy") (Some 1) true
     ∷ Table (codes "PE") 0 (codes "q") (word (codes "rows") 2 ∷ word (codes "time") 1 ∷ []) []
     ∷ Merge (codes "bus") (codes "0.m" ∷ codes "0.o" ∷ [])
     ∷ QuantityTable (codes "Q") 0 1 None
+    ∷ Delay None (pos (25 * 10 ^ 10))
+    ∷ Delay (Some (codes "bus")) (pos (3 * 10 ^ 12))
     ∷ []
 
 -- Rows are looked for from the second one on where the line doesn't say from which. The tasks of type 9 have no row; the
 -- one of type 5 has none on p, since its row's mark is 0, and one on q, where no marks are asked for. The merged message
--- has no type, so its quantity stays.
+-- has no type, so its quantity stays. A delay of a quarter comes to 2 at the clock's scale.
 abbrev plan : SpecValue
 plan = record {
   tasks = codes "0.a" ∷ codes "0.b" ∷ codes "0.e" ∷ codes "1.c" ∷ codes "1.d" ∷ [];
   message_names = codes "1.n" ∷ codes "bus" ∷ [];
-  messages = record { sender = 3; receivers = 4 ∷ []; limit = 2 ^ 63 - 1; delay = 0; quantity = 2 }
-      ∷ record { sender = 0; receivers = 1 ∷ 2 ∷ []; limit = 2 ^ 63 - 1; delay = 0; quantity = 1 }
+  messages = record { sender = 3; receivers = 4 ∷ []; limit = 2 ^ 63 - 1; delay = 2; quantity = 2 }
+      ∷ record { sender = 0; receivers = 1 ∷ 2 ∷ []; limit = 2 ^ 63 - 1; delay = 30; quantity = 1 }
       ∷ [];
   resources = codes "p" ∷ codes "q" ∷ [];
   links = [];
