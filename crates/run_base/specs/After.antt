@@ -1,6 +1,5 @@
 -- What a reading makes, or its refusal: the one place that says which refusal comes first.
 use Rattle.std.specs.Prelude.{◌≡◌, Result, Ok, Err}
-use Rattle.line_words.specs.declared.refusals.Refusal.{Refusal}
 use Rattle.line_words.specs.declared.refusals.ReadFault.{ReadFault}
 use Rattle.line_words.specs.declared.refusals.ReadFault.TheVariants as faults
 

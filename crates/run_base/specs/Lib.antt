@@ -2,4 +2,3 @@ pub mod After
 pub mod Loading
 pub mod Reading
 pub mod Worlds
-pub mod Outcomes

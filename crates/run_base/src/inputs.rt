@@ -1,12 +1,9 @@
 //! The files that a line names, loaded.
 
 ghost use Rattle.std.specs.Prelude.{◌≡◌, IfOk, IfSome};
-ghost use Rattle.desk_io.specs.Files.{content};
 ghost use Rattle.desk_io.specs.Causes.{HasCause};
-ghost use Rattle.spec_model.specs.Spec.{SpecValue};
-ghost use Rattle.run_base.specs.Loading.{IsLoaded, IsLoadedIfNamed};
-ghost use Rattle.run_base.specs.Reading.{ReadsSpec, ReadsGenotype};
-ghost use Rattle.run_base.specs.Worlds.{World, AreLoaded, AreLoadedFrom, content_if_named, names_value};
+ghost use Rattle.run_base.specs.Loading.{IsLoadedIfNamed};
+ghost use Rattle.run_base.specs.Worlds.{AreLoadedFrom, content_if_named, names_value};
 
 use crate::loading::{Loaded, load};
 use desk_io::{Desk, DeskError};
