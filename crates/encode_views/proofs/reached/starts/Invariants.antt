@@ -1,7 +1,7 @@
 use Rattle.std.proofs.Common.{length}
 use Rattle.spec_model.specs.Spec.{bits_of}
 use Rattle.spec_model.specs.Rules.{sender_of}
-use Rattle.spec_model.proofs.Decide.{puts}
+use Rattle.spec_model.specs.Walks.{puts}
 use Rattle.encode_views.proofs.Marks.{IsMarked}
 use Rattle.encode_views.proofs.reached.starts.Given as goal
 
