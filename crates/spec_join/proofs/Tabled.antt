@@ -81,5 +81,5 @@ plan = record {
   pairs = [];
 }
 
-states : (after graphs file 9).plan ≡ plan
+states : (after graphs file 11).plan ≡ plan
 states = refl
