@@ -6,6 +6,10 @@ use Rattle.arch_reader.specs.declared.statement.KeyColumn.{KeyColumn}
 use Rattle.arch_reader.specs.declared.statement.Statement.{Statement}
 use Rattle.arch_reader.specs.declared.statement.Statement.TheVariants.{Objective, Clock, Resource, Table, Merge, QuantityTable, Delay}
 use Rattle.tgff_reader.specs.Facts.{TgffValue}
+use Rattle.std.specs.Fmt.{digits}
+use Rattle.std.specs.Float.Numeral.{scan_numeral}
+use Rattle.line_words.specs.Numbers.{whole_of}
+use Rattle.line_words.specs.Decimal.{decimal_of}
 use Rattle.spec_join.specs.Reading.{after}
 
 -- A deadline of 200, one below zero, one with a fraction that is cut off, and one that is too large. The first row of the
@@ -82,4 +86,5 @@ plan = record {
 }
 
 states : (after graphs file 11).plan ≡ plan
+unfolding digits scan_numeral whole_of decimal_of
 states = refl
