@@ -4,8 +4,10 @@ ghost use Rattle.std.specs.Prelude.{◌≡◌, length, IfOk, MatchOption};
 ghost use Rattle.spec_model.specs.Spec.{design_variables};
 ghost use Rattle.spec_model.specs.Genotypes.{HasNoValid};
 ghost use Rattle.sat_decoder.specs.Decoding.{IsFirstDesign};
+ghost use Rattle.run_base.specs.Loading.{IsLoadedIfNamed};
+ghost use Rattle.run_base.specs.After.{GoesOn};
 ghost use Rattle.run_base.specs.Worlds.{World, AreLoaded};
-ghost use Rattle.dse_run.specs.Decoding.{Decodes, FindsFirst};
+ghost use Rattle.dse_run.specs.Decoding.{Decodes, DecodesSpec, DecodesGenes, FindsFirst};
 
 use genotype::Genotype;
 use impl_rules::{Design, vector_of};
@@ -61,12 +63,45 @@ fn find_first(alloc: Global, spec: &Spec, genotype: &Genotype) -> Result<Outcome
     }
 }
 
+/// What a genotype comes to, or the refusal of its file.
+fn decode_genes(
+    alloc: Global,
+    spec: &Spec,
+    read: Result<Genotype, ReadFault>,
+) -> Result<Outcome, ReadFault>
+    requires genes { IfOk read (λ genes. length genes ≡ design_variables spec.now) }
+    ensures { GoesOn read (DecodesGenes spec.now) result }
+{
+    match read {
+        Ok(genotype) => Ok(find_first(alloc, spec, &genotype)?),
+        Err(fault) => Err(fault),
+    }
+}
+
+/// What a specification comes to with the third file.
+fn decode_with(alloc: Global, spec: &Spec, inputs: &Inputs) -> Result<Outcome, ReadFault>
+    ensures { (world : World) → IsLoadedIfNamed inputs.now.third world.third → DecodesSpec world spec.now result }
+{
+    decode_genes(alloc, spec, read_genes(alloc, spec, &inputs.third))
+}
+
+/// What a specification comes to with the third file, or the refusal of the files that make it.
+fn decode_spec(
+    alloc: Global,
+    read: Result<Spec, ReadFault>,
+    inputs: &Inputs,
+) -> Result<Outcome, ReadFault>
+    ensures { (world : World) → IsLoadedIfNamed inputs.now.third world.third → GoesOn read (DecodesSpec world) result }
+{
+    match read {
+        Ok(spec) => decode_with(alloc, &spec, inputs),
+        Err(fault) => Err(fault),
+    }
+}
+
 /// What the files come to.
 pub(crate) fn decode(alloc: Global, inputs: &Inputs) -> Result<Outcome, ReadFault>
     ensures { (world : World) → AreLoaded inputs.now world → Decodes world result }
 {
-    let spec = read_spec(alloc, &inputs.tgff, &inputs.arch)?;
-    let genotype = read_genes(alloc, &spec, &inputs.third)?;
-    let outcome = find_first(alloc, &spec, &genotype)?;
-    Ok(outcome)
+    decode_spec(alloc, read_spec(alloc, &inputs.tgff, &inputs.arch), inputs)
 }
