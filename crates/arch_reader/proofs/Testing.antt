@@ -1,9 +1,11 @@
 -- The rules stand in their order; a statement that is accepted breaks none of them.
 use Rattle.std.proofs.Common.{◌≡◌, inl, inr, true, false, List, [], ◌∷◌, ◌++◌, Option, Some, None, refl, sym, ap, ◌∙◌, arith}
 use Rattle.std.proofs.lemmas.Bool.{cases_Bool}
+use Rattle.line_words.specs.Refused.{rank}
 use Rattle.line_words.specs.Rules.{Test, IsRanked, AreInOrder, first_broken}
 use Rattle.line_words.specs.declared.refusals.Why.{Why}
-use Rattle.line_words.proofs.Steps.{in_order_headed}
+use Rattle.line_words.specs.declared.refusals.Why.TheVariants.{NoHeader}
+use Rattle.line_words.proofs.Steps.{ranked, in_order_headed}
 use Rattle.line_words.proofs.Least.{first_broken-append-none, first_broken-append-some}
 use Rattle.std.specs.List.{All}
 use Rattle.std.specs.Option.{option_or}
@@ -22,66 +24,12 @@ use Rattle.arch_reader.proofs.Naming.{declared_is_word}
 
 -- ---- their order
 
-ranked : (s : Seen) (form : Option Form) → IsRanked 30 (tests s form)
-ranked s None = (omega arith, tt)
-ranked s (Some f) = (
-  omega arith,
-  (
-    omega arith,
-    (
-      omega arith,
-      (
-        omega arith,
-        (
-          omega arith,
-          (
-            omega arith,
-            (
-              omega arith,
-              (
-                omega arith,
-                (
-                  omega arith,
-                  (
-                    omega arith,
-                    (
-                      omega arith,
-                      (
-                        omega arith,
-                        (
-                          omega arith,
-                          (
-                            omega arith,
-                            (
-                              omega arith,
-                              (
-                                omega arith,
-                                (
-                                  omega arith,
-                                  (
-                                    omega arith,
-                                    (omega arith, (omega arith, (omega arith, (omega arith, (omega arith, (omega arith, (omega arith, (omega arith, (omega arith, (omega arith, tt)))))))))),
-                                  ),
-                                ),
-                              ),
-                            ),
-                          ),
-                        ),
-                      ),
-                    ),
-                  ),
-                ),
-              ),
-            ),
-          ),
-        ),
-      ),
-    ),
-  ),
-)
+form_ranked : (s : Seen) (form : Option Form) → IsRanked (rank NoHeader) (tests s form)
+form_ranked s None = ranked (rank NoHeader) (tests s None) refl
+form_ranked s (Some f) = ranked (rank NoHeader) (tests s (Some f)) refl
 
 pub in_order : AreInOrder arch_rules
-in_order = in_order_headed is_header later at_end (λ before ws. ranked (seen (statements_in (lines_of before))) (form_of ws)) (λ before. tt)
+in_order = in_order_headed is_header later at_end (λ before ws. form_ranked (seen (statements_in (lines_of before))) (form_of ws)) (λ before. tt)
 
 -- ---- no test is broken
 

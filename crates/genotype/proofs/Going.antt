@@ -1,13 +1,15 @@
 -- What the statements taken so far say.
-use Rattle.std.proofs.Common.{◌≡◌, ℕ, List, [], ◌∷◌, ◌++◌, length, Option, Some, None, Result, Ok, Err, refl, ◌∙◌, arith, ap}
+use Rattle.std.proofs.Common.{◌≡◌, ℕ, List, [], ◌∷◌, ◌++◌, length, Option, Some, None, Result, Ok, Err, refl, ◌∙◌, ap}
 use Rattle.std.specs.Prelude.{IfOk}
 use Rattle.std.proofs.lemmas.List.{length-set, length-replicate}
+use Rattle.line_words.specs.Refused.{rank}
 use Rattle.line_words.specs.Rules.{Statement, IsRanked, AreInOrder, statements, without_header}
 use Rattle.line_words.specs.Reads.{Reads}
+use Rattle.line_words.specs.declared.refusals.Why.TheVariants.{NoHeader}
 use Rattle.line_words.specs.declared.refusals.FileTag.TheVariants.{Genotype}
 use Rattle.line_words.specs.declared.refusals.ReadFault.{ReadFault}
 use Rattle.line_words.specs.declared.refusals.ReadFault.TheVariants as faults
-use Rattle.line_words.proofs.Steps.{in_order_headed}
+use Rattle.line_words.proofs.Steps.{ranked, in_order_headed}
 use Rattle.spec_model.specs.Genotypes.{GeneValue, natural, plain_gene}
 use Rattle.genotype.specs.Statements.{is_header, stated_of, stated_tests, least_after, least_from, with_stated, with_all, later, end_tests, genotype_rules, genes_of, as_seen, number_of}
 use Rattle.genotype.specs.declared.stated.Stated.{Stated}
@@ -34,9 +36,9 @@ read_len n ls (Ok x) r = ap length r.1 ∙ length-with_all (natural n) (without_
 read_len n ls (Err (faults.Refused fault)) r = tt
 read_len n ls (Err faults.NoMemory) r = tt
 
-ranked : (n least : ℕ) (stated : Option Stated) → IsRanked 30 (stated_tests n least stated)
-ranked n least None = omega arith
-ranked n least (Some s) = omega arith
+stated_ranked : (n least : ℕ) (stated : Option Stated) → IsRanked (rank NoHeader) (stated_tests n least stated)
+stated_ranked n least None = ranked (rank NoHeader) (stated_tests n least None) refl
+stated_ranked n least (Some s) = ranked (rank NoHeader) (stated_tests n least (Some s)) refl
 
 pub in_order : (n : ℕ) → AreInOrder (genotype_rules n)
-in_order n = in_order_headed is_header (later n) end_tests (λ before ws. ranked n (least_from 0 before) (stated_of ws)) (λ before. tt)
+in_order n = in_order_headed is_header (later n) end_tests (λ before ws. stated_ranked n (least_from 0 before) (stated_of ws)) (λ before. tt)

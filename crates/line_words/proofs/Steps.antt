@@ -3,25 +3,39 @@
 -- A reader keeps "reading on from here gives `total`", where `total` is what the whole file gives. One of the
 -- lemmas below serves each way on: a statement is taken, a statement breaks a rule, a line alone is refused, the
 -- file ends and breaks no rule, or its end breaks one.
-use Rattle.std.proofs.Common.{◌≡◌, ℕ, ◌+◌, ◌<◌, ◌≤◌, Bool, true, false, List, [], ◌∷◌, ◌++◌, length, Option, Some, None, Ok, Err, refl, sym, ap, ◌∙◌, arith}
+use Rattle.std.proofs.Common.{◌≡◌, ℕ, ◌+◌, ◌<◌, ◌≤◌, Bool, true, false, List, [], ◌∷◌, ◌++◌, length, Option, Some, None, Ok, Err, ◌&&◌, refl, sym, ap, ◌∙◌, arith}
+use Rattle.std.specs.Prelude.{nat_le}
+use Rattle.std.proofs.lemmas.Bool.{leb-true}
 use Rattle.std.proofs.lemmas.List.{append-nil}
 use Rattle.line_words.specs.Text.{Piece, words, words_in}
 use Rattle.line_words.specs.Rules.{Test, IsRanked, first_broken, Words, Statement, Rules, tests_after, statement_tests, AreInOrder, line_tests, texts, some_words, stated_words, text_rules, after_header, end_after_header, headed_rules}
 use Rattle.line_words.specs.Left.{Left, Numbered, IsEmptyLine, AllEmpty, Passes, Gives, Refuses}
 use Rattle.line_words.specs.Run.{Reading, unless_broken, run}
 use Rattle.line_words.specs.declared.refusals.Why.{Why}
-use Rattle.line_words.specs.declared.refusals.Why.TheVariants.{NoHeader}
+use Rattle.line_words.specs.Refused.{rank}
+use Rattle.line_words.specs.declared.refusals.Why.TheVariants.{LongLine, NoHeader}
 use Rattle.line_words.specs.declared.refusals.Refusal1.{Refusal1}
+use Rattle.line_words.proofs.Whys.{both}
 use Rattle.line_words.proofs.Least.{run-nil, run-cons, first_broken-append-none, first_broken-append-some}
 
 -- ---- rules in their order
 
+-- whether rules stand in the order of what they refuse for, none before `low`
+abbrev pub is_ranked : ℕ → List Test → Bool
+is_ranked low [] = true
+is_ranked low (t ∷ ts) = nat_le low (rank t.0) && is_ranked (rank t.0) ts
+
+-- Rules that are written out stand in their order: computed from what they refuse for.
+pub ranked : (low : ℕ) (ts : List Test) → is_ranked low ts ≡ true → IsRanked low ts
+ranked low [] e = tt
+ranked low (t ∷ ts) e = let parts = both (nat_le low (rank t.0)) (is_ranked (rank t.0) ts) e in (leb-true low (rank t.0) parts.0, ranked (rank t.0) ts parts.1)
+
 -- Rules of statements that stand in their order, from the header on, are in order with those of the line.
 pub in_order : (statement : List Statement → Words → List Test) (end : List Statement → List Test)
-    → ((before : List Statement) (ws : Words) → IsRanked 30 (statement before ws)) → ((before : List Statement) → IsRanked 30 (end before)) → AreInOrder (text_rules statement end)
+    → ((before : List Statement) (ws : Words) → IsRanked (rank NoHeader) (statement before ws)) → ((before : List Statement) → IsRanked (rank NoHeader) (end before)) → AreInOrder (text_rules statement end)
 in_order statement end s e = record {
   at_lines = λ before line. (omega arith, (omega arith, stated_ranked statement end before (stated_words line) s));
-  at_end = λ before. ranked_below 0 30 (end before) (omega arith) (e before);
+  at_end = λ before. ranked_below 0 (rank NoHeader) (end before) (omega arith) (e before);
 }
   where
     ranked_below : (low high : ℕ) (ts : List Test) → low ≤ high → IsRanked high ts → IsRanked low ts
@@ -29,21 +43,21 @@ in_order statement end s e = record {
     ranked_below low high (t ∷ ts) le h = (omega (arith, le, h.0), h.1)
 
     stated_ranked : (statement : List Statement → Words → List Test) (end : List Statement → List Test) (before : List Statement) (stated : Option Words)
-        → ((before : List Statement) (ws : Words) → IsRanked 30 (statement before ws)) → IsRanked 20 (statement_tests (text_rules statement end) before stated)
+        → ((before : List Statement) (ws : Words) → IsRanked (rank NoHeader) (statement before ws)) → IsRanked (rank LongLine) (statement_tests (text_rules statement end) before stated)
     stated_ranked statement end before None s = tt
-    stated_ranked statement end before (Some ws) s = ranked_below 20 30 (statement before ws) (omega arith) (s before ws)
+    stated_ranked statement end before (Some ws) s = ranked_below (rank LongLine) (rank NoHeader) (statement before ws) (omega arith) (s before ws)
 
 -- the same of a file with a header, from the rules of what follows it
 pub in_order_headed : (is_header : Words → Bool) (later : List Statement → Words → List Test) (end : List Statement → List Test)
-    → ((before : List Statement) (ws : Words) → IsRanked 30 (later before ws)) → ((before : List Statement) → IsRanked 30 (end before)) → AreInOrder (headed_rules is_header later end)
+    → ((before : List Statement) (ws : Words) → IsRanked (rank NoHeader) (later before ws)) → ((before : List Statement) → IsRanked (rank NoHeader) (end before)) → AreInOrder (headed_rules is_header later end)
 in_order_headed is_header later end s e = in_order (after_header is_header later) (end_after_header end) (statement_ranked is_header later s) (end_ranked end e)
   where
-    statement_ranked : (is_header : Words → Bool) (later : List Statement → Words → List Test) → ((before : List Statement) (ws : Words) → IsRanked 30 (later before ws))
-        → (before : List Statement) (ws : Words) → IsRanked 30 (after_header is_header later before ws)
+    statement_ranked : (is_header : Words → Bool) (later : List Statement → Words → List Test) → ((before : List Statement) (ws : Words) → IsRanked (rank NoHeader) (later before ws))
+        → (before : List Statement) (ws : Words) → IsRanked (rank NoHeader) (after_header is_header later before ws)
     statement_ranked is_header later s [] ws = (omega arith, tt)
     statement_ranked is_header later s (h ∷ before) ws = s before ws
 
-    end_ranked : (end : List Statement → List Test) → ((before : List Statement) → IsRanked 30 (end before)) → (before : List Statement) → IsRanked 30 (end_after_header end before)
+    end_ranked : (end : List Statement → List Test) → ((before : List Statement) → IsRanked (rank NoHeader) (end before)) → (before : List Statement) → IsRanked (rank NoHeader) (end_after_header end before)
     end_ranked end e [] = (omega arith, tt)
     end_ranked end e (h ∷ before) = e before
 

@@ -48,9 +48,13 @@ abbrev pub place_of : Why → ℕ
 place_of (Limit what) = what_place what
 place_of why = 0
 
+-- the places of limits lie below it, so that each limit comes before the refusal with the next number
+abbrev pub places : ℕ
+places = 1000
+
 -- refusals in their order: by their number, and limits among each other by their place
 abbrev pub rank : Why → ℕ
-rank why = 10 * number_of why + place_of why
+rank why = places * number_of why + place_of why
 
 -- the name of a refusal
 abbrev pub name_of : Why → List ℕ

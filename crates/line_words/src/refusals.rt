@@ -1,11 +1,11 @@
 ghost use Rattle.std.specs.Prelude.{◌≡◌};
-ghost use Rattle.line_words.specs.Refused.{number_of, name_of, what_name, fault_at};
+ghost use Rattle.line_words.specs.Refused.{number_of, what_place, place_of, rank, name_of, what_name, fault_at};
 
 use std::alloc::{AllocError, AllocFailed};
 use thiserror::Error;
 
 /// Why a line of a file is refused. Of the refusals of one line the one that stands first here
-/// counts.
+/// counts, and of limits the one with the lowest place.
 #[derive(Clone, Copy, Debug, PartialEq, Eq)]
 pub enum Why {
     /// A byte that may not stand in such a file.
@@ -69,7 +69,27 @@ pub enum What {
     Terms,
 }
 
+/// The places of limits lie below it.
+const PLACES: u64 = 1000;
+
 impl Why {
+    /// The place in the order of all refusals: by the number, and of limits by the limit's place.
+    pub fn rank(&self) -> u64
+        ensures { result ≡ rank self.now }
+    {
+        PLACES * self.number() + self.place()
+    }
+
+    /// The place of a limit among limits, or 0 for another refusal.
+    fn place(&self) -> u64
+        ensures { result ≡ place_of self.now }
+    {
+        match self {
+            Why::Limit(what) => what.place(),
+            _ => 0,
+        }
+    }
+
     /// The number under which the refusal is said, from 1 to 17.
     pub fn number(&self) -> u64
         ensures { result ≡ number_of self.now }
@@ -122,6 +142,24 @@ impl Why {
 }
 
 impl What {
+    /// The place of a limit among the limits of one line: the length of a name first.
+    fn place(&self) -> u64
+        ensures { result ≡ what_place self.now }
+    {
+        match self {
+            What::NameBytes => 0,
+            What::FileBytes => 1,
+            What::Tasks => 2,
+            What::Messages => 3,
+            What::Resources => 4,
+            What::Links => 5,
+            What::Options => 6,
+            What::Objectives => 7,
+            What::Variables => 8,
+            What::Terms => 9,
+        }
+    }
+
     /// The name under which the limit is said.
     pub fn name(&self) -> &'static str
         ensures { result.now ≡ what_name self.now }

@@ -5,11 +5,12 @@ use Rattle.std.specs.List.{list_any}
 use Rattle.std.specs.Str.{bytes_eq}
 use Rattle.std.proofs.lemmas.Bool.{cases_Bool}
 use Rattle.std.proofs.lemmas.List.{length-set, length-replicate}
+use Rattle.line_words.specs.Refused.{rank}
 use Rattle.line_words.specs.Rules.{Words, Test, Statement, IsRanked, AreInOrder, first_broken}
 use Rattle.line_words.specs.Run.{Reading, run, unless_broken}
 use Rattle.line_words.specs.Reads.{Agrees}
 use Rattle.line_words.specs.declared.refusals.Why.{Why}
-use Rattle.line_words.specs.declared.refusals.Why.TheVariants.{NotInOrder, Unclosed}
+use Rattle.line_words.specs.declared.refusals.Why.TheVariants.{BadStatement, NotInOrder, Unclosed}
 use Rattle.line_words.specs.declared.refusals.FileTag.TheVariants.{Front}
 use Rattle.line_words.specs.declared.refusals.ReadFault.{ReadFault}
 use Rattle.line_words.proofs.Least.{run-nil, run-cons, first_broken-append-some}
@@ -52,7 +53,7 @@ item_line s stated ws why a b d e = rw (a, b, d) (first_broken-append-some (item
 
 -- ---- the order of the tests
 
-ranked_item : (s : SpecValue) (ws : Words) (late : Bool) → IsRanked 40 (item_tests s ws ++ (NotInOrder, late) ∷ [])
+ranked_item : (s : SpecValue) (ws : Words) (late : Bool) → IsRanked (rank BadStatement) (item_tests s ws ++ (NotInOrder, late) ∷ [])
 ranked_item s [] late = (omega arith, (omega arith, tt))
 ranked_item s (k ∷ []) late = (omega arith, (omega arith, tt))
 ranked_item s (k ∷ a ∷ []) late =
@@ -76,7 +77,7 @@ ranked_item s (k ∷ a ∷ b ∷ c ∷ d ∷ []) late =
     ]
 ranked_item s (k ∷ a ∷ b ∷ c ∷ d ∷ e ∷ more) late = (omega arith, (omega arith, tt))
 
-ranked_words : (s : SpecValue) (stated : Stated) (ws : Words) → IsRanked 40 (words_tests s stated ws)
+ranked_words : (s : SpecValue) (stated : Stated) (ws : Words) → IsRanked (rank BadStatement) (words_tests s stated ws)
 ranked_words s stated ws =
     elim (cases_Bool (is_vector ws)) [
       | inl t ↦ rw t (omega arith, (omega arith, (omega arith, (omega arith, tt))))

@@ -3,12 +3,13 @@ use Rattle.std.proofs.Common.{◌≡◌, ℕ, ◌+◌, ◌<◌, true, false, Lis
 use Rattle.std.specs.Prelude.{if◌then◌else◌}
 use Rattle.std.proofs.lemmas.List.{length-map}
 use Rattle.line_words.specs.Text.{Piece, words_in}
+use Rattle.line_words.specs.Refused.{rank}
 use Rattle.line_words.specs.Rules.{Words, Statement, Test, IsRanked, AreInOrder, first_broken, texts}
 use Rattle.line_words.specs.Left.{Left, Numbered, Passes, Gives}
 use Rattle.line_words.specs.Run.{Reading, run}
 use Rattle.line_words.specs.declared.refusals.Why.{Why}
-use Rattle.line_words.specs.declared.refusals.Why.TheVariants.{Unclosed, StrayClose}
-use Rattle.line_words.proofs.Steps.{in_order, goes_on, stops_here, ends_well, ends_broken}
+use Rattle.line_words.specs.declared.refusals.Why.TheVariants.{NoHeader, Unclosed, StrayClose}
+use Rattle.line_words.proofs.Steps.{ranked, in_order, goes_on, stops_here, ends_well, ends_broken}
 use Rattle.tgff_reader.specs.Words.{first, is_at}
 use Rattle.tgff_reader.specs.Lines.{is_opening, block_name, block_index, is_closing, keyword_of}
 use Rattle.tgff_reader.specs.Faults.{tests, tests_in, opening_tests, inner_tests, known_tests, is_open, end_tests}
@@ -27,26 +28,31 @@ use Rattle.tgff_reader.proofs.Kept.{IsState, start_stands, stands_more}
 
 -- ---- the rules stand in their order
 
-ranked_known : (b : Blocks) (g : Graph) (ws : Words) (keyword : Option Keyword) → IsRanked 30 (known_tests b g ws keyword)
+-- where the rules of statements begin
+abbrev low : ℕ
+low = rank NoHeader
+
+ranked_known : (b : Blocks) (g : Graph) (ws : Words) (keyword : Option Keyword) → IsRanked low (known_tests b g ws keyword)
 ranked_known b g ws None = tt
-ranked_known b g ws (Some Period) = (omega arith, (omega arith, (omega arith, tt)))
-ranked_known b g ws (Some Task) = (omega arith, (omega arith, (omega arith, (omega arith, (omega arith, (omega arith, tt))))))
-ranked_known b g ws (Some Arc) = (omega arith, (omega arith, (omega arith, (omega arith, (omega arith, (omega arith, (omega arith, (omega arith, (omega arith, tt)))))))))
-ranked_known b g ws (Some HardDeadline) = (omega arith, (omega arith, (omega arith, (omega arith, tt))))
-ranked_known b g ws (Some SoftDeadline) = (omega arith, (omega arith, (omega arith, (omega arith, tt))))
+ranked_known b g ws (Some Period) = ranked low (known_tests b g ws (Some Period)) refl
+ranked_known b g ws (Some Task) = ranked low (known_tests b g ws (Some Task)) refl
+ranked_known b g ws (Some Arc) = ranked low (known_tests b g ws (Some Arc)) refl
+ranked_known b g ws (Some HardDeadline) = ranked low (known_tests b g ws (Some HardDeadline)) refl
+ranked_known b g ws (Some SoftDeadline) = ranked low (known_tests b g ws (Some SoftDeadline)) refl
 
-ranked_inner : (ws : Words) (own : List Test) → IsRanked 30 own → IsRanked 30 (inner_tests ws own)
+ranked_inner : (ws : Words) (own : List Test) → IsRanked low own → IsRanked low (inner_tests ws own)
 ranked_inner ws own h =
-    ranked_if 30 (is_closing ws) [] (if is_at (first ws) then (Unclosed, true) ∷ [] else own) tt (ranked_if 30 (is_at (first ws)) ((Unclosed, true) ∷ []) own (omega arith, tt) h)
+    ranked_if low (is_closing ws) [] (if is_at (first ws) then (Unclosed, true) ∷ [] else own) tt (ranked_if low (is_at (first ws)) ((Unclosed, true) ∷ []) own (ranked low ((Unclosed, true) ∷ []) refl) h)
 
-ranked_in : (c : Open) (b : Blocks) (ws : Words) → IsRanked 30 (tests_in c b ws)
+ranked_in : (c : Open) (b : Blocks) (ws : Words) → IsRanked low (tests_in c b ws)
 ranked_in Outside b ws =
-    ranked_if 30 (is_opening ws) (opening_tests b (block_name ws) (block_index ws)) ((StrayClose, is_closing ws) ∷ []) (omega arith, (omega arith, (omega arith, (omega arith, tt)))) (omega arith, tt)
+    let opening = opening_tests b (block_name ws) (block_index ws) in
+    ranked_if low (is_opening ws) opening ((StrayClose, is_closing ws) ∷ []) (ranked low opening refl) (ranked low ((StrayClose, is_closing ws) ∷ []) refl)
 ranked_in (InGraph g) b ws = ranked_inner ws (known_tests b g ws (keyword_of (first ws))) (ranked_known b g ws (keyword_of (first ws)))
 ranked_in (InTable t) b ws = ranked_inner ws [] tt
 
 pub rules_in_order : AreInOrder tgff_rules
-rules_in_order = in_order later at_end (λ before ws. ranked_in (state_of before).current (state_of before).blocks ws) (λ before. (omega arith, tt))
+rules_in_order = in_order later at_end (λ before ws. ranked_in (state_of before).current (state_of before).blocks ws) (λ before. ranked low (at_end before) refl)
 
 -- ---- one statement more
 
