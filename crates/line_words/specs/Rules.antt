@@ -2,6 +2,7 @@
 use Rattle.std.specs.Prelude.{◌≡◌, ℕ, ◌+◌, ◌<◌, ◌≤◌, ◌⊎◌, List, [], ◌∷◌, ◌++◌, length, take, map, Bool, true, not, nat_lt, slice_index_or, if◌then◌else◌, Option, Some, None}
 use Rattle.std.specs.List.{list_any}
 use Rattle.line_words.specs.Text.{Piece, words, content, is_bad}
+use Rattle.line_words.specs.Limits.{most_line_bytes}
 use Rattle.line_words.specs.Refused.{rank}
 use Rattle.line_words.specs.declared.refusals.Why.{Why}
 use Rattle.line_words.specs.declared.refusals.Why.TheVariants.{BadByte, LongLine, NoHeader}
@@ -105,9 +106,9 @@ pub record AreInOrder (rules : Rules) : Type 0 where
 abbrev pub has_bad_byte : List ℕ → Bool
 has_bad_byte line = list_any is_bad (content line)
 
--- more than 65,536 bytes before the LF
+-- a line with too many bytes before its LF
 abbrev pub is_long : List ℕ → Bool
-is_long line = nat_lt 65536 (length line)
+is_long line = nat_lt most_line_bytes (length line)
 
 -- what a line is tried by alone
 abbrev pub line_tests : List ℕ → List Test

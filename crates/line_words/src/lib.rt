@@ -8,6 +8,7 @@
 #![tactic(auto)]
 
 mod decimals;
+mod limits;
 mod lines;
 mod numbers;
 mod numerals;
@@ -15,6 +16,7 @@ mod refusals;
 mod words;
 
 pub use decimals::decimal;
+pub use limits::{MOST_FILE_BYTES, MOST_LINE_BYTES, MOST_NAME_BYTES};
 pub use lines::{Line, Lines};
 pub use numbers::{NumberFault, plain_whole, put_whole, whole};
 pub use refusals::{FileTag, ReadFault, Refusal, Refusal1, Stop, What, Why};

@@ -7,10 +7,12 @@ ghost use Rattle.std.specs.Prelude.{◌≡◌, ◌+◌, ◌<◌, ◌≤◌, ◌�
 ghost use Rattle.std.specs.List.{position_or_len, list_any};
 ghost use Rattle.line_words.specs.Text.{lines, content, words_in, AreSpans, ArePlain, is_bad};
 ghost use Rattle.line_words.specs.Rules.{first_broken, line_fault};
+ghost use Rattle.line_words.specs.Limits.{most_line_bytes};
 ghost use Rattle.line_words.specs.Front.{is_lf, ends_content, has_word, line_of};
 ghost use Rattle.line_words.specs.Left.{Passes, Gives, StopsAt, Refuses};
 ghost use Rattle.line_words.specs.declared.refusals.Refusal1.{Refusal1};
 
+use crate::limits::MOST_LINE_BYTES;
 use crate::refusals::{Refusal1, Why};
 use crate::words::{LineWords, is_blank};
 use std::marker::Model;
@@ -138,11 +140,11 @@ fn len_before_lf(bytes: &[u8]) -> usize
 
 /// What a line of this length is refused for.
 fn fault_of(has_bad_byte: bool, len: usize) -> Option<Why>
-    ensures { result ≡ first_broken ((Why.BadByte, has_bad_byte) ∷ (Why.LongLine, nat_lt 65536 len) ∷ []) }
+    ensures { result ≡ first_broken ((Why.BadByte, has_bad_byte) ∷ (Why.LongLine, nat_lt most_line_bytes len) ∷ []) }
 {
     if has_bad_byte {
         Some(Why::BadByte)
-    } else if len > 65536 {
+    } else if len > MOST_LINE_BYTES {
         Some(Why::LongLine)
     } else {
         None

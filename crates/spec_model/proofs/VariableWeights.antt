@@ -1,10 +1,11 @@
 -- The weight of each kind of design variable, and that it is small.
-use Rattle.std.proofs.Common.{◌≡◌, ℕ, ◌+◌, ◌*◌, ◌<◌, ◌≤◌, ◌^◌, List, [], ◌++◌, length, get_or, map, refl, sym, ap, ◌∙◌, subst, arith, ◌⊎◌, inl, inr, All}
+use Rattle.std.proofs.Common.{◌≡◌, ℕ, ◌+◌, ◌*◌, ◌<◌, ◌≤◌, List, [], ◌++◌, length, get_or, map, refl, sym, ap, ◌∙◌, subst, arith, ◌⊎◌, inl, inr, All}
 use Rattle.std.specs.List.{flat_map}
 use Rattle.std.proofs.lemmas.List.{get_or_append_left, get_or-append-add, length-append, get_or_past}
 use Rattle.std.proofs.lemmas.List.FromFn.{get_or-map-range_with_len, length-map-range_with_len}
 use Rattle.std.proofs.lemmas.Nat.{mul-add-lt}
 use Rattle.std.proofs.lemmas.Bool.{cases_lt}
+use Rattle.spec_model.specs.Limits.{most_number}
 use Rattle.spec_model.specs.Spec.{SpecValue, below, design_variables, arc_var, resource_var, link_var}
 use Rattle.spec_model.specs.Vectors.{weight_in, arc_weight, arc_weights, weights_of, weight}
 use Rattle.spec_model.specs.WellFormed.{IsWellFormed, IsRow, AreRows}
@@ -75,17 +76,17 @@ weight_link s j l h =
     ∙ get_or-map-range_with_len (weight_in s.link_weights j) 0 (length s.links) l l 0 h (omega arith))
 
 -- a number of the rows is small
-pub weight_in_small : (k n : ℕ) (rows : List (List ℕ)) (j i : ℕ) → AreRows k n rows → weight_in rows j i ≤ 2 ^ 40
+pub weight_in_small : (k n : ℕ) (rows : List (List ℕ)) (j i : ℕ) → AreRows k n rows → weight_in rows j i ≤ most_number
 weight_in_small k n rows j i h = row_at (cases_lt i (length rows))
   where
-    number_at : (row : List ℕ) → All (λ w. w ≤ 2 ^ 40) row → (j < length row) ⊎ (length row ≤ j) → get_or row j 0 ≤ 2 ^ 40
+    number_at : (row : List ℕ) → All (λ w. w ≤ most_number) row → (j < length row) ⊎ (length row ≤ j) → get_or row j 0 ≤ most_number
     number_at row small (inl l) = small j 0 l
     number_at row small (inr l) = let e = get_or_past row j 0 l in omega (arith, e)
 
-    row_at : (i < length rows) ⊎ (length rows ≤ i) → weight_in rows j i ≤ 2 ^ 40
+    row_at : (i < length rows) ⊎ (length rows ≤ i) → weight_in rows j i ≤ most_number
     row_at (inl l) = number_at (get_or rows i []) (h.each i [] l).small (cases_lt j (length (get_or rows i [])))
-    row_at (inr l) = subst (λ (row : List ℕ). get_or row j 0 ≤ 2 ^ 40) (sym (get_or_past rows i [] l)) (omega arith)
+    row_at (inr l) = subst (λ (row : List ℕ). get_or row j 0 ≤ most_number) (sym (get_or_past rows i [] l)) (omega arith)
 
-pub arc_weight_small : (s : SpecValue) (j m a : ℕ) → IsWellFormed s → m < length s.messages → a < length s.arcs → arc_weight s j m a ≤ 2 ^ 40
+pub arc_weight_small : (s : SpecValue) (j m a : ℕ) → IsWellFormed s → m < length s.messages → a < length s.arcs → arc_weight s j m a ≤ most_number
 unfolding arc_weight
 arc_weight_small s j m a w hm ha = w.products m a j hm ha

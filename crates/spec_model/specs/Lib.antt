@@ -1,3 +1,4 @@
+pub mod Limits
 pub mod Spec
 pub mod Rules
 pub mod Walks

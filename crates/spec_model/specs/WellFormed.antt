@@ -1,5 +1,6 @@
 -- What holds of each specification that the readers accept.
-use Rattle.std.specs.Prelude.{◌≡◌, ℕ, zero, suc, ◌+◌, ◌-◌, ◌*◌, ◌<◌, ◌≤◌, ◌^◌, max, List, length, All, Contains, sum_by, slice_index_or}
+use Rattle.std.specs.Prelude.{◌≡◌, ℕ, zero, suc, ◌+◌, ◌-◌, ◌*◌, ◌<◌, ◌≤◌, max, List, length, All, Contains, sum_by, slice_index_or}
+use Rattle.spec_model.specs.Limits.{most_tasks, most_messages, most_resources, most_links, most_options, most_objectives, most_variables, most_terms, most_number}
 use Rattle.spec_model.specs.Spec.{Name, Message, Arc, Choice, Deadline, SpecValue, option_at, name_at, arc_at, message_at, all_variables}
 use Rattle.spec_model.specs.Rules.{options_of}
 use Rattle.spec_model.specs.Vectors.{weight_in}
@@ -81,7 +82,7 @@ pub record IsArcIn (s : SpecValue) (a : Arc) : Type 0 where
 pub record IsOptionIn (s : SpecValue) (o : Choice) : Type 0 where
   pub task : o.task < length s.tasks
   pub resource : o.resource < length s.resources
-  pub time : o.time ≤ 2 ^ 40
+  pub time : o.time ≤ most_number
 
 pub record IsMessageIn (s : SpecValue) (m : Message) : Type 0 where
   pub sender : m.sender < length s.tasks
@@ -89,17 +90,17 @@ pub record IsMessageIn (s : SpecValue) (m : Message) : Type 0 where
   pub some_receiver : 0 < length m.receivers
   pub each_once : AreDistinct m.receivers
   pub limit : m.limit ≤ most_hops s
-  pub delay : m.delay ≤ 2 ^ 40
-  pub quantity : m.quantity ≤ 2 ^ 40
+  pub delay : m.delay ≤ most_number
+  pub quantity : m.quantity ≤ most_number
 
 pub record IsDeadlineIn (s : SpecValue) (d : Deadline) : Type 0 where
   pub task : d.task < length s.tasks
-  pub time : d.time ≤ 2 ^ 40
+  pub time : d.time ≤ most_number
 
--- a row of weights: a number of at most 2^40 for each objective
+-- a row of weights: a number for each objective, of at most the greatest
 pub record IsRow (objectives : ℕ) (row : List ℕ) : Type 0 where
   pub one_each : length row ≡ objectives
-  pub small : All (λ w. w ≤ 2 ^ 40) row
+  pub small : All (λ w. w ≤ most_number) row
 
 -- rows of weights, as many as there are items
 pub record AreRows (objectives items : ℕ) (rows : List (List ℕ)) : Type 0 where
@@ -107,15 +108,15 @@ pub record AreRows (objectives items : ℕ) (rows : List (List ℕ)) : Type 0 wh
   pub each : All (IsRow objectives) rows
 
 pub record IsWellFormed (s : SpecValue) : Type 0 where
-  pub few_tasks : length s.tasks ≤ 1024
-  pub few_messages : length s.messages ≤ 2048
-  pub few_resources : length s.resources ≤ 256
-  pub few_links : length s.links ≤ 1024
+  pub few_tasks : length s.tasks ≤ most_tasks
+  pub few_messages : length s.messages ≤ most_messages
+  pub few_resources : length s.resources ≤ most_resources
+  pub few_links : length s.links ≤ most_links
   pub few_arcs : length s.arcs ≤ 2 * length s.links
-  pub few_options : length s.options ≤ 16384
-  pub few_objectives : length s.objectives ≤ 8
-  pub few_variables : all_variables s ≤ 2 ^ 20
-  pub few_terms : size s ≤ 2 ^ 23
+  pub few_options : length s.options ≤ most_options
+  pub few_objectives : length s.objectives ≤ most_objectives
+  pub few_variables : all_variables s ≤ most_variables
+  pub few_terms : size s ≤ most_terms
   pub named : length s.message_names ≡ length s.messages
   pub tasks_distinct : AreDistinct s.tasks
   pub messages_distinct : AreDistinct s.message_names
@@ -132,5 +133,5 @@ pub record IsWellFormed (s : SpecValue) : Type 0 where
   pub resource_rows : AreRows (length s.objectives) (length s.resources) s.resource_weights
   pub link_rows : AreRows (length s.objectives) (length s.links) s.link_weights
   pub traffic_rows : AreRows (length s.objectives) (length s.links) s.traffic_weights
-  pub products : (m a j : ℕ) → m < length s.messages → a < length s.arcs → weight_in s.traffic_weights j (arc_at s a).link * (message_at s m).quantity ≤ 2 ^ 40
+  pub products : (m a j : ℕ) → m < length s.messages → a < length s.arcs → weight_in s.traffic_weights j (arc_at s a).link * (message_at s m).quantity ≤ most_number
   pub no_cycle : HasCycle s.messages → ⊥

@@ -1,10 +1,11 @@
 -- What a table's cell says in the place of a number, and what it is refused for.
-use Rattle.std.specs.Prelude.{◌≡◌, ℕ, ℤ, pos, negsuc, ◌<◌, ◌^◌, List, Bool, true, false, not, ◌==◌, Option, None, Some, Result, Ok, Err, slice_get}
+use Rattle.std.specs.Prelude.{◌≡◌, ℕ, ℤ, pos, negsuc, ◌<◌, List, Bool, true, false, not, ◌==◌, Option, None, Some, Result, Ok, Err, slice_get}
 use Rattle.line_words.specs.Decimal.{decimal_of}
 use Rattle.line_words.specs.declared.numbers.NumberFault.{NumberFault}
 use Rattle.line_words.specs.declared.numbers.NumberFault.TheVariants as numbers
 use Rattle.line_words.specs.declared.refusals.Why.{Why}
 use Rattle.line_words.specs.declared.refusals.Why.TheVariants.{BadNumber, NoRow, NotWhole, TooBig}
+use Rattle.spec_model.specs.Limits.{most_number}
 use Rattle.arch_reader.specs.Numbers.{decimal_in, is_negative, at_scale, fraction_at}
 use Rattle.tgff_reader.specs.declared.file.Row.{Row}
 use Rattle.table_cells.specs.declared.cells.Taking.{Taking}
@@ -22,7 +23,7 @@ amount_in (Some word) = decimal_in word
 abbrev pub AmountBreaks : Taking → ℤ → Why → Type 0
 AmountBreaks taking amount BadNumber = is_negative amount ≡ true
 AmountBreaks taking amount NotWhole = (taking.cut ≡ false) × (0 < fraction_at taking.scale amount)
-AmountBreaks taking amount TooBig = 2 ^ 40 < at_scale taking.scale amount
+AmountBreaks taking amount TooBig = most_number < at_scale taking.scale amount
 AmountBreaks taking amount _ = ⊥
 
 -- what a word is refused for that is no number

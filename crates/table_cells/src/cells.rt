@@ -7,6 +7,7 @@ ghost use Rattle.table_cells.specs.Cells.{AmountBreaks, CellBreaks, MarkBreaks, 
 
 use arch_reader::{at_scale, has_fraction_at};
 use line_words::{NumberFault, Why, decimal};
+use spec_model::MOST_NUMBER;
 
 /// How the number of a cell is taken: at a scale, which is a power of ten, and with its fraction there cut off or refused.
 #[derive(Clone, Copy)]
@@ -14,9 +15,6 @@ pub struct Taking {
     pub scale: u64,
     pub cut: bool,
 }
-
-/// The greatest number that is taken: 2^40.
-const GREATEST: u128 = 1_099_511_627_776;
 
 /// What a word is refused for that is no number.
 fn refusal_for(fault: NumberFault) -> Why
@@ -38,7 +36,7 @@ fn amount_fault(taking: Taking, amount: i128) -> Option<Why>
     if !taking.cut && has_fraction_at(taking.scale, amount) {
         return Some(Why::NotWhole);
     }
-    if at_scale(taking.scale, amount) > GREATEST {
+    if at_scale(taking.scale, amount) > u128::from(MOST_NUMBER) {
         return Some(Why::TooBig);
     }
     None

@@ -17,6 +17,8 @@ use Rattle.task_order.proofs.Sets.{and_both, and_from}
 use Rattle.line_words.specs.declared.numbers.NumberFault.{NumberFault}
 use Rattle.line_words.specs.declared.numbers.NumberFault.TheVariants.{BadNumber, TooBig}
 use Rattle.line_words.specs.declared.refusals.Why.TheVariants.{Unclosed, StrayClose}
+use Rattle.line_words.specs.Limits.{most_name_bytes}
+use Rattle.spec_model.specs.Limits.{most_tasks, most_messages}
 use Rattle.tgff_reader.specs.Words.{word_at, first, is_at, is_bad, is_big, read_or}
 use Rattle.tgff_reader.specs.Lines.{is_opening, block_name, block_index, is_graph_name, is_closing, keyword_of, is_task_shape, is_arc_shape}
 use Rattle.tgff_reader.specs.Reaching.{messages_of}
@@ -221,7 +223,7 @@ closes_table b t s = record {
 
 -- the open graph changes, and there are as many tasks and arcs more as in it
 graph_line : (b n : Blocks) (g h : Graph) → IsState (standing (InGraph g) b) → n.graphs ≡ b.graphs → n.tables ≡ b.tables → IsGraph h → h.index ≡ g.index
-    → n.tasks + length g.tasks ≡ b.tasks + length h.tasks → n.arcs + length g.arcs ≡ b.arcs + length h.arcs → n.tasks ≤ 1024 → n.arcs ≤ 2048 → IsState (standing (InGraph h) n)
+    → n.tasks + length g.tasks ≡ b.tasks + length h.tasks → n.arcs + length g.arcs ≡ b.arcs + length h.arcs → n.tasks ≤ most_tasks → n.arcs ≤ most_messages → IsState (standing (InGraph h) n)
 graph_line b n g h s eg et k same et2 ea2 few_t few_a =
     let tasks : n.tasks ≡ sum_by task_count (b.graphs ++ h ∷ []) = omega (arith, s.tasks_are, sum_by_push task_count b.graphs g, sum_by_push task_count b.graphs h, et2) in
     let arcs : n.arcs ≡ sum_by arc_count (b.graphs ++ h ∷ []) = omega (arith, s.arcs_are, sum_by_push arc_count b.graphs g, sum_by_push arc_count b.graphs h, ea2) in
@@ -245,10 +247,10 @@ graph_line b n g h s eg et k same et2 ea2 few_t few_a =
 open_graph : (b : Blocks) (g : Graph) → IsState (standing (InGraph g) b) → IsGraph g
 open_graph b g s = (All-pop IsGraph (b.graphs ++ g ∷ []) b.graphs (Some g) refl s.file.graphs_in).1
 
-few_tasks : (c : Open) (b : Blocks) → IsState (standing c b) → b.tasks ≤ 1024
+few_tasks : (c : Open) (b : Blocks) → IsState (standing c b) → b.tasks ≤ most_tasks
 few_tasks c b s = omega (arith, s.tasks_are, s.file.few_tasks)
 
-few_arcs : (c : Open) (b : Blocks) → IsState (standing c b) → b.arcs ≤ 2048
+few_arcs : (c : Open) (b : Blocks) → IsState (standing c b) → b.arcs ≤ most_messages
 few_arcs c b s = omega (arith, s.arcs_are, s.file.few_arcs)
 
 -- a change that keeps the tasks and the arcs
@@ -256,7 +258,7 @@ same_counts : (b : Blocks) (g h : Graph) → IsState (standing (InGraph g) b) �
 same_counts b g h s k same et ea = graph_line b b g h s refl refl k same (omega (arith, et)) (omega (arith, ea)) (few_tasks (InGraph g) b s) (few_arcs (InGraph g) b s)
 
 name_at : (ws : Words) (i : ℕ) → All IsWord ws → i < length ws → faults.is_long (word_at ws i) ≡ false → IsName (word_at ws i)
-name_at ws i h l short = record { word = h i [] l; short = ltb-false 64 (length (word_at ws i)) short }
+name_at ws i h l short = record { word = h i [] l; short = ltb-false most_name_bytes (length (word_at ws i)) short }
 
 known_place : (tasks : List TgffTask) (name : List ℕ) → faults.is_unknown tasks name ≡ false → faults.place_of tasks name < length tasks
 known_place tasks name e = leb-false (length tasks) (faults.place_of tasks name) e
@@ -319,11 +321,11 @@ known_more b g ws (Some Period) s h e = same_counts b g (states.with_period g ws
 known_more b g ws (Some Task) s h e =
     let a = all_false (faults.task_tests b g ws) e in
     graph_line b (states.blocks_after b (Some Task)) g (states.with_task g ws) s refl refl (task_more b g ws (open_graph b g s) h a) refl
-    (omega (arith, length-append g.tasks (states.task_of ws ∷ []))) refl (omega (arith, leb-false 1024 b.tasks a.1.1.1.1.1.0)) (few_arcs (InGraph g) b s)
+    (omega (arith, length-append g.tasks (states.task_of ws ∷ []))) refl (omega (arith, leb-false most_tasks b.tasks a.1.1.1.1.1.0)) (few_arcs (InGraph g) b s)
 known_more b g ws (Some Arc) s h e =
     let a = all_false (faults.arc_tests b g ws) e in
     graph_line b (states.blocks_after b (Some Arc)) g (states.with_arc g ws) s refl refl (arc_more b g ws (open_graph b g s) h a) refl
-    refl (omega (arith, length-append g.arcs (states.arc_of g.tasks ws ∷ []))) (few_tasks (InGraph g) b s) (omega (arith, leb-false 2048 b.arcs a.1.1.1.1.1.1.1.1.0))
+    refl (omega (arith, length-append g.arcs (states.arc_of g.tasks ws ∷ []))) (few_tasks (InGraph g) b s) (omega (arith, leb-false most_messages b.arcs a.1.1.1.1.1.1.1.1.0))
 known_more b g ws (Some HardDeadline) s h e = same_counts b g (states.with_deadline g true ws) s (deadline_more g true ws (open_graph b g s) (all_false (faults.deadline_tests g ws) e)) refl refl refl
 known_more b g ws (Some SoftDeadline) s h e = same_counts b g (states.with_deadline g false ws) s (deadline_more g false ws (open_graph b g s) (all_false (faults.deadline_tests g ws) e)) refl refl refl
 

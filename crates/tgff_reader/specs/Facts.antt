@@ -1,7 +1,9 @@
 -- What holds of each file of task graphs and tables that was read.
 use Rattle.std.specs.Prelude.{◌≡◌, ℕ, ◌<◌, ◌≤◌, ◌^◌, List, length, map, true, All, sum_by}
 use Rattle.std.specs.List.{list_all}
+use Rattle.line_words.specs.Limits.{most_name_bytes}
 use Rattle.line_words.specs.Text.{is_word_byte}
+use Rattle.spec_model.specs.Limits.{most_tasks, most_messages}
 use Rattle.spec_model.specs.WellFormed.{HasCycle, AreDistinct}
 use Rattle.tgff_reader.specs.Reaching.{messages_of}
 use Rattle.tgff_reader.specs.declared.file.Graph.{Graph}
@@ -21,10 +23,10 @@ pub record IsWord (word : List ℕ) : Type 0 where
   pub some : 0 < length word
   pub plain : list_all is_word_byte word ≡ true
 
--- the name of a task or of an arc: a word of at most 64 bytes
+-- the name of a task or of an arc: a word, and not too long
 pub record IsName (name : List ℕ) : Type 0 where
   pub word : IsWord name
-  pub short : length name ≤ 64
+  pub short : length name ≤ most_name_bytes
 
 -- a task: its name, and a type below 2 ^ 63
 pub record IsTask (task : TgffTask) : Type 0 where
@@ -95,5 +97,5 @@ pub record IsTgff (file : TgffValue) : Type 0 where
   pub graphs_distinct : AreDistinct (map graph_index file.graphs)
   pub tables_in : All IsTable file.tables
   pub tables_distinct : AreDistinct (map table_key file.tables)
-  pub few_tasks : sum_by task_count file.graphs ≤ 1024
-  pub few_arcs : sum_by arc_count file.graphs ≤ 2048
+  pub few_tasks : sum_by task_count file.graphs ≤ most_tasks
+  pub few_arcs : sum_by arc_count file.graphs ≤ most_messages

@@ -2,6 +2,8 @@
 use Rattle.std.specs.Prelude.{ℕ, List, [], ◌∷◌, ◌++◌, length, Bool, true, false, ◌&&◌, not, ◌==◌, nat_lt, nat_le, if◌then◌else◌, Option, Some, None, Result, Ok, Err}
 use Rattle.std.specs.List.{list_any, position_or_len}
 use Rattle.std.specs.Str.{bytes_eq}
+use Rattle.spec_model.specs.Limits.{most_tasks, most_messages}
+use Rattle.line_words.specs.Limits.{most_name_bytes}
 use Rattle.line_words.specs.Numbers.{whole_of}
 use Rattle.line_words.specs.Decimal.{decimal_of}
 use Rattle.line_words.specs.Rules.{Words, Test}
@@ -40,9 +42,9 @@ place_of tasks name = position_or_len (is_task name) tasks
 abbrev pub is_unknown : List TgffTask → List ℕ → Bool
 is_unknown tasks name = nat_le (length tasks) (place_of tasks name)
 
--- a name has more than 64 bytes
+-- a name has too many bytes
 abbrev pub is_long : List ℕ → Bool
-is_long name = nat_lt 64 (length name)
+is_long name = nat_lt most_name_bytes (length name)
 
 -- ---- outside a block
 
@@ -94,7 +96,7 @@ task_tests blocks graph ws =
     ∷ (RepeatedName, list_any (is_task (word_at ws 1)) graph.tasks)
     ∷ (TooBig, is_big (whole_of (word_at ws 3)))
     ∷ (Limit NameBytes, is_long (word_at ws 1))
-    ∷ (Limit Tasks, nat_le 1024 blocks.tasks)
+    ∷ (Limit Tasks, nat_le most_tasks blocks.tasks)
     ∷ []
 
 -- an arc closes a cycle where its first task is reached from its second one, or is that one
@@ -117,7 +119,7 @@ abbrev pub arc_graph_tests : Blocks → Bool → Words → List Test
 arc_graph_tests blocks closes ws =
     (Cyclic, closes)
     ∷ (Limit NameBytes, is_long (word_at ws 1))
-    ∷ (Limit Messages, nat_le 2048 blocks.arcs)
+    ∷ (Limit Messages, nat_le most_messages blocks.arcs)
     ∷ []
 
 -- an arc

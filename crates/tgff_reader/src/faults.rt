@@ -14,7 +14,8 @@ use crate::shapes::{
 };
 use crate::state::Blocks;
 use crate::words::{is_bad_decimal, is_bad_whole, is_big_decimal, is_big_whole, word_at};
-use line_words::{NumberFault, What, Why};
+use line_words::{MOST_NAME_BYTES, NumberFault, What, Why};
+use spec_model::{MOST_MESSAGES, MOST_TASKS};
 
 /// Where the task with a name stands; past the last one where there is none.
 pub(crate) fn place_of(tasks: &[TgffTask], name: &str) -> usize
@@ -135,7 +136,7 @@ pub(crate) fn period_fault(words: &[&str]) -> Option<Why>
 fn is_long(name: &str) -> bool
     ensures { result ≡ tests.is_long name.now }
 {
-    name.len() > 64
+    name.len() > MOST_NAME_BYTES
 }
 
 /// What a task is refused for.
@@ -159,7 +160,7 @@ pub(crate) fn task_fault(blocks: &Blocks, graph: &Graph, words: &[&str]) -> Opti
     if is_long(name) {
         return Some(Why::Limit(What::NameBytes));
     }
-    if blocks.tasks >= 1024 {
+    if blocks.tasks >= MOST_TASKS {
         return Some(Why::Limit(What::Tasks));
     }
     None
@@ -201,7 +202,7 @@ pub(crate) fn arc_fault(blocks: &Blocks, closes: bool, words: &[&str]) -> Option
     if is_long(word_at(words, 1)) {
         return Some(Why::Limit(What::NameBytes));
     }
-    if blocks.arcs >= 2048 {
+    if blocks.arcs >= MOST_MESSAGES {
         return Some(Why::Limit(What::Messages));
     }
     None

@@ -1,6 +1,7 @@
 //! A task graph whose block is open, and the order of its tasks that its arcs give.
 
 ghost use Rattle.std.specs.Prelude.{◌≡◌, ℕ, ◌<◌, ◌∷◌, ◌++◌, [], length, IfOk, OnOk, Some};
+ghost use Rattle.spec_model.specs.Limits.{most_tasks};
 ghost use Rattle.task_order.specs.Order.{is_in};
 ghost use Rattle.tgff_reader.specs.Reaching.{reaches};
 ghost use Rattle.tgff_reader.specs.After.{new_graph};
@@ -20,6 +21,7 @@ pub struct OpenGraph {
 
 impl Model for OpenGraph {
     ghost use Rattle.std.specs.Prelude.{◌≤◌, length};
+    ghost use Rattle.spec_model.specs.Limits.{most_tasks};
     ghost use Rattle.tgff_reader.specs.Reaching.{IsOrder};
     ghost use Rattle.tgff_reader.specs.declared.file.Graph.{Graph};
 
@@ -27,7 +29,7 @@ impl Model for OpenGraph {
 
     ghost view = { λ o. o.graph };
 
-    ghost invariant = { λ o. IsOrder o.order o.graph.arcs × (length o.graph.tasks ≤ length o.order) × (length o.graph.tasks ≤ 1024) };
+    ghost invariant = { λ o. IsOrder o.order o.graph.arcs × (length o.graph.tasks ≤ length o.order) × (length o.graph.tasks ≤ most_tasks) };
 }
 
 impl OpenGraph {
@@ -78,7 +80,7 @@ impl OpenGraph {
 
     /// Adds a task.
     pub(crate) fn add_task(&mut self, alloc: Global, task: TgffTask) -> Result<(), AllocError>
-        requires { length self.old.tasks < 1024 }
+        requires { length self.old.tasks < most_tasks }
         ensures { OnOk result (self.new ≡ record self.old { tasks = self.old.tasks ++ task ∷ [] }) }
     {
         let tasks = self.graph.tasks.list().len() + 1;

@@ -2,6 +2,7 @@
 
 ghost use Rattle.std.specs.Prelude.{◌≡◌, ◌≤◌, [], length, not, IfOk, All};
 ghost use Rattle.line_words.specs.Text.{lines, words_in};
+ghost use Rattle.line_words.specs.Limits.{most_file_bytes};
 ghost use Rattle.line_words.specs.Rules.{texts};
 ghost use Rattle.line_words.specs.Run.{run};
 ghost use Rattle.line_words.specs.Reads.{Reads, Agrees};
@@ -87,7 +88,7 @@ fn read_all(alloc: Global, mut lines: Lines) -> Result<Tgff, ReadFault>
 /// their order. Another one is refused at the lowest line at which a rule is broken, for the lowest
 /// rule broken there.
 pub fn read_tgff(alloc: Global, bytes: &[u8]) -> Result<Tgff, ReadFault>
-    requires { length bytes.now ≤ 16777216 }
+    requires { length bytes.now ≤ most_file_bytes }
     ensures { Reads files.Tgff tgff_rules as_seen stated (lines bytes.now) result }
 {
     read_all(alloc, Lines::new(bytes))

@@ -4,6 +4,7 @@ use Rattle.std.specs.List.{list_any, position_or_len}
 use Rattle.std.proofs.lemmas.List.Folds.{length-prefix_len}
 use Rattle.line_words.specs.Text.{is_bad}
 use Rattle.line_words.specs.Rules.{has_bad_byte, first_broken}
+use Rattle.line_words.specs.Limits.{most_line_bytes}
 use Rattle.line_words.specs.Front.{is_lf, ends_content, has_word, line_of}
 use Rattle.line_words.specs.declared.refusals.Why.TheVariants.{BadByte, LongLine}
 use Rattle.line_words.proofs.FirstLine.{content-line_of, line_len_parts}
@@ -32,8 +33,8 @@ returns-clause-fault c =
     c.front_of-front.ensures.bad ∙ ap (λ (n : ℕ). list_any is_bad (take n bytes)) c.front_of-front.ensures.len ∙ ap (list_any is_bad) (sym (content-line_of bytes)) in
     let len : c.front_of-front.result.len + c.len_before_lf.result ≡ length (line_of bytes) =
     whole_len bytes c.split_at.result.1.now c.front_of-front.result.len c.len_before_lf.result c.front_of-front.ensures.len c.split_at.ensures.back c.len_before_lf.ensures.value ∙ sym (length-prefix_len _ bytes) in
-    c.fault_of.ensures ∙ ap (λ (b : Bool). first_broken ((BadByte, b) ∷ (LongLine, nat_lt 65536 (c.front_of-front.result.len + c.len_before_lf.result)) ∷ [])) bad
-    ∙ ap (λ (n : ℕ). first_broken ((BadByte, has_bad_byte (line_of bytes)) ∷ (LongLine, nat_lt 65536 n) ∷ [])) len
+    c.fault_of.ensures ∙ ap (λ (b : Bool). first_broken ((BadByte, b) ∷ (LongLine, nat_lt most_line_bytes (c.front_of-front.result.len + c.len_before_lf.result)) ∷ [])) bad
+    ∙ ap (λ (n : ℕ). first_broken ((BadByte, has_bad_byte (line_of bytes)) ∷ (LongLine, nat_lt most_line_bytes n) ∷ [])) len
 
 pub returns-clause-word : goal.returns-clause-word
 returns-clause-word c =
