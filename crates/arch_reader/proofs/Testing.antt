@@ -1,5 +1,5 @@
 -- The rules stand in their order; a statement that is accepted breaks none of them.
-use Rattle.std.proofs.Common.{◌≡◌, inl, inr, true, false, List, [], ◌∷◌, ◌++◌, Option, Some, None, refl, sym, ap, ◌∙◌, arith}
+use Rattle.std.proofs.Common.{◌≡◌, inl, inr, true, false, List, [], ◌∷◌, ◌++◌, Option, Some, None, refl, sym, ap, ◌∙◌}
 use Rattle.std.proofs.lemmas.Bool.{cases_Bool}
 use Rattle.line_words.specs.Refused.{rank}
 use Rattle.line_words.specs.Rules.{Test, IsRanked, AreInOrder, first_broken}
