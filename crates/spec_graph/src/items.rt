@@ -31,15 +31,15 @@ impl SpecBuilder {
         ensures refused { IfErr result (IsTaskRefused self.old name.now) }
         ensures unchanged { OnErr result (self.new ≡ self.old) }
     {
-        if self.tasks.contains(name) {
+        if self.held.tasks.contains(name) {
             return Err(BuildFault::Repeated);
         }
-        let number = self.tasks.len();
+        let number = self.held.tasks.len();
         if number >= MAX_TASKS {
             return Err(BuildFault::Limit(What::Tasks));
         }
         self.order.make_room(self.alloc, number + 1)?;
-        let number = self.tasks.add(self.alloc, name)?;
+        let number = self.held.tasks.add(self.alloc, name)?;
         Ok(TaskNo(number as u32))
     }
 
@@ -56,19 +56,19 @@ impl SpecBuilder {
         ensures refused { IfErr result (IsResourceRefused self.old name.now weights.now) }
         ensures unchanged { OnErr result (self.new ≡ self.old) }
     {
-        if self.resources.contains(name) {
+        if self.held.resources.contains(name) {
             return Err(BuildFault::Repeated);
         }
         if has_big(weights) {
             return Err(BuildFault::TooBig);
         }
-        if self.resources.len() >= MAX_RESOURCES {
+        if self.held.resources.len() >= MAX_RESOURCES {
             return Err(BuildFault::Limit(What::Resources));
         }
         let weights = Weights::of(self.alloc, weights)?;
-        self.resource_weights.reserve(1)?;
-        let number = self.resources.add(self.alloc, name)?;
-        self.resource_weights.push_reserved(weights);
+        self.held.resource_weights.reserve(1)?;
+        let number = self.held.resources.add(self.alloc, name)?;
+        self.held.resource_weights.push_reserved(weights);
         Ok(ResNo(number as u32))
     }
 
@@ -93,7 +93,7 @@ impl SpecBuilder {
         ensures refused { IfErr result (IsOptionRefused self.old (choice task.0 resource.0 time) weights.now) }
         ensures unchanged { OnErr result (self.new ≡ self.old) }
     {
-        if self.options.has(task, resource) {
+        if self.held.options.has(task, resource) {
             return Err(BuildFault::Repeated);
         }
         if time > MAX_NUMBER {
@@ -102,18 +102,18 @@ impl SpecBuilder {
         if has_big(weights) {
             return Err(BuildFault::TooBig);
         }
-        let number = self.options.len();
+        let number = self.held.options.len();
         if number >= MAX_OPTIONS {
             return Err(BuildFault::Limit(What::Options));
         }
         let weights = Weights::of(self.alloc, weights)?;
-        self.option_weights.reserve(1)?;
-        self.options.push(Choice {
+        self.held.option_weights.reserve(1)?;
+        self.held.options.push(Choice {
             task,
             resource,
             time,
         })?;
-        self.option_weights.push_reserved(weights);
+        self.held.option_weights.push_reserved(weights);
         Ok(OptNo(number as u32))
     }
 
@@ -130,13 +130,13 @@ impl SpecBuilder {
         ensures refused { IfErr result (IsObjectiveRefused self.old name.now) }
         ensures unchanged { OnErr result (self.new ≡ self.old) }
     {
-        if self.objectives.contains(name) {
+        if self.held.objectives.contains(name) {
             return Err(BuildFault::Repeated);
         }
-        if self.objectives.len() >= MAX_OBJECTIVES {
+        if self.held.objectives.len() >= MAX_OBJECTIVES {
             return Err(BuildFault::Limit(What::Objectives));
         }
-        self.objectives.add(self.alloc, name)?;
+        self.held.objectives.add(self.alloc, name)?;
         Ok(())
     }
 
@@ -153,7 +153,7 @@ impl SpecBuilder {
         if at > MAX_NUMBER {
             return Err(BuildFault::TooBig);
         }
-        self.deadlines.push(Deadline { task, time: at })?;
+        self.held.deadlines.push(Deadline { task, time: at })?;
         Ok(())
     }
 }

@@ -83,7 +83,7 @@ impl SpecBuilder {
         ensures refused { IfErr result (IsMessageRefused self.old name.now (message_of sender receivers.now hops delay quantity)) }
         ensures unchanged { OnErr result (self.new ≡ self.old) }
     {
-        if self.message_names.contains(name) {
+        if self.held.message_names.contains(name) {
             return Err(BuildFault::Repeated);
         }
         if has_twice(self.alloc, receivers)? {
@@ -96,13 +96,13 @@ impl SpecBuilder {
         if after.has(sender.0 as usize) {
             return Err(BuildFault::Cyclic);
         }
-        if self.messages.len() >= MAX_MESSAGES {
+        if self.held.messages.len() >= MAX_MESSAGES {
             return Err(BuildFault::Limit(What::Messages));
         }
         let receivers = Vec::from_slice(self.alloc, receivers)?;
-        self.messages.reserve(1)?;
-        let number = self.message_names.add(self.alloc, name)?;
-        self.messages.push_reserved(Message {
+        self.held.messages.reserve(1)?;
+        let number = self.held.message_names.add(self.alloc, name)?;
+        self.held.messages.push_reserved(Message {
             sender,
             receivers,
             hops,
