@@ -13,11 +13,8 @@ use crate::products::has_big_message;
 use crate::spec::Spec;
 use crate::sums::{option_counts, sum_further, sum_terms};
 use line_words::What;
+use spec_model::{MOST_TERMS, MOST_VARIABLES};
 use std::alloc::AllocError;
-
-const MAX_VARIABLES: u64 = 1 << 20;
-
-const MAX_TERMS: u128 = 1 << 23;
 
 /// How many variables and terms an encoding has.
 #[derive(Clone, Copy)]
@@ -91,11 +88,11 @@ impl SpecBuilder {
             return Err(BuildFault::TooBig);
         }
         let variables = self.finished_variables();
-        if variables > MAX_VARIABLES {
+        if variables > MOST_VARIABLES {
             return Err(BuildFault::Limit(What::Variables));
         }
         let terms = self.finished_terms()?;
-        if terms > MAX_TERMS {
+        if terms > MOST_TERMS as u128 {
             return Err(BuildFault::Limit(What::Terms));
         }
         Ok(Sizes {

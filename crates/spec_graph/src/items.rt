@@ -8,16 +8,9 @@ ghost use Rattle.spec_graph.specs.Refusals.{IsBig, IsObjectiveRefused, IsObjecti
 use crate::builder::SpecBuilder;
 use crate::faults::BuildFault;
 use crate::numbers::{Choice, OptNo, ResNo, TaskNo};
-use crate::rows::{Deadline, MAX_NUMBER, Weights, has_big};
+use crate::rows::{Deadline, Weights, has_big};
 use line_words::What;
-
-const MAX_OBJECTIVES: usize = 8;
-
-const MAX_TASKS: usize = 1024;
-
-const MAX_RESOURCES: usize = 256;
-
-const MAX_OPTIONS: usize = 16384;
+use spec_model::{MOST_NUMBER, MOST_OBJECTIVES, MOST_OPTIONS, MOST_RESOURCES, MOST_TASKS};
 
 impl SpecBuilder {
     /// Adds a task.
@@ -35,7 +28,7 @@ impl SpecBuilder {
             return Err(BuildFault::Repeated);
         }
         let number = self.held.tasks.len();
-        if number >= MAX_TASKS {
+        if number >= MOST_TASKS {
             return Err(BuildFault::Limit(What::Tasks));
         }
         self.order.make_room(self.alloc, number + 1)?;
@@ -62,7 +55,7 @@ impl SpecBuilder {
         if has_big(weights) {
             return Err(BuildFault::TooBig);
         }
-        if self.held.resources.len() >= MAX_RESOURCES {
+        if self.held.resources.len() >= MOST_RESOURCES {
             return Err(BuildFault::Limit(What::Resources));
         }
         let weights = Weights::of(self.alloc, weights)?;
@@ -96,14 +89,14 @@ impl SpecBuilder {
         if self.held.options.has(task, resource) {
             return Err(BuildFault::Repeated);
         }
-        if time > MAX_NUMBER {
+        if time > MOST_NUMBER {
             return Err(BuildFault::TooBig);
         }
         if has_big(weights) {
             return Err(BuildFault::TooBig);
         }
         let number = self.held.options.len();
-        if number >= MAX_OPTIONS {
+        if number >= MOST_OPTIONS {
             return Err(BuildFault::Limit(What::Options));
         }
         let weights = Weights::of(self.alloc, weights)?;
@@ -133,7 +126,7 @@ impl SpecBuilder {
         if self.held.objectives.contains(name) {
             return Err(BuildFault::Repeated);
         }
-        if self.held.objectives.len() >= MAX_OBJECTIVES {
+        if self.held.objectives.len() >= MOST_OBJECTIVES {
             return Err(BuildFault::Limit(What::Objectives));
         }
         self.held.objectives.add(self.alloc, name)?;
@@ -150,7 +143,7 @@ impl SpecBuilder {
         ensures refused { IfErr result (IsDeadlineRefused at) }
         ensures unchanged { OnErr result (self.new ≡ self.old) }
     {
-        if at > MAX_NUMBER {
+        if at > MOST_NUMBER {
             return Err(BuildFault::TooBig);
         }
         self.held.deadlines.push(Deadline { task, time: at })?;

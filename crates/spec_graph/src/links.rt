@@ -12,8 +12,7 @@ use crate::faults::BuildFault;
 use crate::numbers::{Arc, LinkNo, ResNo};
 use crate::rows::{Weights, has_big};
 use line_words::What;
-
-const MAX_LINKS: usize = 1024;
+use spec_model::MOST_LINKS;
 
 /// Adds the arcs of a link: from its first to its second resource, and where it is two-way the arc back.
 fn push_arcs(arcs: &mut Vec<Arc>, link: LinkNo, a: ResNo, b: ResNo, two_way: bool)
@@ -72,7 +71,7 @@ impl SpecBuilder {
         if has_big(traffic) {
             return Err(BuildFault::TooBig);
         }
-        if self.held.links.len() >= MAX_LINKS {
+        if self.held.links.len() >= MOST_LINKS {
             return Err(BuildFault::Limit(What::Links));
         }
         let weights = Weights::of(self.alloc, weights)?;

@@ -12,12 +12,10 @@ use crate::builder::SpecBuilder;
 use crate::faults::BuildFault;
 use crate::messages::Message;
 use crate::numbers::{MsgNo, TaskNo};
-use crate::rows::MAX_NUMBER;
 use line_words::What;
+use spec_model::{MOST_MESSAGES, MOST_NUMBER};
 use std::alloc::{AllocError, Global};
 use task_order::{TaskOrder, TaskSet};
-
-const MAX_MESSAGES: usize = 2048;
 
 /// Whether a task stands twice in a list.
 fn has_twice(alloc: Global, tasks: &[TaskNo]) -> Result<bool, AllocError>
@@ -38,10 +36,10 @@ fn has_twice(alloc: Global, tasks: &[TaskNo]) -> Result<bool, AllocError>
 fn is_too_big(delay: u64, quantity: u64) -> bool
     ensures { IsTrue result ↔ (IsBig delay ⊎ IsBig quantity) }
 {
-    if delay > MAX_NUMBER {
+    if delay > MOST_NUMBER {
         return true;
     }
-    quantity > MAX_NUMBER
+    quantity > MOST_NUMBER
 }
 
 /// The tasks, and all that come after them.
@@ -96,7 +94,7 @@ impl SpecBuilder {
         if after.has(sender.0 as usize) {
             return Err(BuildFault::Cyclic);
         }
-        if self.held.messages.len() >= MAX_MESSAGES {
+        if self.held.messages.len() >= MOST_MESSAGES {
             return Err(BuildFault::Limit(What::Messages));
         }
         let receivers = Vec::from_slice(self.alloc, receivers)?;

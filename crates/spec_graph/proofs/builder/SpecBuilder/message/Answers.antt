@@ -24,8 +24,8 @@ returns-then-has-clause-refused c =
     let m : Message = message_of c.args.sender c.args.receivers.now c.args.hops c.args.delay c.args.quantity in
     subst (λ (s : SpecValue). IsMessageRefused s c.args.name.now m Cyclic) c.self.view_is (repeated, small, (led c.args.sender.0).0 (sym c.has.ensures ∙ c.if-has.true))
 
-pub returns-then-len-ge-MAX_MESSAGES-clause-refused : goal.returns-then-len-ge-MAX_MESSAGES-clause-refused
-returns-then-len-ge-MAX_MESSAGES-clause-refused c =
+pub returns-then-len-ge-MOST_MESSAGES-clause-refused : goal.returns-then-len-ge-MOST_MESSAGES-clause-refused
+returns-then-len-ge-MOST_MESSAGES-clause-refused c =
     let repeated = neither (never c.contains.result c.contains.ensures c.if-contains.false) (never c.in_ok-has_twice.field-0 c.in_ok-has_twice.ensures c.if-branch.false) in
     let small = never c.is_too_big.result c.is_too_big.ensures c.if-is_too_big.false in
     let led : IsLed c.in_ok-after.after c.self.inside.held.messages.items (map task_number c.args.receivers.now) = c.in_ok-after.ensures c.self.inside.held.messages.items c.self.invariant.order in
