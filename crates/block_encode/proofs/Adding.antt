@@ -28,10 +28,10 @@ all_small s j wf =
     All-append IsSmall (map (weight_in s.option_weights j) (below (length s.options)) ++ flat_map (arc_weights s j) (below (length s.messages)) ++ map (weight_in s.resource_weights j) (below (length s.resources))) (map (weight_in s.link_weights j) (below (length s.links)))
     (All-append IsSmall (map (weight_in s.option_weights j) (below (length s.options)) ++ flat_map (arc_weights s j) (below (length s.messages))) (map (weight_in s.resource_weights j) (below (length s.resources)))
     (All-append IsSmall (map (weight_in s.option_weights j) (below (length s.options))) (flat_map (arc_weights s j) (below (length s.messages)))
-    (All-ones IsSmall (weight_in s.option_weights j) (length s.options) (λ i l. weight_in_small k (length s.options) s.option_weights j i wf.option_rows))
+    (All-ones IsSmall (weight_in s.option_weights j) (length s.options) (λ i l. weight_in_small k (length s.options) s.option_weights j i wf.plan.option_rows))
     (All-pieces IsSmall (arc_weights s j) (length s.messages) (λ m hm. All-ones IsSmall (arc_weight s j m) (length s.arcs) (λ a ha. arc_weight_small s j m a wf hm ha))))
-    (All-ones IsSmall (weight_in s.resource_weights j) (length s.resources) (λ i l. weight_in_small k (length s.resources) s.resource_weights j i wf.resource_rows)))
-    (All-ones IsSmall (weight_in s.link_weights j) (length s.links) (λ i l. weight_in_small k (length s.links) s.link_weights j i wf.link_rows))
+    (All-ones IsSmall (weight_in s.resource_weights j) (length s.resources) (λ i l. weight_in_small k (length s.resources) s.resource_weights j i wf.plan.resource_rows)))
+    (All-ones IsSmall (weight_in s.link_weights j) (length s.links) (λ i l. weight_in_small k (length s.links) s.link_weights j i wf.plan.link_rows))
 
 pub weight-small : (s : SpecValue) (j x : ℕ) → IsWellFormed s → weight s j x ≤ 2 ^ 40
 weight-small s j x wf = at (weights_of s j) (all_small s j wf) (cases_lt x (length (weights_of s j)))

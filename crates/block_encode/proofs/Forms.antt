@@ -37,7 +37,7 @@ pub somewhere_normal : (s : SpecValue) (b : ℕ) (ts : List Term) → IsWellForm
 somewhere_normal s b ts wf e =
     let k : ℕ = length s.objectives in
     subst (λ (us : List Term). IsNormal us 1) (sym e)
-    (normal_within (2 ^ 40) (below_var s b 0) (below_var s b (0 + k)) 1 (map (is_below s b) (below k)) (own_within s b 0 k) (omega (arith, own_total s b 0 k, wf.few_objectives)) (omega arith))
+    (normal_within (2 ^ 40) (below_var s b 0) (below_var s b (0 + k)) 1 (map (is_below s b) (below k)) (own_within s b 0 k) (omega (arith, own_total s b 0 k, wf.plan.few_objectives)) (omega arith))
 
 -- the constraint that the code makes of the terms
 pub made : (degree m : ℕ) (ts us : List Term) (c : Linear) → c ≡ record { terms = us; degree = m } → m ≡ degree → us ≡ ts → at_least degree ts ≡ record { terms = ts; degree = degree } → c ≡ at_least degree ts

@@ -10,7 +10,7 @@ use Rattle.pb_rules.specs.Linear.{Linear, IsNormal, VarsBelow}
 use Rattle.spec_model.specs.Spec.{SpecValue, below, those, message_at, arc_at, option_at, all_variables, arc_var, resource_var, link_var, step_var, covered_var}
 use Rattle.spec_model.specs.Rules.{of_task, of_task_on, options_of, goes_into, arcs_into, arcs_from, sender_of}
 use Rattle.spec_model.specs.WellFormed.{IsWellFormed}
-use Rattle.spec_model.proofs.InRange.{arc_in, option_in, message_in}
+use Rattle.spec_model.proofs.InRange.{arc_in, option_in, limit_in}
 use Rattle.spec_model.proofs.Joined.{All-pieces, All-ones, All-pieces_of, All-two, All-from_map, All-those}
 use Rattle.encode_model.specs.Encoding.{positive, negative, positives, negatives, put, at_least, option_on, options_on, receiver_options, arc_vars, steps_from, neighbours, step_at, resources_of, messages_of, cover_of, link_arcs, one_option, sender_start, option_covers, receiver_covered, receivers_covered, covered_once, one_arc_in, carries, arc_carries, has_cause, steps_have_cause, no_dangling, routes_of, message_part, option_allocates, cover_allocates, covers_allocate, resource_has_use, arc_allocates, arcs_allocate, link_has_use, allocation, options_chosen, encoding}
 use Rattle.encode_model.specs.Rising.{IsRising}
@@ -33,17 +33,17 @@ module _ (s : SpecValue) (wf : IsWellFormed s) (P : Linear → Type 0) (made : (
   both n m ts us h g few less = All-two P (at_least n ts) (at_least m us) (made n ts h few) (made m us g less)
 
   limit_few : (m : ℕ) → m < length s.messages → (message_at s m).limit + 1 < 2 ^ 63
-  limit_few m hm = omega (arith, (message_in s m wf hm).limit, wf.few_resources)
+  limit_few m hm = omega (arith, limit_in s m wf hm, wf.plan.few_resources)
 
   option_each : (t : ℕ) → All P (one_option s t)
   option_each t =
-      both 1 (length (options_of s t) - 1) (positives (options_of s t)) (negatives (options_of s t)) (shapes.options s t true) (shapes.options s t false) (omega arith) (omega (arith, few_those (of_task s t) (length s.options), wf.few_options))
+      both 1 (length (options_of s t) - 1) (positives (options_of s t)) (negatives (options_of s t)) (shapes.options s t true) (shapes.options s t false) (omega arith) (omega (arith, few_those (of_task s t) (length s.options), wf.plan.few_options))
 
   start_each : (m : ℕ) → m < length s.messages → (r : ℕ) → r < length s.resources → All P (sender_start s m r)
   start_each m hm r hr =
       let p = option_on s (sender_of s m) r in
       let v : ℕ = step_var s m r 0 in
-      both (length p) 1 (negatives p ++ positive v ∷ []) (positives p ++ negative v ∷ []) (shapes.start s m hm r false true hr) (shapes.start s m hm r true false hr) (omega (arith, few_those (of_task_on s (sender_of s m) r) (length s.options), wf.few_options)) (omega arith)
+      both (length p) 1 (negatives p ++ positive v ∷ []) (positives p ++ negative v ∷ []) (shapes.start s m hm r false true hr) (shapes.start s m hm r true false hr) (omega (arith, few_those (of_task_on s (sender_of s m) r) (length s.options), wf.plan.few_options)) (omega arith)
 
   receiver_each : (m : ℕ) → m < length s.messages → (w : ℕ) → All P (receiver_covered s m w)
   unfolding option_covers
@@ -64,7 +64,7 @@ module _ (s : SpecValue) (wf : IsWellFormed s) (P : Linear → Type 0) (made : (
   arcs_in_each m hm r hr =
       let us : List ℕ = arc_vars s m (arcs_into s r) in
       let vs : List ℕ = steps_from s m r 1 in
-      both (message_at s m).limit (length (arcs_into s r)) (positives us ++ negatives vs) (negatives us ++ positives vs) (shapes.arcs_steps s m hm r true false hr) (shapes.arcs_steps s m hm r false true hr) (omega (arith, limit_few m hm)) (omega (arith, few_those (goes_into s r) (length s.arcs), wf.few_arcs, wf.few_links))
+      both (message_at s m).limit (length (arcs_into s r)) (positives us ++ negatives vs) (negatives us ++ positives vs) (shapes.arcs_steps s m hm r true false hr) (shapes.arcs_steps s m hm r false true hr) (omega (arith, limit_few m hm)) (omega (arith, few_those (goes_into s r) (length s.arcs), wf.plan.few_arcs, wf.plan.few_links))
 
   carry_each : (m : ℕ) → m < length s.messages → (a : ℕ) → a < length s.arcs → (k : ℕ) → k < (message_at s m).limit → P (carries s m a k)
   carry_each m hm a ha k hk =

@@ -5,8 +5,7 @@ use Rattle.std.proofs.lemmas.List.{get_or-map, get_or-take, length-map, length-t
 use Rattle.std.proofs.lemmas.List.Elements.{Contains-append_cases, Contains-append_left, Contains-push}
 use Rattle.std.proofs.lemmas.List.Sums.{fold_push, sum_by_push, sum_by_more_le}
 use Rattle.spec_model.specs.Spec.{Name, SpecValue}
-use Rattle.spec_model.specs.WellFormed.{AreDistinct}
-use Rattle.spec_graph.specs.Plan.{IsPlan}
+use Rattle.spec_model.specs.WellFormed.{AreDistinct, IsPlan}
 use Rattle.tgff_reader.specs.Facts.{TgffValue, IsTgff, IsGraph, graph_index, task_count, arc_count}
 use Rattle.tgff_reader.specs.declared.file.Graph.{Graph}
 use Rattle.graph_plan.specs.Graphs.{name_in, task_in, arc_in, message_of, with_graph, with_graphs}

@@ -63,12 +63,12 @@ bind_fine s t r n task resource o number et er lt lr lo ot or =
 
 bind_read : (s : SpecValue) → IsWellFormed s → HasNames s → (o : ℕ) → o < length s.options → IsReadAs s o (bind_words s o)
 bind_read s w h o lt =
-    let is = w.options_in o no_option lt in
-    let small : o < 2 ^ 63 = omega (arith, lt, w.few_options) in
+    let is = w.plan.options_in o no_option lt in
+    let small : o < 2 ^ 63 = omega (arith, lt, w.plan.few_options) in
     let task = (option_at s o).task in
     let resource = (option_at s o).resource in
     let fine = bind_fine s (name_at s.tasks task) (name_at s.resources resource) (decimal o) task resource o (plain_whole_of-decimal o small)
-    (number_of_name s.tasks task w.tasks_distinct is.task) (number_of_name s.resources resource w.resources_distinct is.resource) is.task is.resource lt refl refl in
+    (number_of_name s.tasks task w.plan.tasks_distinct is.task) (number_of_name s.resources resource w.plan.resources_distinct is.resource) is.task is.resource lt refl refl in
     record {
       words = (record { some = omega arith; bytes = refl }, (name_in s.tasks task h.tasks is.task, (name_in s.resources resource h.resources is.resource, (decimal_name o small, tt))));
       some_word = omega arith;
@@ -85,15 +85,15 @@ use_fine s m l p q message a em lm ll lp lq ea la =
 
 use_read : (s : SpecValue) → IsWellFormed s → HasNames s → (m a : ℕ) → m < length s.messages → a < length s.arcs → IsReadAs s (arc_var s m a) (use_words s m a)
 use_read s w h m a lm la =
-    let is = w.arcs_in a no_arc la in
+    let is = w.plan.arcs_in a no_arc la in
     let arc = arc_at s a in
-    let named : m < length s.message_names = omega (arith, lm, w.named) in
-    let link = number_of_name s.links arc.link w.links_distinct is.link in
-    let tail = number_of_name s.resources arc.tail w.resources_distinct is.tail in
-    let head = number_of_name s.resources arc.head w.resources_distinct is.head in
-    let place : arc_number s (name_at s.links arc.link) (name_at s.resources arc.tail) (name_at s.resources arc.head) ≡ a = rw (link, tail, head) (place_of_arc s.arcs a no_arc w.arcs_distinct la) in
+    let named : m < length s.message_names = omega (arith, lm, w.plan.named) in
+    let link = number_of_name s.links arc.link w.plan.links_distinct is.link in
+    let tail = number_of_name s.resources arc.tail w.plan.resources_distinct is.tail in
+    let head = number_of_name s.resources arc.head w.plan.resources_distinct is.head in
+    let place : arc_number s (name_at s.links arc.link) (name_at s.resources arc.tail) (name_at s.resources arc.head) ≡ a = rw (link, tail, head) (place_of_arc s.arcs a no_arc w.plan.arcs_distinct la) in
     let fine = use_fine s (name_at s.message_names m) (name_at s.links arc.link) (name_at s.resources arc.tail) (name_at s.resources arc.head) m a
-    (number_of_name s.message_names m w.messages_distinct named) named (omega (arith, link, is.link)) (omega (arith, tail, is.tail)) (omega (arith, head, is.head)) place la in
+    (number_of_name s.message_names m w.plan.messages_distinct named) named (omega (arith, link, is.link)) (omega (arith, tail, is.tail)) (omega (arith, head, is.head)) place la in
     record {
       words = (record { some = omega arith; bytes = refl }, (name_in s.message_names m h.messages named, (name_in s.links arc.link h.links is.link, (name_in s.resources arc.tail h.resources is.tail, (name_in s.resources arc.head h.resources is.head, tt)))));
       some_word = omega arith;
@@ -111,8 +111,8 @@ alloc_read s w h r lt =
       words = (record { some = omega arith; bytes = refl }, (name_in s.resources r h.resources lt, tt));
       some_word = omega arith;
       item = refl;
-      tests = name_fine s.resources r w.resources_distinct lt;
-      variable = ap (resource_var s) (number_of_name s.resources r w.resources_distinct lt);
+      tests = name_fine s.resources r w.plan.resources_distinct lt;
+      variable = ap (resource_var s) (number_of_name s.resources r w.plan.resources_distinct lt);
     }
 
 wire_read : (s : SpecValue) → IsWellFormed s → HasNames s → (l : ℕ) → l < length s.links → IsReadAs s (link_var s l) (wire_words s l)
@@ -121,8 +121,8 @@ wire_read s w h l lt =
       words = (record { some = omega arith; bytes = refl }, (name_in s.links l h.links lt, tt));
       some_word = omega arith;
       item = refl;
-      tests = name_fine s.links l w.links_distinct lt;
-      variable = ap (link_var s) (number_of_name s.links l w.links_distinct lt);
+      tests = name_fine s.links l w.plan.links_distinct lt;
+      variable = ap (link_var s) (number_of_name s.links l w.plan.links_distinct lt);
     }
 
 read_as : (s : SpecValue) (v u : ℕ) (ws us : Words) → v ≡ u → ws ≡ us → IsReadAs s u us → IsReadAs s v ws

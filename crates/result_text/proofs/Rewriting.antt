@@ -111,7 +111,7 @@ use_back s w m l p q e =
     let two = neither (known_m || known_l) known_p three.0 in
     let one = neither known_m known_l two.0 in
     let lt : a < length s.arcs = leb-false (length s.arcs) a y.0 in
-    let there : message < length s.messages = omega (arith, known_lt s.message_names m (unnot _ one.0), w.named) in
+    let there : message < length s.messages = omega (arith, known_lt s.message_names m (unnot _ one.0), w.plan.named) in
     let is = arc_passes (number_of s.links l) (number_of s.resources p) (number_of s.resources q) (arc_at s a)
     (passes_at_first (is_arc_of (number_of s.links l) (number_of s.resources p) (number_of s.resources q)) s.arcs no_arc lt) in
     let link : name_at s.links (arc_at s a).link ≡ l = ap (name_at s.links) is.link ∙ name_of_number s.links l (unnot _ one.1) in

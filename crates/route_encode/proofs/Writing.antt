@@ -9,7 +9,7 @@ use Rattle.pb_rules.specs.Linear.{Linear, IsNormal, VarsBelow}
 use Rattle.pb_constraints.specs.Sets.{SetValue, IsBelow}
 use Rattle.spec_model.specs.Spec.{SpecValue, message_at, all_variables}
 use Rattle.spec_model.specs.WellFormed.{IsWellFormed}
-use Rattle.spec_model.proofs.InRange.{message_in}
+use Rattle.spec_model.proofs.InRange.{limit_in}
 use Rattle.encode_model.specs.Encoding.{put, at_least}
 use Rattle.encode_model.specs.Rising.{TermsWithin, IsRising}
 use Rattle.encode_model.proofs.Rising.{at_least-within, normal_of_rising, below_within}
@@ -63,7 +63,7 @@ few_of n s t en e wf = let few = (subst IsWellFormed e wf).few_variables in omeg
 pub limit_small : (s t : SpecValue) (m k : ℕ) → t ≡ s → IsWellFormed t → m < length s.messages → k < (message_at s m).limit → k + 1 < 2 ^ 64
 limit_small s t m k e wf hm hk =
     let w = subst IsWellFormed e wf in
-    omega (arith, hk, (message_in s m w hm).limit, w.few_resources)
+    omega (arith, hk, limit_in s m w hm, w.plan.few_resources)
 
 pub ruleset term_steps = (small_terms, normal_terms, below_terms, added)
 

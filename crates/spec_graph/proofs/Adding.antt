@@ -4,9 +4,9 @@ use Rattle.std.proofs.lemmas.List.{get_or_append_left, get_or-append_right, get_
 use Rattle.std.proofs.lemmas.List.Elements.{All-push, All-append, All-cons, All-nil}
 use Rattle.std.proofs.lemmas.Bool.{cases_lt}
 use Rattle.spec_model.specs.Spec.{Name, SpecValue, Message, Arc}
-use Rattle.spec_model.specs.WellFormed.{AreDistinct, IsArcIn, AreRows, Leads}
+use Rattle.spec_model.specs.WellFormed.{AreDistinct, IsArcIn, AreRows, Leads, IsPlan, IsMessageIn}
 use Rattle.spec_model.proofs.Chains.{still_none}
-use Rattle.spec_graph.specs.Plan.{IsPlan, IsPlanned, arcs_of_link, with_link, with_message}
+use Rattle.spec_graph.specs.Plan.{arcs_of_link, with_link, with_message}
 use Rattle.task_order.specs.Order.{IsOrderOf, IsLed, comes_after, is_joined}
 use Rattle.task_order.proofs.Orders.{order_more}
 use Rattle.spec_graph.specs.Lists.{message_of, arc_value}
@@ -179,7 +179,7 @@ plan_message s name m p new sender receivers some once small free room =
       arcs_distinct = p.arcs_distinct;
       arcs_in = arcs_grow s t s.arcs g p.arcs_in;
       options_in = options_grow s t s.options g p.options_in;
-      messages_in = messages_grow s t (s.messages ++ m ∷ []) g (All-push (IsPlanned s) s.messages m p.messages_in (record {
+      messages_in = messages_grow s t (s.messages ++ m ∷ []) g (All-push (IsMessageIn s) s.messages m p.messages_in (record {
         sender = sender;
         receivers = receivers;
         some_receiver = some;

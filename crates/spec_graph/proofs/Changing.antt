@@ -5,19 +5,18 @@ use Rattle.std.proofs.lemmas.List.Elements.{All-map, All-set, Contains-get_or}
 use Rattle.std.proofs.lemmas.Bool.{cases_lt}
 use Rattle.std.specs.Prelude.{Bool}
 use Rattle.spec_model.specs.Spec.{SpecValue, Message}
-use Rattle.spec_model.specs.WellFormed.{Sends, HasCycle}
+use Rattle.spec_model.specs.WellFormed.{Sends, HasCycle, IsPlan, IsMessageIn}
 use Rattle.spec_model.proofs.Chains.{none_within, none_mapped, sends_mapped, sends_to_mapped, KeepsWay}
 use Rattle.task_order.specs.Order.{IsOrderOf}
 use Rattle.task_order.proofs.Orders.{order_within}
 use Rattle.spec_graph.specs.Lists.{message_in}
-use Rattle.spec_graph.specs.Plan.{IsPlan, IsPlanned}
 use Rattle.spec_graph.specs.Changes.{changed, IsSmallChange, with_changed}
 use Rattle.spec_graph.specs.declared.messages.Change.{Change}
 use Rattle.spec_graph.specs.declared.messages.Change.TheVariants.{Hops, AtMost, Delay, Quantity}
 use Rattle.spec_graph.proofs.Growing.{Grows, arcs_grow, options_grow, messages_grow, deadlines_grow}
 
 -- a plan with other messages, and as many names
-pub plan_messages : (s : SpecValue) (names : List (List ℕ)) (ms : List Message) → IsPlan s → length ms ≤ 2048 → length names ≡ length ms → ((i j : ℕ) (d : List ℕ) → i < j → j < length names → get_or names i d ≡ get_or names j d → ⊥) → All (IsPlanned s) ms → ¬ HasCycle ms → IsPlan (record s { message_names = names; messages = ms })
+pub plan_messages : (s : SpecValue) (names : List (List ℕ)) (ms : List Message) → IsPlan s → length ms ≤ 2048 → length names ≡ length ms → ((i j : ℕ) (d : List ℕ) → i < j → j < length names → get_or names i d ≡ get_or names j d → ⊥) → All (IsMessageIn s) ms → ¬ HasCycle ms → IsPlan (record s { message_names = names; messages = ms })
 plan_messages s names ms p few named distinct inside none =
     let t : SpecValue = record s { message_names = names; messages = ms } in
     let g : Grows s t = record { tasks = omega arith; resources = omega arith; links = omega arith } in
@@ -56,7 +55,7 @@ keeps_way (Delay n) = record { sender = λ m. refl; receivers = λ m. refl }
 keeps_way (Quantity n) = record { sender = λ m. refl; receivers = λ m. refl }
 
 -- a small change of a message of a plan
-pub still_planned : (s : SpecValue) (change : Change) → IsSmallChange change → (m : Message) → IsPlanned s m → IsPlanned s (changed change m)
+pub still_planned : (s : SpecValue) (change : Change) → IsSmallChange change → (m : Message) → IsMessageIn s m → IsMessageIn s (changed change m)
 still_planned s (Hops n) h m p = record { sender = p.sender; receivers = p.receivers; some_receiver = p.some_receiver; each_once = p.each_once; delay = p.delay; quantity = p.quantity }
 still_planned s (AtMost n) h m p = record { sender = p.sender; receivers = p.receivers; some_receiver = p.some_receiver; each_once = p.each_once; delay = p.delay; quantity = p.quantity }
 still_planned s (Delay n) h m p = record { sender = p.sender; receivers = p.receivers; some_receiver = p.some_receiver; each_once = p.each_once; delay = h; quantity = p.quantity }
@@ -68,7 +67,7 @@ pub plan_all_changed : (s : SpecValue) (change : Change) (ms : List Message) →
 plan_all_changed s change ms e small p =
     subst (λ (ks : List Message). IsPlan (record s { messages = ks })) (sym e)
     (plan_messages s s.message_names (map (changed change) s.messages) p (omega (arith, p.few_messages, long)) (p.named ∙ sym long) p.messages_distinct
-    (All-map (IsPlanned s) (changed change) s.messages (λ k d l. still_planned s change small (get_or s.messages k d) (p.messages_in k d l)))
+    (All-map (IsMessageIn s) (changed change) s.messages (λ k d l. still_planned s change small (get_or s.messages k d) (p.messages_in k d l)))
     (none_mapped (changed change) (keeps_way change) s.messages p.no_cycle))
   where
     long : length (map (changed change) s.messages) ≡ length s.messages
@@ -134,7 +133,7 @@ pub plan_one_changed : (s : SpecValue) (change : Change) (m : ℕ) (ms : List Me
 plan_one_changed s change m ms e lm small p =
     subst (λ (ks : List Message). IsPlan (record s { messages = ks })) (sym e)
     (plan_messages s s.message_names (with_changed s.messages m change) p (omega (arith, p.few_messages, ways.long)) (p.named ∙ sym ways.long) p.messages_distinct
-    (All-set (IsPlanned s) s.messages m (changed change (message_in s.messages m)) (still_planned s change small (message_in s.messages m) (p.messages_in m _ lm)) p.messages_in)
+    (All-set (IsMessageIn s) s.messages m (changed change (message_in s.messages m)) (still_planned s change small (message_in s.messages m) (p.messages_in m _ lm)) p.messages_in)
     (none_within (with_changed s.messages m change) s.messages (sends_same (with_changed s.messages m change) s.messages ways) p.no_cycle))
   where
     ways : SameWays (with_changed s.messages m change) s.messages

@@ -11,15 +11,17 @@ use Rattle.std.proofs.lemmas.List.Elements.{All-weaker, All-map}
 use Rattle.spec_model.specs.Spec.{SpecValue, Message, Arc as ArcValue, Choice as ChoiceValue, below, message_at, arc_at, all_variables, further, choice}
 use Rattle.spec_model.specs.Rules.{of_task}
 use Rattle.spec_model.specs.Vectors.{weight_in}
-use Rattle.spec_model.specs.WellFormed.{IsWellFormed, IsArcIn, IsMessageIn, IsOptionIn, IsDeadlineIn, message_size, option_count, size, most_hops}
+use Rattle.spec_model.specs.WellFormed.{IsWellFormed, IsArcIn, IsMessageIn, message_size, option_count, size, most_hops, IsPlan}
 use Rattle.spec_model.proofs.Sums.{sum_by_map, sum_by_same, count_those}
-use Rattle.spec_model.proofs.Chains.{KeepsWay, none_mapped}
+use Rattle.spec_model.proofs.Chains.{KeepsWay}
 use Rattle.spec_graph.specs.Lists.{arc_value, choice_value}
-use Rattle.spec_graph.specs.Plan.{IsPlan, IsPlanned, finished, with_limit_at_most}
+use Rattle.spec_graph.specs.Plan.{finished, with_limit_at_most}
 use Rattle.spec_graph.specs.Refusals.{IsFinishAccepted, HasBigProduct, CarriesTooMuch}
 use Rattle.spec_graph.specs.Sums.{kept_further, kept_terms, options_of_task, is_of_task, count_of, IsCounted}
 use Rattle.spec_graph.specs.declared.numbers.Arc.{Arc}
 use Rattle.spec_graph.specs.declared.numbers.Choice.{Choice}
+use Rattle.spec_graph.specs.declared.messages.Change.TheVariants.{AtMost}
+use Rattle.spec_graph.proofs.Changing.{plan_all_changed}
 use Rattle.spec_graph.proofs.Mapped.{all_of_map}
 
 pub finished_variables_is : (s : SpecValue) (o m a r l h x : ℕ) (ms : List Message) → o ≡ length s.options → m ≡ length s.messages → a ≡ length s.arcs → r ≡ length s.resources → l ≡ length s.links → h ≡ most_hops s → ms ≡ s.messages → x ≡ sum_by (kept_further r h) ms → o + m * a + r + l + x ≡ all_variables (finished s)
@@ -53,7 +55,7 @@ few_counted s xs counts p e ec =
     long = omega (arith, p.few_options, ap length e, length-map xs choice_value)
 
 pub all_counted : (s : SpecValue) (counts : List ℕ) (ms : List Message) → IsPlan s → length counts ≡ length s.tasks → ms ≡ s.messages → All (IsCounted counts) ms
-all_counted s counts ms p e es = subst (All (IsCounted counts)) (sym es) (All-weaker (IsPlanned s) (IsCounted counts) (λ m h. record {
+all_counted s counts ms p e es = subst (All (IsCounted counts)) (sym es) (All-weaker (IsMessageIn s) (IsCounted counts) (λ m h. record {
   sender = omega (arith, h.sender, e);
   receivers = All-weaker (λ w. w < length s.tasks) (λ w. w < length counts) (λ w l. omega (arith, l, e)) m.receivers h.receivers;
 }) s.messages p.messages_in)
@@ -70,7 +72,7 @@ finished_terms_is s xs counts o r l a h x ms p e ec eo er el ea eh es ex =
     rw (eo, er, el, sum, mapped, same)
   where
     -- each message counts the same
-    one : (m : Message) → IsPlanned s m → message_size (finished s) (with_limit_at_most (most_hops s) m) ≡ kept_terms counts (length s.resources) (length s.arcs) (most_hops s) m
+    one : (m : Message) → IsMessageIn s m → message_size (finished s) (with_limit_at_most (most_hops s) m) ≡ kept_terms counts (length s.resources) (length s.arcs) (most_hops s) m
     one m q =
         let starts = counted_at s xs counts m.sender e ec q.sender in
         let ends = sum_by_same (option_count (finished s)) (count_of counts) m.receivers (λ k d l'. counted_at s xs counts (get_or m.receivers k d) e ec (q.receivers k d l')) in
@@ -111,48 +113,12 @@ products_small s none m a j hm ha = go (cases_lt (2 ^ 40) (weight_in s.traffic_w
 
 pub finished_well : (s : SpecValue) → IsPlan s → IsFinishAccepted s → IsWellFormed (finished s)
 finished_well s p f = record {
-  few_tasks = p.few_tasks;
-  few_messages = omega (arith, long, p.few_messages);
-  few_resources = p.few_resources;
-  few_links = p.few_links;
-  few_arcs = p.few_arcs;
-  few_options = p.few_options;
-  few_objectives = p.few_objectives;
+  plan = plan_all_changed s (AtMost (most_hops s)) (finished s).messages refl tt p;
+  limits = All-map (λ m. m.limit ≤ most_hops s) (with_limit_at_most (most_hops s)) s.messages (λ i d l. omega arith);
   few_variables = f.few_variables;
   few_terms = f.few_terms;
-  named = omega (arith, long, p.named);
-  tasks_distinct = p.tasks_distinct;
-  messages_distinct = p.messages_distinct;
-  resources_distinct = p.resources_distinct;
-  links_distinct = p.links_distinct;
-  objectives_distinct = p.objectives_distinct;
-  pairs_distinct = p.pairs_distinct;
-  arcs_distinct = p.arcs_distinct;
-  arcs_in = All-weaker (IsArcIn s) (IsArcIn (finished s)) (λ a h. record { link = h.link; tail = h.tail; head = h.head; apart = h.apart }) s.arcs p.arcs_in;
-  options_in = All-weaker (IsOptionIn s) (IsOptionIn (finished s)) (λ o h. record { task = h.task; resource = h.resource; time = h.time }) s.options p.options_in;
-  messages_in = All-map (IsMessageIn (finished s)) (with_limit_at_most (most_hops s)) s.messages (All-weaker (IsPlanned s) (λ m. IsMessageIn (finished s) (with_limit_at_most (most_hops s) m)) message s.messages p.messages_in);
-  deadlines_in = All-weaker (IsDeadlineIn s) (IsDeadlineIn (finished s)) (λ d h. record { task = h.task; time = h.time }) s.deadlines p.deadlines_in;
-  option_rows = p.option_rows;
-  resource_rows = p.resource_rows;
-  link_rows = p.link_rows;
-  traffic_rows = p.traffic_rows;
   products = products_small s f.small;
-  no_cycle = none_mapped (with_limit_at_most (most_hops s)) (limit_keeps (most_hops s)) s.messages p.no_cycle;
 }
-  where
-    long : length (finished s).messages ≡ length s.messages
-    long = length-map s.messages (with_limit_at_most (most_hops s))
-
-    message : (m : Message) → IsPlanned s m → IsMessageIn (finished s) (with_limit_at_most (most_hops s) m)
-    message m h = record {
-      sender = h.sender;
-      receivers = h.receivers;
-      some_receiver = h.some_receiver;
-      each_once = h.each_once;
-      limit = omega arith;
-      delay = h.delay;
-      quantity = h.quantity;
-    }
 
 -- a whole list that is changed in place
 pub put_back : {A : Type 0} (f : A → A) (xs ys zs : List A) (n : ℕ) → n ≡ length xs → zs ≡ xs → ys ≡ map f zs → take n (ys ++ drop (length ys) xs) ≡ map f xs

@@ -4,8 +4,7 @@ use Rattle.std.proofs.lemmas.List.{get_or_append_left, get_or-append_right, get_
 use Rattle.std.proofs.lemmas.List.Elements.{All-push, All-weaker}
 use Rattle.std.proofs.lemmas.Bool.{cases_lt}
 use Rattle.spec_model.specs.Spec.{Name, SpecValue, Message, Arc, Choice, Deadline}
-use Rattle.spec_model.specs.WellFormed.{AreDistinct, IsArcIn, IsOptionIn, IsDeadlineIn, IsRow, AreRows}
-use Rattle.spec_graph.specs.Plan.{IsPlan, IsPlanned}
+use Rattle.spec_model.specs.WellFormed.{AreDistinct, IsArcIn, IsOptionIn, IsDeadlineIn, IsRow, AreRows, IsPlan, IsMessageIn}
 use Rattle.spec_graph.specs.Refusals.{HasBig, IsMapped}
 
 -- what stands at the end of a list with one element more
@@ -46,8 +45,8 @@ arcs_grow s t xs g = All-weaker (IsArcIn s) (IsArcIn t) (λ a h. record { link =
 pub options_grow : (s t : SpecValue) (xs : List Choice) → Grows s t → All (IsOptionIn s) xs → All (IsOptionIn t) xs
 options_grow s t xs g = All-weaker (IsOptionIn s) (IsOptionIn t) (λ o h. record { task = omega (arith, h.task, g.tasks); resource = omega (arith, h.resource, g.resources); time = h.time }) xs
 
-pub messages_grow : (s t : SpecValue) (xs : List Message) → Grows s t → All (IsPlanned s) xs → All (IsPlanned t) xs
-messages_grow s t xs g = All-weaker (IsPlanned s) (IsPlanned t) (λ m h. record {
+pub messages_grow : (s t : SpecValue) (xs : List Message) → Grows s t → All (IsMessageIn s) xs → All (IsMessageIn t) xs
+messages_grow s t xs g = All-weaker (IsMessageIn s) (IsMessageIn t) (λ m h. record {
   sender = omega (arith, h.sender, g.tasks);
   receivers = All-weaker (λ w. w < length s.tasks) (λ w. w < length t.tasks) (λ w l. omega (arith, l, g.tasks)) m.receivers h.receivers;
   some_receiver = h.some_receiver;

@@ -6,7 +6,7 @@ use Rattle.std.proofs.lemmas.Bool.{false≢true}
 use Rattle.std.proofs.lemmas.List.{get_or-map, length-map, map-append, get_or_default}
 use Rattle.std.proofs.lemmas.List.Elements.{All-push, All-contains, Contains-get_or, Contains-push, Contains-push_cases, Contains-append_left}
 use Rattle.spec_model.specs.Spec.{Name, SpecValue, Message, name_at, those}
-use Rattle.spec_model.specs.WellFormed.{AreDistinct, Sends}
+use Rattle.spec_model.specs.WellFormed.{AreDistinct, Sends, IsPlan, IsMessageIn}
 use Rattle.spec_model.proofs.Chains.{none_within}
 use Rattle.spec_model.proofs.Joined.{All-those}
 use Rattle.spec_model.proofs.Tests.{Contains-those}
@@ -15,7 +15,6 @@ use Rattle.task_order.specs.Order.{IsOrderOf}
 use Rattle.task_order.proofs.Orders.{order_within}
 use Rattle.spec_graph.specs.Lists.{message_in}
 use Rattle.spec_graph.specs.Merged.{is_number, is_unlisted, unlisted, with_once, with_all_once, with_receivers, messages_at, all_receivers, first_sender, merged, merged_message, merged_messages, merged_names, AreOfOneSender, IsNameOfOther}
-use Rattle.spec_graph.specs.Plan.{IsPlan, IsPlanned}
 use Rattle.spec_graph.proofs.Changing.{plan_messages}
 use Rattle.spec_graph.proofs.Growing.{distinct_push}
 use Rattle.spec_graph.proofs.Keeping.{those_yes, those_no, name_new, name_free}
@@ -164,32 +163,32 @@ greatest_within f b (m ∷ parts) n l h = greatest_within f b parts (max n (f m)
 none_distinct : AreDistinct {A = ℕ} []
 none_distinct i j d l h e = absurd (omega (arith, h))
 
-first_planned : (s : SpecValue) (parts : List Message) → 0 < length parts → All (IsPlanned s) parts → first_sender parts < length s.tasks
+first_planned : (s : SpecValue) (parts : List Message) → 0 < length parts → All (IsMessageIn s) parts → first_sender parts < length s.tasks
 first_planned s [] l h = absurd (omega (arith, l))
-first_planned s (m ∷ parts) l h = (All-contains (IsPlanned s) (m ∷ parts) m h (contains_head m m parts refl)).sender
+first_planned s (m ∷ parts) l h = (All-contains (IsMessageIn s) (m ∷ parts) m h (contains_head m m parts refl)).sender
 
-some_received : (s : SpecValue) (parts : List Message) → 0 < length parts → All (IsPlanned s) parts → 0 < length (all_receivers parts)
+some_received : (s : SpecValue) (parts : List Message) → 0 < length parts → All (IsMessageIn s) parts → 0 < length (all_receivers parts)
 some_received s [] l h = absurd (omega (arith, l))
 some_received s (m ∷ parts) l h =
-    let p = All-contains (IsPlanned s) (m ∷ parts) m h (contains_head m m parts refl) in
+    let p = All-contains (IsMessageIn s) (m ∷ parts) m h (contains_head m m parts refl) in
     let w : ℕ = get_or m.receivers 0 0 in
     let i = gathered_has (m ∷ parts) [] m w (contains_head m m parts refl) (Contains-get_or m.receivers 0 0 p.some_receiver) in
     omega (arith, i.1)
 
-pub merged_planned : (s : SpecValue) (parts : List Message) → 0 < length parts → All (IsPlanned s) parts → IsPlanned s (merged_message parts)
+pub merged_planned : (s : SpecValue) (parts : List Message) → 0 < length parts → All (IsMessageIn s) parts → IsMessageIn s (merged_message parts)
 merged_planned s parts l h = record {
   sender = first_planned s parts l h;
   receivers = from_members (λ w. w < length s.tasks) (all_receivers parts) receives;
   some_receiver = some_received s parts l h;
   each_once = gathered_distinct parts [] none_distinct;
-  delay = greatest_within (λ (m : Message). m.delay) (2 ^ 40) parts 0 (omega arith) (λ m i. (All-contains (IsPlanned s) parts m h i).delay);
-  quantity = greatest_within (λ (m : Message). m.quantity) (2 ^ 40) parts 0 (omega arith) (λ m i. (All-contains (IsPlanned s) parts m h i).quantity);
+  delay = greatest_within (λ (m : Message). m.delay) (2 ^ 40) parts 0 (omega arith) (λ m i. (All-contains (IsMessageIn s) parts m h i).delay);
+  quantity = greatest_within (λ (m : Message). m.quantity) (2 ^ 40) parts 0 (omega arith) (λ m i. (All-contains (IsMessageIn s) parts m h i).quantity);
 }
   where
     receives : (w : ℕ) → Contains (all_receivers parts) w → w < length s.tasks
     receives w i = elim (gathered_cases parts [] w i) [
       | inl none ↦ absurd (omega (arith, none.1))
-      | inr r ↦ All-contains (λ w. w < length s.tasks) r.part.receivers w (All-contains (IsPlanned s) parts r.part h r.among).receivers r.receives
+      | inr r ↦ All-contains (λ w. w < length s.tasks) r.part.receivers w (All-contains (IsMessageIn s) parts r.part h r.among).receivers r.receives
     ]
 
 -- ---- who sends to whom
@@ -282,7 +281,7 @@ plan_merged s name listed p some there one free =
     (omega (arith, long, fewer, p.few_messages))
     (omega (arith, long, names_long, ap (λ (k : ℕ). length (unlisted listed k)) p.named))
     (distinct_push (map (name_at s.message_names) (unlisted listed (length s.message_names))) name (distinct_those s.message_names (is_unlisted listed) (length s.message_names) (omega arith) p.messages_distinct) (name_free s.message_names name listed free))
-    (All-push (IsPlanned s) kept (merged_message parts) (from_members (IsPlanned s) kept kept_planned) (merged_planned s parts (omega (arith, some, length-map listed (message_in s.messages))) (from_members (IsPlanned s) parts part_planned)))
+    (All-push (IsMessageIn s) kept (merged_message parts) (from_members (IsMessageIn s) kept kept_planned) (merged_planned s parts (omega (arith, some, length-map listed (message_in s.messages))) (from_members (IsMessageIn s) parts part_planned)))
     (none_within (merged_messages s.messages listed) s.messages (sends_merged s.messages listed there one) p.no_cycle)
   where
     n : ℕ
@@ -303,18 +302,18 @@ plan_merged s name listed p some there one free =
     fewer : length (unlisted listed n) < n
     fewer = fewer_unlisted listed n (get_or listed 0 0) (there 0 0 some) (Contains-get_or listed 0 0 some)
 
-    planned : (k : ℕ) → k < n → IsPlanned s (message_in s.messages k)
+    planned : (k : ℕ) → k < n → IsMessageIn s (message_in s.messages k)
     planned k l = p.messages_in k _ l
 
-    kept_planned : (m : Message) → Contains kept m → IsPlanned s m
+    kept_planned : (m : Message) → Contains kept m → IsMessageIn s m
     kept_planned m i =
         let q = place_of s.messages (unlisted listed n) m i in
-        subst (IsPlanned s) q.same (planned q.place (All-contains (λ k. k < n) (unlisted listed n) q.place (All-those (λ k. k < n) (is_unlisted listed) n (λ k l e. l)) q.among))
+        subst (IsMessageIn s) q.same (planned q.place (All-contains (λ k. k < n) (unlisted listed n) q.place (All-those (λ k. k < n) (is_unlisted listed) n (λ k l e. l)) q.among))
 
-    part_planned : (m : Message) → Contains parts m → IsPlanned s m
+    part_planned : (m : Message) → Contains parts m → IsMessageIn s m
     part_planned m i =
         let q = place_of s.messages listed m i in
-        subst (IsPlanned s) q.same (planned q.place (All-contains (λ k. k < n) listed q.place there q.among))
+        subst (IsMessageIn s) q.same (planned q.place (All-contains (λ k. k < n) listed q.place there q.among))
 
 -- ---- the same, where the lists are known by equations
 

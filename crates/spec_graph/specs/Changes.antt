@@ -1,5 +1,6 @@
 -- What the calls that change what stands make of a plan.
-use Rattle.std.specs.Prelude.{ℕ, ◌≤◌, ◌^◌, List, [], slice_index_or, slice_set}
+use Rattle.std.specs.Prelude.{ℕ, ◌≤◌, List, [], slice_index_or, slice_set}
+use Rattle.spec_model.specs.Limits.{most_number}
 use Rattle.spec_model.specs.Spec.{Message}
 use Rattle.spec_graph.specs.Plan.{with_limit_at_most}
 use Rattle.spec_graph.specs.Lists.{message_in}
@@ -17,8 +18,8 @@ changed (Quantity n) m = record m { quantity = n }
 abbrev pub IsSmallChange : Change → Type 0
 IsSmallChange (Hops _) = Unit {0}
 IsSmallChange (AtMost _) = Unit {0}
-IsSmallChange (Delay n) = n ≤ 2 ^ 40
-IsSmallChange (Quantity n) = n ≤ 2 ^ 40
+IsSmallChange (Delay n) = n ≤ most_number
+IsSmallChange (Quantity n) = n ≤ most_number
 
 -- the messages, of which message m is changed
 abbrev pub with_changed : List Message → ℕ → Change → List Message

@@ -1,4 +1,5 @@
 pub mod Lists
+pub mod Held
 pub mod Plan
 pub mod Refusals
 pub mod Builder

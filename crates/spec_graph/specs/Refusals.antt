@@ -1,6 +1,7 @@
 -- When each call of a builder is refused, and with what: of the conditions in the order of the call, the first
 -- that holds.
-use Rattle.std.specs.Prelude.{◌≡◌, ◌≢◌, ℕ, ◌*◌, ◌<◌, ◌≤◌, ◌^◌, ◌⊎◌, List, [], length, slice_index_or, Any, Contains}
+use Rattle.std.specs.Prelude.{◌≡◌, ◌≢◌, ℕ, ◌*◌, ◌<◌, ◌≤◌, ◌⊎◌, List, [], length, slice_index_or, Any, Contains}
+use Rattle.spec_model.specs.Limits.{most_tasks, most_messages, most_resources, most_links, most_options, most_objectives, most_variables, most_terms, most_number}
 use Rattle.spec_model.specs.Spec.{Name, SpecValue, Message, Arc, Choice, all_variables}
 use Rattle.spec_model.specs.WellFormed.{Leads, size}
 use Rattle.spec_graph.specs.Plan.{finished}
@@ -10,7 +11,7 @@ use Rattle.line_words.specs.declared.refusals.What.TheVariants.{Tasks, Messages,
 
 -- a weight, time, delay or quantity that is too big
 abbrev pub IsBig : ℕ → Type 0
-IsBig n = 2 ^ 40 < n
+IsBig n = most_number < n
 
 -- one of the weights is too big
 abbrev pub HasBig : List ℕ → Type 0
@@ -19,7 +20,7 @@ HasBig weights = Any IsBig weights
 -- a task is refused
 abbrev pub IsTaskRefused : SpecValue → Name → BuildFault → Type 0
 IsTaskRefused s name Repeated = Contains s.tasks name
-IsTaskRefused s name (Limit what) = (what ≡ Tasks) × (¬ Contains s.tasks name) × (1024 ≤ length s.tasks)
+IsTaskRefused s name (Limit what) = (what ≡ Tasks) × (¬ Contains s.tasks name) × (most_tasks ≤ length s.tasks)
 IsTaskRefused s name NoMemory = Unit {0}
 IsTaskRefused s name SelfLink = ⊥
 IsTaskRefused s name Cyclic = ⊥
@@ -28,13 +29,13 @@ IsTaskRefused s name TooBig = ⊥
 -- a task is accepted: none of the conditions holds
 pub record IsTaskAccepted (s : SpecValue) (name : Name) : Type 0 where
   pub once : ¬ Contains s.tasks name
-  pub room : length s.tasks < 1024
+  pub room : length s.tasks < most_tasks
 
 -- a resource is refused
 abbrev pub IsResourceRefused : SpecValue → Name → List ℕ → BuildFault → Type 0
 IsResourceRefused s name weights Repeated = Contains s.resources name
 IsResourceRefused s name weights TooBig = (¬ Contains s.resources name) × HasBig weights
-IsResourceRefused s name weights (Limit what) = (what ≡ Resources) × (¬ Contains s.resources name) × (¬ HasBig weights) × (256 ≤ length s.resources)
+IsResourceRefused s name weights (Limit what) = (what ≡ Resources) × (¬ Contains s.resources name) × (¬ HasBig weights) × (most_resources ≤ length s.resources)
 IsResourceRefused s name weights NoMemory = Unit {0}
 IsResourceRefused s name weights SelfLink = ⊥
 IsResourceRefused s name weights Cyclic = ⊥
@@ -43,12 +44,12 @@ IsResourceRefused s name weights Cyclic = ⊥
 pub record IsResourceAccepted (s : SpecValue) (name : Name) (weights : List ℕ) : Type 0 where
   pub once : ¬ Contains s.resources name
   pub small : ¬ HasBig weights
-  pub room : length s.resources < 256
+  pub room : length s.resources < most_resources
 
 -- an objective is refused
 abbrev pub IsObjectiveRefused : SpecValue → Name → BuildFault → Type 0
 IsObjectiveRefused s name Repeated = Contains s.objectives name
-IsObjectiveRefused s name (Limit what) = (what ≡ Objectives) × (¬ Contains s.objectives name) × (8 ≤ length s.objectives)
+IsObjectiveRefused s name (Limit what) = (what ≡ Objectives) × (¬ Contains s.objectives name) × (most_objectives ≤ length s.objectives)
 IsObjectiveRefused s name NoMemory = Unit {0}
 IsObjectiveRefused s name SelfLink = ⊥
 IsObjectiveRefused s name Cyclic = ⊥
@@ -57,7 +58,7 @@ IsObjectiveRefused s name TooBig = ⊥
 -- an objective is accepted
 pub record IsObjectiveAccepted (s : SpecValue) (name : Name) : Type 0 where
   pub once : ¬ Contains s.objectives name
-  pub room : length s.objectives < 8
+  pub room : length s.objectives < most_objectives
 
 -- one of the weights or of the traffic weights of a link is too big
 abbrev pub HasBigLink : List ℕ → List ℕ → Type 0
@@ -68,7 +69,7 @@ abbrev pub IsLinkRefused : SpecValue → Name → ℕ → ℕ → List ℕ → L
 IsLinkRefused s name a b weights traffic Repeated = Contains s.links name
 IsLinkRefused s name a b weights traffic SelfLink = (¬ Contains s.links name) × (a ≡ b)
 IsLinkRefused s name a b weights traffic TooBig = (¬ Contains s.links name) × (a ≢ b) × HasBigLink weights traffic
-IsLinkRefused s name a b weights traffic (Limit what) = (what ≡ Links) × (¬ Contains s.links name) × (a ≢ b) × (¬ HasBigLink weights traffic) × (1024 ≤ length s.links)
+IsLinkRefused s name a b weights traffic (Limit what) = (what ≡ Links) × (¬ Contains s.links name) × (a ≢ b) × (¬ HasBigLink weights traffic) × (most_links ≤ length s.links)
 IsLinkRefused s name a b weights traffic NoMemory = Unit {0}
 IsLinkRefused s name a b weights traffic Cyclic = ⊥
 
@@ -77,7 +78,7 @@ pub record IsLinkAccepted (s : SpecValue) (name : Name) (a b : ℕ) (weights tra
   pub once : ¬ Contains s.links name
   pub apart : a ≢ b
   pub small : ¬ HasBigLink weights traffic
-  pub room : length s.links < 1024
+  pub room : length s.links < most_links
 
 -- a number stands twice in a list
 pub record HasTwice (xs : List ℕ) : Type 0 where
@@ -104,7 +105,7 @@ abbrev pub IsMessageRefused : SpecValue → Name → Message → BuildFault → 
 IsMessageRefused s name m Repeated = IsMessageRepeated s name m
 IsMessageRefused s name m TooBig = (¬ IsMessageRepeated s name m) × HasBigMessage m
 IsMessageRefused s name m Cyclic = (¬ IsMessageRepeated s name m) × (¬ HasBigMessage m) × ClosesCycle s m
-IsMessageRefused s name m (Limit what) = (what ≡ Messages) × (¬ IsMessageRepeated s name m) × (¬ HasBigMessage m) × (¬ ClosesCycle s m) × (2048 ≤ length s.messages)
+IsMessageRefused s name m (Limit what) = (what ≡ Messages) × (¬ IsMessageRepeated s name m) × (¬ HasBigMessage m) × (¬ ClosesCycle s m) × (most_messages ≤ length s.messages)
 IsMessageRefused s name m NoMemory = Unit {0}
 IsMessageRefused s name m SelfLink = ⊥
 
@@ -113,7 +114,7 @@ pub record IsMessageAccepted (s : SpecValue) (name : Name) (m : Message) : Type 
   pub once : ¬ IsMessageRepeated s name m
   pub small : ¬ HasBigMessage m
   pub free : ¬ ClosesCycle s m
-  pub room : length s.messages < 2048
+  pub room : length s.messages < most_messages
 
 -- a deadline is refused
 abbrev pub IsDeadlineRefused : ℕ → BuildFault → Type 0
@@ -140,7 +141,7 @@ HasBigOption time weights = IsBig time ⊎ HasBig weights
 abbrev pub IsOptionRefused : SpecValue → Choice → List ℕ → BuildFault → Type 0
 IsOptionRefused s o weights Repeated = IsMapped s o.task o.resource
 IsOptionRefused s o weights TooBig = (¬ IsMapped s o.task o.resource) × HasBigOption o.time weights
-IsOptionRefused s o weights (Limit what) = (what ≡ Options) × (¬ IsMapped s o.task o.resource) × (¬ HasBigOption o.time weights) × (16384 ≤ length s.options)
+IsOptionRefused s o weights (Limit what) = (what ≡ Options) × (¬ IsMapped s o.task o.resource) × (¬ HasBigOption o.time weights) × (most_options ≤ length s.options)
 IsOptionRefused s o weights NoMemory = Unit {0}
 IsOptionRefused s o weights SelfLink = ⊥
 IsOptionRefused s o weights Cyclic = ⊥
@@ -149,7 +150,7 @@ IsOptionRefused s o weights Cyclic = ⊥
 pub record IsOptionAccepted (s : SpecValue) (o : Choice) (weights : List ℕ) : Type 0 where
   pub once : ¬ IsMapped s o.task o.resource
   pub small : ¬ HasBigOption o.time weights
-  pub room : length s.options < 16384
+  pub room : length s.options < most_options
 
 -- one of the weights times the quantity is too big
 pub record HasBigTimes (weights : List ℕ) (quantity : ℕ) : Type 0 where
@@ -171,8 +172,8 @@ HasBigProduct s = Any (CarriesTooMuch s.traffic_weights s.arcs) s.messages
 -- a plan is refused at its end
 abbrev pub IsFinishRefused : SpecValue → BuildFault → Type 0
 IsFinishRefused s TooBig = HasBigProduct s
-IsFinishRefused s (Limit Variables) = (¬ HasBigProduct s) × (2 ^ 20 < all_variables (finished s))
-IsFinishRefused s (Limit Terms) = (¬ HasBigProduct s) × (all_variables (finished s) ≤ 2 ^ 20) × (2 ^ 23 < size (finished s))
+IsFinishRefused s (Limit Variables) = (¬ HasBigProduct s) × (most_variables < all_variables (finished s))
+IsFinishRefused s (Limit Terms) = (¬ HasBigProduct s) × (all_variables (finished s) ≤ most_variables) × (most_terms < size (finished s))
 IsFinishRefused s (Limit _) = ⊥
 IsFinishRefused s NoMemory = Unit {0}
 IsFinishRefused s Repeated = ⊥
@@ -182,5 +183,5 @@ IsFinishRefused s Cyclic = ⊥
 -- a plan is accepted at its end
 pub record IsFinishAccepted (s : SpecValue) : Type 0 where
   pub small : ¬ HasBigProduct s
-  pub few_variables : all_variables (finished s) ≤ 2 ^ 20
-  pub few_terms : size (finished s) ≤ 2 ^ 23
+  pub few_variables : all_variables (finished s) ≤ most_variables
+  pub few_terms : size (finished s) ≤ most_terms

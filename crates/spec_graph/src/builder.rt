@@ -2,13 +2,9 @@
 
 ghost use Rattle.std.specs.Prelude.{◌≡◌, ◌≤◌, length};
 ghost use Rattle.spec_model.specs.Spec.{empty_spec};
-ghost use Rattle.spec_graph.specs.Plan.{IsPlan};
+ghost use Rattle.spec_model.specs.WellFormed.{IsPlan};
 
-use crate::choices::Choices;
-use crate::messages::Message;
-use crate::numbers::Arc;
-use crate::rows::{Deadline, Weights};
-use names::Names;
+use crate::held::Held;
 use std::alloc::Global;
 use std::marker::Model;
 use task_order::TaskOrder;
@@ -21,19 +17,7 @@ use task_order::TaskOrder;
 pub struct SpecBuilder {
     pub(crate) alloc: Global,
     pub(crate) order: TaskOrder,
-    pub(crate) tasks: Names,
-    pub(crate) message_names: Names,
-    pub(crate) messages: Vec<Message>,
-    pub(crate) resources: Names,
-    pub(crate) links: Names,
-    pub(crate) arcs: Vec<Arc>,
-    pub(crate) options: Choices,
-    pub(crate) deadlines: Vec<Deadline>,
-    pub(crate) objectives: Names,
-    pub(crate) option_weights: Vec<Weights>,
-    pub(crate) resource_weights: Vec<Weights>,
-    pub(crate) link_weights: Vec<Weights>,
-    pub(crate) traffic_weights: Vec<Weights>,
+    pub(crate) held: Held,
 }
 
 impl Model for SpecBuilder {
@@ -41,9 +25,10 @@ impl Model for SpecBuilder {
 
     ghost Value = { SpecValue };
 
-    ghost use Rattle.spec_graph.specs.Builder.{plan_of, HoldsPlan};
+    ghost use Rattle.spec_graph.specs.Builder.{HoldsPlan};
+    ghost use Rattle.spec_graph.specs.Held.{value_of};
 
-    ghost view = { plan_of };
+    ghost view = { λ b. value_of b.held };
 
     ghost invariant = { HoldsPlan };
 }
@@ -53,7 +38,7 @@ impl SpecBuilder {
     pub fn facts(&self)
         ensures { IsPlan self.now }
     {
-        let _ = &self.tasks;
+        let _ = &self.held.tasks;
     }
 
     /// Nothing yet. It takes no memory.
@@ -63,19 +48,7 @@ impl SpecBuilder {
         SpecBuilder {
             alloc,
             order: TaskOrder::new(alloc),
-            tasks: Names::new(alloc),
-            message_names: Names::new(alloc),
-            messages: Vec::new(alloc),
-            resources: Names::new(alloc),
-            links: Names::new(alloc),
-            arcs: Vec::new(alloc),
-            options: Choices::none(alloc),
-            deadlines: Vec::new(alloc),
-            objectives: Names::new(alloc),
-            option_weights: Vec::new(alloc),
-            resource_weights: Vec::new(alloc),
-            link_weights: Vec::new(alloc),
-            traffic_weights: Vec::new(alloc),
+            held: Held::none(alloc),
         }
     }
 
@@ -84,7 +57,7 @@ impl SpecBuilder {
         ensures count { result ≡ length self.now.tasks }
         ensures few { result ≤ 1024 }
     {
-        self.tasks.len()
+        self.held.tasks.len()
     }
 
     /// How many messages there are.
@@ -92,7 +65,7 @@ impl SpecBuilder {
         ensures count { result ≡ length self.now.messages }
         ensures few { result ≤ 2048 }
     {
-        self.messages.len()
+        self.held.messages.len()
     }
 
     /// How many resources there are.
@@ -100,7 +73,7 @@ impl SpecBuilder {
         ensures count { result ≡ length self.now.resources }
         ensures few { result ≤ 256 }
     {
-        self.resources.len()
+        self.held.resources.len()
     }
 
     /// How many links there are.
@@ -108,7 +81,7 @@ impl SpecBuilder {
         ensures count { result ≡ length self.now.links }
         ensures few { result ≤ 1024 }
     {
-        self.links.len()
+        self.held.links.len()
     }
 
     /// How many arcs there are.
@@ -116,7 +89,7 @@ impl SpecBuilder {
         ensures count { result ≡ length self.now.arcs }
         ensures few { result ≤ 2048 }
     {
-        self.arcs.len()
+        self.held.arcs.len()
     }
 
     /// How many options there are.
@@ -124,7 +97,7 @@ impl SpecBuilder {
         ensures count { result ≡ length self.now.options }
         ensures few { result ≤ 16384 }
     {
-        self.options.len()
+        self.held.options.len()
     }
 
     /// How many objectives there are.
@@ -132,6 +105,6 @@ impl SpecBuilder {
         ensures count { result ≡ length self.now.objectives }
         ensures few { result ≤ 8 }
     {
-        self.objectives.len()
+        self.held.objectives.len()
     }
 }

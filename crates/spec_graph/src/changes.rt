@@ -14,7 +14,7 @@ impl SpecBuilder {
         requires small { IsSmallChange change }
         ensures { self.new ≡ record self.old { messages = with_changed self.old.messages m.0 change } }
     {
-        let message = &mut self.messages[m.0 as usize];
+        let message = &mut self.held.messages[m.0 as usize];
         apply(message, change);
     }
 
@@ -23,7 +23,7 @@ impl SpecBuilder {
         requires { IsSmallChange change }
         ensures { self.new ≡ record self.old { messages = map (changed change) self.old.messages } }
     {
-        apply_to_all(&mut self.messages, change);
+        apply_to_all(&mut self.held.messages, change);
     }
 
     /// Sets the weight that an objective gives a resource. It takes no memory.
@@ -33,7 +33,7 @@ impl SpecBuilder {
         requires small { weight ≤ 2 ^ 40 }
         ensures { self.new ≡ record self.old { resource_weights = with_weight self.old.resource_weights r.0 j weight } }
     {
-        let row = &mut self.resource_weights[r.0 as usize];
+        let row = &mut self.held.resource_weights[r.0 as usize];
         row.set(j, weight);
     }
 
@@ -44,7 +44,7 @@ impl SpecBuilder {
         requires small { weight ≤ 2 ^ 40 }
         ensures { self.new ≡ record self.old { traffic_weights = with_weight self.old.traffic_weights l.0 j weight } }
     {
-        let row = &mut self.traffic_weights[l.0 as usize];
+        let row = &mut self.held.traffic_weights[l.0 as usize];
         row.set(j, weight);
     }
 }

@@ -1,6 +1,6 @@
 //! The options of a plan, and which pairs of a task and a resource have one.
 
-ghost use Rattle.std.specs.Prelude.{◌≡◌, ◌++◌, ◌∷◌, [], ◌↔◌, IsTrue, Any, length, map, OnOk, OnErr};
+ghost use Rattle.std.specs.Prelude.{◌≡◌, ◌<◌, ◌++◌, ◌∷◌, [], ◌↔◌, IsTrue, Any, length, map, slice_index_or, OnOk, OnErr};
 ghost use Rattle.spec_graph.specs.Lists.{choice_value};
 ghost use Rattle.spec_graph.specs.Refusals.{IsOfPair};
 
@@ -54,12 +54,12 @@ impl Choices {
         &self.list
     }
 
-    /// All options, without what finds their pairs.
-    pub(crate) fn into_list(self) -> Vec<Choice>
-        ensures { result.items ≡ self }
+    /// The option at a place.
+    pub(crate) fn at(&self, i: usize) -> Choice
+        requires { i < length self.now }
+        ensures { result ≡ slice_index_or self.now i result }
     {
-        let Choices { list, pairs: _ } = self;
-        list
+        self.list[i]
     }
 
     /// Whether the task is mapped to the resource.

@@ -13,11 +13,8 @@ use crate::products::has_big_message;
 use crate::spec::Spec;
 use crate::sums::{option_counts, sum_further, sum_terms};
 use line_words::What;
+use spec_model::{MOST_TERMS, MOST_VARIABLES};
 use std::alloc::AllocError;
-
-const MAX_VARIABLES: u64 = 1 << 20;
-
-const MAX_TERMS: u128 = 1 << 23;
 
 /// How many variables and terms an encoding has.
 #[derive(Clone, Copy)]
@@ -32,7 +29,7 @@ impl SpecBuilder {
         ensures most { result ≡ most_hops self.now }
         ensures small { result < 256 }
     {
-        let resources = self.resources.len() as u64;
+        let resources = self.held.resources.len() as u64;
         if resources == 0 {
             return 0;
         }
@@ -43,7 +40,11 @@ impl SpecBuilder {
     fn has_big_product(&self) -> bool
         ensures { IsTrue result ↔ HasBigProduct self.now }
     {
-        has_big_message(&self.messages, &self.arcs, &self.traffic_weights)
+        has_big_message(
+            &self.held.messages,
+            &self.held.arcs,
+            &self.held.traffic_weights,
+        )
     }
 
     /// How many variables the encoding of the finished plan has.
@@ -53,18 +54,27 @@ impl SpecBuilder {
         let uses = self.messages() as u64 * self.arcs() as u64;
         let resources = self.resources() as u64;
         let design = self.options() as u64 + uses + resources + self.links() as u64;
-        design + sum_further(&self.messages, resources, self.most_hops())
+        design + sum_further(&self.held.messages, resources, self.most_hops())
     }
 
     /// How many terms the encoding of the finished plan has, at most.
     fn finished_terms(&self) -> Result<u128, AllocError>
         ensures { IfOk result (λ terms. terms ≡ size (finished self.now)) }
     {
-        let counts = option_counts(self.alloc, self.options.list(), self.tasks())?;
+        let counts = option_counts(self.alloc, self.held.options.list(), self.tasks())?;
         let resources = self.resources() as u64;
         let arcs = self.arcs() as u64;
         let terms = 5 * self.options() as u64 + resources + self.links() as u64;
-        Ok(terms as u128 + sum_terms(&self.messages, &counts, resources, arcs, self.most_hops()))
+        Ok(
+            terms as u128
+                + sum_terms(
+                    &self.held.messages,
+                    &counts,
+                    resources,
+                    arcs,
+                    self.most_hops(),
+                ),
+        )
     }
 
     /// How large the encoding of the finished plan is, where it is small enough.
@@ -78,11 +88,11 @@ impl SpecBuilder {
             return Err(BuildFault::TooBig);
         }
         let variables = self.finished_variables();
-        if variables > MAX_VARIABLES {
+        if variables > MOST_VARIABLES {
             return Err(BuildFault::Limit(What::Variables));
         }
         let terms = self.finished_terms()?;
-        if terms > MAX_TERMS {
+        if terms > MOST_TERMS as u128 {
             return Err(BuildFault::Limit(What::Terms));
         }
         Ok(Sizes {
@@ -102,35 +112,11 @@ impl SpecBuilder {
         let SpecBuilder {
             alloc: _,
             order: _,
-            tasks,
-            message_names,
-            mut messages,
-            resources,
-            links,
-            arcs,
-            options,
-            deadlines,
-            objectives,
-            option_weights,
-            resource_weights,
-            link_weights,
-            traffic_weights,
+            mut held,
         } = self;
-        apply_to_all(&mut messages, Change::AtMost(most));
+        apply_to_all(&mut held.messages, Change::AtMost(most));
         Spec {
-            tasks,
-            message_names,
-            messages,
-            resources,
-            links,
-            arcs,
-            options: options.into_list(),
-            deadlines,
-            objectives,
-            option_weights,
-            resource_weights,
-            link_weights,
-            traffic_weights,
+            held,
             variables: sizes.variables,
             terms: sizes.terms,
         }

@@ -8,16 +8,9 @@ ghost use Rattle.spec_graph.specs.Refusals.{IsBig, IsObjectiveRefused, IsObjecti
 use crate::builder::SpecBuilder;
 use crate::faults::BuildFault;
 use crate::numbers::{Choice, OptNo, ResNo, TaskNo};
-use crate::rows::{Deadline, MAX_NUMBER, Weights, has_big};
+use crate::rows::{Deadline, Weights, has_big};
 use line_words::What;
-
-const MAX_OBJECTIVES: usize = 8;
-
-const MAX_TASKS: usize = 1024;
-
-const MAX_RESOURCES: usize = 256;
-
-const MAX_OPTIONS: usize = 16384;
+use spec_model::{MOST_NUMBER, MOST_OBJECTIVES, MOST_OPTIONS, MOST_RESOURCES, MOST_TASKS};
 
 impl SpecBuilder {
     /// Adds a task.
@@ -31,15 +24,15 @@ impl SpecBuilder {
         ensures refused { IfErr result (IsTaskRefused self.old name.now) }
         ensures unchanged { OnErr result (self.new ≡ self.old) }
     {
-        if self.tasks.contains(name) {
+        if self.held.tasks.contains(name) {
             return Err(BuildFault::Repeated);
         }
-        let number = self.tasks.len();
-        if number >= MAX_TASKS {
+        let number = self.held.tasks.len();
+        if number >= MOST_TASKS {
             return Err(BuildFault::Limit(What::Tasks));
         }
         self.order.make_room(self.alloc, number + 1)?;
-        let number = self.tasks.add(self.alloc, name)?;
+        let number = self.held.tasks.add(self.alloc, name)?;
         Ok(TaskNo(number as u32))
     }
 
@@ -56,19 +49,19 @@ impl SpecBuilder {
         ensures refused { IfErr result (IsResourceRefused self.old name.now weights.now) }
         ensures unchanged { OnErr result (self.new ≡ self.old) }
     {
-        if self.resources.contains(name) {
+        if self.held.resources.contains(name) {
             return Err(BuildFault::Repeated);
         }
         if has_big(weights) {
             return Err(BuildFault::TooBig);
         }
-        if self.resources.len() >= MAX_RESOURCES {
+        if self.held.resources.len() >= MOST_RESOURCES {
             return Err(BuildFault::Limit(What::Resources));
         }
         let weights = Weights::of(self.alloc, weights)?;
-        self.resource_weights.reserve(1)?;
-        let number = self.resources.add(self.alloc, name)?;
-        self.resource_weights.push_reserved(weights);
+        self.held.resource_weights.reserve(1)?;
+        let number = self.held.resources.add(self.alloc, name)?;
+        self.held.resource_weights.push_reserved(weights);
         Ok(ResNo(number as u32))
     }
 
@@ -93,27 +86,27 @@ impl SpecBuilder {
         ensures refused { IfErr result (IsOptionRefused self.old (choice task.0 resource.0 time) weights.now) }
         ensures unchanged { OnErr result (self.new ≡ self.old) }
     {
-        if self.options.has(task, resource) {
+        if self.held.options.has(task, resource) {
             return Err(BuildFault::Repeated);
         }
-        if time > MAX_NUMBER {
+        if time > MOST_NUMBER {
             return Err(BuildFault::TooBig);
         }
         if has_big(weights) {
             return Err(BuildFault::TooBig);
         }
-        let number = self.options.len();
-        if number >= MAX_OPTIONS {
+        let number = self.held.options.len();
+        if number >= MOST_OPTIONS {
             return Err(BuildFault::Limit(What::Options));
         }
         let weights = Weights::of(self.alloc, weights)?;
-        self.option_weights.reserve(1)?;
-        self.options.push(Choice {
+        self.held.option_weights.reserve(1)?;
+        self.held.options.push(Choice {
             task,
             resource,
             time,
         })?;
-        self.option_weights.push_reserved(weights);
+        self.held.option_weights.push_reserved(weights);
         Ok(OptNo(number as u32))
     }
 
@@ -130,13 +123,13 @@ impl SpecBuilder {
         ensures refused { IfErr result (IsObjectiveRefused self.old name.now) }
         ensures unchanged { OnErr result (self.new ≡ self.old) }
     {
-        if self.objectives.contains(name) {
+        if self.held.objectives.contains(name) {
             return Err(BuildFault::Repeated);
         }
-        if self.objectives.len() >= MAX_OBJECTIVES {
+        if self.held.objectives.len() >= MOST_OBJECTIVES {
             return Err(BuildFault::Limit(What::Objectives));
         }
-        self.objectives.add(self.alloc, name)?;
+        self.held.objectives.add(self.alloc, name)?;
         Ok(())
     }
 
@@ -150,10 +143,10 @@ impl SpecBuilder {
         ensures refused { IfErr result (IsDeadlineRefused at) }
         ensures unchanged { OnErr result (self.new ≡ self.old) }
     {
-        if at > MAX_NUMBER {
+        if at > MOST_NUMBER {
             return Err(BuildFault::TooBig);
         }
-        self.deadlines.push(Deadline { task, time: at })?;
+        self.held.deadlines.push(Deadline { task, time: at })?;
         Ok(())
     }
 }

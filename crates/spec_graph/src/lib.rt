@@ -7,6 +7,7 @@ mod choices;
 mod faults;
 mod finish;
 mod gathered;
+mod held;
 mod items;
 mod links;
 mod listed;

@@ -12,8 +12,7 @@ use crate::faults::BuildFault;
 use crate::numbers::{Arc, LinkNo, ResNo};
 use crate::rows::{Weights, has_big};
 use line_words::What;
-
-const MAX_LINKS: usize = 1024;
+use spec_model::MOST_LINKS;
 
 /// Adds the arcs of a link: from its first to its second resource, and where it is two-way the arc back.
 fn push_arcs(arcs: &mut Vec<Arc>, link: LinkNo, a: ResNo, b: ResNo, two_way: bool)
@@ -60,7 +59,7 @@ impl SpecBuilder {
         ensures refused { IfErr result (IsLinkRefused self.old name.now a.0 b.0 weights.now traffic.now) }
         ensures unchanged { OnErr result (self.new ≡ self.old) }
     {
-        if self.links.contains(name) {
+        if self.held.links.contains(name) {
             return Err(BuildFault::Repeated);
         }
         if a.0 == b.0 {
@@ -72,18 +71,18 @@ impl SpecBuilder {
         if has_big(traffic) {
             return Err(BuildFault::TooBig);
         }
-        if self.links.len() >= MAX_LINKS {
+        if self.held.links.len() >= MOST_LINKS {
             return Err(BuildFault::Limit(What::Links));
         }
         let weights = Weights::of(self.alloc, weights)?;
         let traffic = Weights::of(self.alloc, traffic)?;
-        self.arcs.reserve(2)?;
-        self.link_weights.reserve(1)?;
-        self.traffic_weights.reserve(1)?;
-        let number = LinkNo(self.links.add(self.alloc, name)? as u32);
-        push_arcs(&mut self.arcs, number, a, b, two_way);
-        self.link_weights.push_reserved(weights);
-        self.traffic_weights.push_reserved(traffic);
+        self.held.arcs.reserve(2)?;
+        self.held.link_weights.reserve(1)?;
+        self.held.traffic_weights.reserve(1)?;
+        let number = LinkNo(self.held.links.add(self.alloc, name)? as u32);
+        push_arcs(&mut self.held.arcs, number, a, b, two_way);
+        self.held.link_weights.push_reserved(weights);
+        self.held.traffic_weights.push_reserved(traffic);
         Ok(number)
     }
 }

@@ -1,9 +1,8 @@
 //! What can be read of a builder: the number of a name that is declared so far, its messages, and what is mapped.
 
-ghost use Rattle.std.specs.Prelude.{◌≡◌, ◌<◌, ◌≤◌, ◌^◌, ◌↔◌, IsTrue, length, map, Contains, MatchOption};
+ghost use Rattle.std.specs.Prelude.{◌≡◌, ◌<◌, ◌↔◌, IsTrue, length, Contains, MatchOption};
 ghost use Rattle.spec_model.specs.Spec.{message_at};
 ghost use Rattle.names.specs.Names.{IsNumberOf};
-ghost use Rattle.spec_graph.specs.Lists.{task_number};
 ghost use Rattle.spec_graph.specs.Refusals.{IsMapped};
 
 use crate::builder::SpecBuilder;
@@ -14,7 +13,7 @@ impl SpecBuilder {
     pub fn find_task(&self, name: &str) -> Option<TaskNo>
         ensures { MatchOption result (Contains self.now.tasks name.now → ⊥) (λ t. IsNumberOf self.now.tasks name.now t.0) }
     {
-        match self.tasks.find(name) {
+        match self.held.tasks.find(name) {
             Some(i) => Some(TaskNo(i as u32)),
             None => None,
         }
@@ -24,7 +23,7 @@ impl SpecBuilder {
     pub fn find_resource(&self, name: &str) -> Option<ResNo>
         ensures { MatchOption result (Contains self.now.resources name.now → ⊥) (λ r. IsNumberOf self.now.resources name.now r.0) }
     {
-        match self.resources.find(name) {
+        match self.held.resources.find(name) {
             Some(i) => Some(ResNo(i as u32)),
             None => None,
         }
@@ -34,7 +33,7 @@ impl SpecBuilder {
     pub fn find_message(&self, name: &str) -> Option<MsgNo>
         ensures { MatchOption result (Contains self.now.message_names name.now → ⊥) (λ m. IsNumberOf self.now.message_names name.now m.0) }
     {
-        match self.message_names.find(name) {
+        match self.held.message_names.find(name) {
             Some(i) => Some(MsgNo(i as u32)),
             None => None,
         }
@@ -44,7 +43,7 @@ impl SpecBuilder {
     pub fn find_link(&self, name: &str) -> Option<LinkNo>
         ensures { MatchOption result (Contains self.now.links name.now → ⊥) (λ l. IsNumberOf self.now.links name.now l.0) }
     {
-        match self.links.find(name) {
+        match self.held.links.find(name) {
             Some(i) => Some(LinkNo(i as u32)),
             None => None,
         }
@@ -54,14 +53,14 @@ impl SpecBuilder {
     pub fn find_objective(&self, name: &str) -> Option<usize>
         ensures { MatchOption result (Contains self.now.objectives name.now → ⊥) (IsNumberOf self.now.objectives name.now) }
     {
-        self.objectives.find(name)
+        self.held.objectives.find(name)
     }
 
     /// Whether the task is mapped to the resource. It takes no memory.
     pub fn is_mapped(&self, task: TaskNo, resource: ResNo) -> bool
         ensures { IsTrue result ↔ IsMapped self.now task.0 resource.0 }
     {
-        self.options.has(task, resource)
+        self.held.options.has(task, resource)
     }
 
     /// The task that sends a message.
@@ -70,45 +69,7 @@ impl SpecBuilder {
         ensures sender { result.0 ≡ (message_at self.now m.0).sender }
         ensures there { result.0 < length self.now.tasks }
     {
-        let message = &self.messages[m.0 as usize];
+        let message = &self.held.messages[m.0 as usize];
         message.sender
-    }
-
-    /// The tasks that receive a message, in the order in which they are listed.
-    pub fn receivers(&self, m: MsgNo) -> &[TaskNo]
-        requires { m.0 < length self.now.messages }
-        ensures { map task_number result.now ≡ (message_at self.now m.0).receivers }
-    {
-        let message = &self.messages[m.0 as usize];
-        message.receivers.as_slice()
-    }
-
-    /// The stated hop limit of a message.
-    pub fn hops(&self, m: MsgNo) -> u64
-        requires { m.0 < length self.now.messages }
-        ensures { result ≡ (message_at self.now m.0).limit }
-    {
-        let message = &self.messages[m.0 as usize];
-        message.hops
-    }
-
-    /// The time that a message takes for a hop.
-    pub fn delay(&self, m: MsgNo) -> u64
-        requires { m.0 < length self.now.messages }
-        ensures delay { result ≡ (message_at self.now m.0).delay }
-        ensures small { result ≤ 2 ^ 40 }
-    {
-        let message = &self.messages[m.0 as usize];
-        message.delay
-    }
-
-    /// How much a message carries.
-    pub fn quantity(&self, m: MsgNo) -> u64
-        requires { m.0 < length self.now.messages }
-        ensures quantity { result ≡ (message_at self.now m.0).quantity }
-        ensures small { result ≤ 2 ^ 40 }
-    {
-        let message = &self.messages[m.0 as usize];
-        message.quantity
     }
 }

@@ -166,18 +166,18 @@ impl SpecBuilder {
         ensures refused { IfErr result (IsMergeRefused self.old name.now (map message_number messages.now)) }
         ensures unchanged { OnErr result (self.new ≡ self.old) }
     {
-        let listed = match Listed::of(self.alloc, self.messages.len(), messages)? {
+        let listed = match Listed::of(self.alloc, self.held.messages.len(), messages)? {
             Some(listed) => listed,
             None => return Err(BuildFault::Repeated),
         };
-        if is_name_of_other(&self.message_names, &listed, name) {
+        if is_name_of_other(&self.held.message_names, &listed, name) {
             return Err(BuildFault::Repeated);
         }
-        let message = one_message(self.alloc, &self.messages, messages)?;
-        self.message_names = names_after(self.alloc, &self.message_names, &listed, name)?;
-        keep_others(&mut self.messages, &listed);
-        let number = self.messages.len();
-        self.messages.push_reserved(message);
+        let message = one_message(self.alloc, &self.held.messages, messages)?;
+        self.held.message_names = names_after(self.alloc, &self.held.message_names, &listed, name)?;
+        keep_others(&mut self.held.messages, &listed);
+        let number = self.held.messages.len();
+        self.held.messages.push_reserved(message);
         Ok(MsgNo(number as u32))
     }
 }

@@ -5,11 +5,9 @@ ghost use Rattle.spec_model.specs.Vectors.{weight_in};
 ghost use Rattle.spec_graph.specs.Refusals.{HasBig, HasBigTimes};
 
 use crate::numbers::TaskNo;
+use spec_model::MOST_NUMBER;
 use std::alloc::{AllocError, Global};
 use std::marker::Model;
-
-/// The greatest weight, time, delay, quantity and product of traffic and quantity.
-pub const MAX_NUMBER: u64 = 1 << 40;
 
 /// What is kept of a deadline.
 #[derive(Clone, Copy)]
@@ -56,7 +54,7 @@ impl Weights {
         ensures { IsTrue result ↔ HasBigTimes self.now quantity }
     {
         for weight in &self.numbers {
-            if *weight as u128 * quantity as u128 > MAX_NUMBER as u128 {
+            if *weight as u128 * quantity as u128 > MOST_NUMBER as u128 {
                 return true;
             }
         }
@@ -96,5 +94,5 @@ pub fn weight_in(rows: &[Weights], j: usize, i: usize) -> u64
 pub fn has_big(numbers: &[u64]) -> bool
     ensures { IsTrue result ↔ HasBig numbers.now }
 {
-    numbers.iter().any(|n| *n > MAX_NUMBER)
+    numbers.iter().any(|n| *n > MOST_NUMBER)
 }

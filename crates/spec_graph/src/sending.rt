@@ -12,12 +12,10 @@ use crate::builder::SpecBuilder;
 use crate::faults::BuildFault;
 use crate::messages::Message;
 use crate::numbers::{MsgNo, TaskNo};
-use crate::rows::MAX_NUMBER;
 use line_words::What;
+use spec_model::{MOST_MESSAGES, MOST_NUMBER};
 use std::alloc::{AllocError, Global};
 use task_order::{TaskOrder, TaskSet};
-
-const MAX_MESSAGES: usize = 2048;
 
 /// Whether a task stands twice in a list.
 fn has_twice(alloc: Global, tasks: &[TaskNo]) -> Result<bool, AllocError>
@@ -38,10 +36,10 @@ fn has_twice(alloc: Global, tasks: &[TaskNo]) -> Result<bool, AllocError>
 fn is_too_big(delay: u64, quantity: u64) -> bool
     ensures { IsTrue result ↔ (IsBig delay ⊎ IsBig quantity) }
 {
-    if delay > MAX_NUMBER {
+    if delay > MOST_NUMBER {
         return true;
     }
-    quantity > MAX_NUMBER
+    quantity > MOST_NUMBER
 }
 
 /// The tasks, and all that come after them.
@@ -83,7 +81,7 @@ impl SpecBuilder {
         ensures refused { IfErr result (IsMessageRefused self.old name.now (message_of sender receivers.now hops delay quantity)) }
         ensures unchanged { OnErr result (self.new ≡ self.old) }
     {
-        if self.message_names.contains(name) {
+        if self.held.message_names.contains(name) {
             return Err(BuildFault::Repeated);
         }
         if has_twice(self.alloc, receivers)? {
@@ -96,13 +94,13 @@ impl SpecBuilder {
         if after.has(sender.0 as usize) {
             return Err(BuildFault::Cyclic);
         }
-        if self.messages.len() >= MAX_MESSAGES {
+        if self.held.messages.len() >= MOST_MESSAGES {
             return Err(BuildFault::Limit(What::Messages));
         }
         let receivers = Vec::from_slice(self.alloc, receivers)?;
-        self.messages.reserve(1)?;
-        let number = self.message_names.add(self.alloc, name)?;
-        self.messages.push_reserved(Message {
+        self.held.messages.reserve(1)?;
+        let number = self.held.message_names.add(self.alloc, name)?;
+        self.held.messages.push_reserved(Message {
             sender,
             receivers,
             hops,

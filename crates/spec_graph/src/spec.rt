@@ -7,29 +7,16 @@ ghost use Rattle.spec_model.specs.Vectors.{weight, arc_weight};
 ghost use Rattle.names.specs.Names.{IsName, IsNumberOf};
 ghost use Rattle.spec_graph.specs.Lists.{task_number};
 
-use crate::messages::Message;
+use crate::held::Held;
 use crate::numbers::{Arc, ArcNo, Choice, LinkNo, MsgNo, OptNo, ResNo, TaskNo};
-use crate::rows::{Deadline, Weights, weight_in};
-use names::Names;
+use crate::rows::weight_in;
 use std::marker::Model;
 
 /// A specification, in which each number names an item that is there and each count is within its limit. No reader
 /// takes memory.
 #[derive(Drop)]
 pub struct Spec {
-    pub(crate) tasks: Names,
-    pub(crate) message_names: Names,
-    pub(crate) messages: Vec<Message>,
-    pub(crate) resources: Names,
-    pub(crate) links: Names,
-    pub(crate) arcs: Vec<Arc>,
-    pub(crate) options: Vec<Choice>,
-    pub(crate) deadlines: Vec<Deadline>,
-    pub(crate) objectives: Names,
-    pub(crate) option_weights: Vec<Weights>,
-    pub(crate) resource_weights: Vec<Weights>,
-    pub(crate) link_weights: Vec<Weights>,
-    pub(crate) traffic_weights: Vec<Weights>,
+    pub(crate) held: Held,
     pub(crate) variables: u64,
     pub(crate) terms: u64,
 }
@@ -39,9 +26,10 @@ impl Model for Spec {
 
     ghost Value = { SpecValue };
 
-    ghost use Rattle.spec_graph.specs.Finished.{spec_of, HoldsSpec};
+    ghost use Rattle.spec_graph.specs.Finished.{HoldsSpec};
+    ghost use Rattle.spec_graph.specs.Held.{value_of};
 
-    ghost view = { spec_of };
+    ghost view = { λ s. value_of s.held };
 
     ghost invariant = { HoldsSpec };
 }
@@ -51,7 +39,7 @@ impl Spec {
     pub fn facts(&self)
         ensures { IsWellFormed self.now }
     {
-        let _ = &self.tasks;
+        let _ = &self.held.tasks;
     }
 
     /// What holds of each name.
@@ -62,11 +50,11 @@ impl Spec {
         ensures links { All IsName self.now.links }
         ensures objectives { All IsName self.now.objectives }
     {
-        self.tasks.facts();
-        self.message_names.facts();
-        self.resources.facts();
-        self.links.facts();
-        self.objectives.facts();
+        self.held.tasks.facts();
+        self.held.message_names.facts();
+        self.held.resources.facts();
+        self.held.links.facts();
+        self.held.objectives.facts();
     }
 
     /// How many tasks there are.
@@ -74,7 +62,7 @@ impl Spec {
         ensures count { result ≡ length self.now.tasks }
         ensures few { result ≤ 1024 }
     {
-        self.tasks.len()
+        self.held.tasks.len()
     }
 
     /// How many messages there are.
@@ -82,7 +70,7 @@ impl Spec {
         ensures count { result ≡ length self.now.messages }
         ensures few { result ≤ 2048 }
     {
-        self.messages.len()
+        self.held.messages.len()
     }
 
     /// How many resources there are.
@@ -90,7 +78,7 @@ impl Spec {
         ensures count { result ≡ length self.now.resources }
         ensures few { result ≤ 256 }
     {
-        self.resources.len()
+        self.held.resources.len()
     }
 
     /// How many links there are.
@@ -98,7 +86,7 @@ impl Spec {
         ensures count { result ≡ length self.now.links }
         ensures few { result ≤ 1024 }
     {
-        self.links.len()
+        self.held.links.len()
     }
 
     /// How many arcs there are.
@@ -106,7 +94,7 @@ impl Spec {
         ensures count { result ≡ length self.now.arcs }
         ensures few { result ≤ 2048 }
     {
-        self.arcs.len()
+        self.held.arcs.len()
     }
 
     /// How many options there are.
@@ -114,7 +102,7 @@ impl Spec {
         ensures count { result ≡ length self.now.options }
         ensures few { result ≤ 16384 }
     {
-        self.options.len()
+        self.held.options.len()
     }
 
     /// How many objectives there are.
@@ -122,14 +110,14 @@ impl Spec {
         ensures count { result ≡ length self.now.objectives }
         ensures few { result ≤ 8 }
     {
-        self.objectives.len()
+        self.held.objectives.len()
     }
 
     /// How many deadlines there are.
     pub fn deadlines(&self) -> usize
         ensures { result ≡ length self.now.deadlines }
     {
-        self.deadlines.len()
+        self.held.deadlines.len()
     }
 
     /// How many variables a design has.
@@ -163,7 +151,7 @@ impl Spec {
         requires { t.0 < length self.now.tasks }
         ensures { result.now ≡ name_at self.now.tasks t.0 }
     {
-        self.tasks.at(t.0 as usize)
+        self.held.tasks.at(t.0 as usize)
     }
 
     /// The name of a message.
@@ -171,7 +159,7 @@ impl Spec {
         requires { m.0 < length self.now.messages }
         ensures { result.now ≡ name_at self.now.message_names m.0 }
     {
-        self.message_names.at(m.0 as usize)
+        self.held.message_names.at(m.0 as usize)
     }
 
     /// The name of a resource.
@@ -179,7 +167,7 @@ impl Spec {
         requires { r.0 < length self.now.resources }
         ensures { result.now ≡ name_at self.now.resources r.0 }
     {
-        self.resources.at(r.0 as usize)
+        self.held.resources.at(r.0 as usize)
     }
 
     /// The name of a link.
@@ -187,7 +175,7 @@ impl Spec {
         requires { l.0 < length self.now.links }
         ensures { result.now ≡ name_at self.now.links l.0 }
     {
-        self.links.at(l.0 as usize)
+        self.held.links.at(l.0 as usize)
     }
 
     /// The name of an objective.
@@ -195,14 +183,14 @@ impl Spec {
         requires { j < length self.now.objectives }
         ensures { result.now ≡ name_at self.now.objectives j }
     {
-        self.objectives.at(j)
+        self.held.objectives.at(j)
     }
 
     /// The task of a name.
     pub fn find_task(&self, name: &str) -> Option<TaskNo>
         ensures { MatchOption result (Contains self.now.tasks name.now → ⊥) (λ t. IsNumberOf self.now.tasks name.now t.0) }
     {
-        match self.tasks.find(name) {
+        match self.held.tasks.find(name) {
             Some(i) => Some(TaskNo(i as u32)),
             None => None,
         }
@@ -212,7 +200,7 @@ impl Spec {
     pub fn find_message(&self, name: &str) -> Option<MsgNo>
         ensures { MatchOption result (Contains self.now.message_names name.now → ⊥) (λ m. IsNumberOf self.now.message_names name.now m.0) }
     {
-        match self.message_names.find(name) {
+        match self.held.message_names.find(name) {
             Some(i) => Some(MsgNo(i as u32)),
             None => None,
         }
@@ -222,7 +210,7 @@ impl Spec {
     pub fn find_resource(&self, name: &str) -> Option<ResNo>
         ensures { MatchOption result (Contains self.now.resources name.now → ⊥) (λ r. IsNumberOf self.now.resources name.now r.0) }
     {
-        match self.resources.find(name) {
+        match self.held.resources.find(name) {
             Some(i) => Some(ResNo(i as u32)),
             None => None,
         }
@@ -232,7 +220,7 @@ impl Spec {
     pub fn find_link(&self, name: &str) -> Option<LinkNo>
         ensures { MatchOption result (Contains self.now.links name.now → ⊥) (λ l. IsNumberOf self.now.links name.now l.0) }
     {
-        match self.links.find(name) {
+        match self.held.links.find(name) {
             Some(i) => Some(LinkNo(i as u32)),
             None => None,
         }
@@ -244,7 +232,7 @@ impl Spec {
         ensures sender { result.0 ≡ (message_at self.now m.0).sender }
         ensures there { result.0 < length self.now.tasks }
     {
-        let message = &self.messages[m.0 as usize];
+        let message = &self.held.messages[m.0 as usize];
         message.sender
     }
 
@@ -253,7 +241,7 @@ impl Spec {
         requires { m.0 < length self.now.messages }
         ensures { map task_number result.now ≡ (message_at self.now m.0).receivers }
     {
-        let message = &self.messages[m.0 as usize];
+        let message = &self.held.messages[m.0 as usize];
         message.receivers.as_slice()
     }
 
@@ -264,7 +252,7 @@ impl Spec {
         ensures limit { result ≡ (message_at self.now m.0).limit }
         ensures small { result < 256 }
     {
-        let message = &self.messages[m.0 as usize];
+        let message = &self.held.messages[m.0 as usize];
         message.hops
     }
 
@@ -274,7 +262,7 @@ impl Spec {
         ensures delay { result ≡ (message_at self.now m.0).delay }
         ensures small { result ≤ 2 ^ 40 }
     {
-        let message = &self.messages[m.0 as usize];
+        let message = &self.held.messages[m.0 as usize];
         message.delay
     }
 
@@ -284,7 +272,7 @@ impl Spec {
         ensures quantity { result ≡ (message_at self.now m.0).quantity }
         ensures small { result ≤ 2 ^ 40 }
     {
-        let message = &self.messages[m.0 as usize];
+        let message = &self.held.messages[m.0 as usize];
         message.quantity
     }
 
@@ -298,7 +286,7 @@ impl Spec {
         ensures tail_there { result.tail.0 < length self.now.resources }
         ensures head_there { result.head.0 < length self.now.resources }
     {
-        self.arcs[a.0 as usize]
+        self.held.arcs[a.0 as usize]
     }
 
     /// An option, with its task, its resource and its time.
@@ -311,7 +299,7 @@ impl Spec {
         ensures resource_there { result.resource.0 < length self.now.resources }
         ensures small { result.time ≤ 2 ^ 40 }
     {
-        self.options[o.0 as usize]
+        self.held.options.at(o.0 as usize)
     }
 
     /// A deadline: its task and its time.
@@ -322,7 +310,7 @@ impl Spec {
         ensures there { result.0.0 < length self.now.tasks }
         ensures small { result.1 ≤ 2 ^ 40 }
     {
-        let deadline = self.deadlines[i];
+        let deadline = self.held.deadlines[i];
         (deadline.task, deadline.time)
     }
 
@@ -365,7 +353,7 @@ impl Spec {
         ensures small { result ≤ 2 ^ 40 }
     {
         let link = self.arc(a).link;
-        weight_in(&self.traffic_weights, j, link.0 as usize) * self.quantity(m)
+        weight_in(&self.held.traffic_weights, j, link.0 as usize) * self.quantity(m)
     }
 
     /// The weight that an objective gives a design variable.
@@ -377,7 +365,7 @@ impl Spec {
     {
         let options = self.options() as u64;
         if variable < options {
-            return weight_in(&self.option_weights, j, variable as usize);
+            return weight_in(&self.held.option_weights, j, variable as usize);
         }
         let after = variable - options;
         let arcs = self.arcs() as u64;
@@ -392,8 +380,8 @@ impl Spec {
         let after = after - uses;
         let resources = self.resources() as u64;
         if after < resources {
-            return weight_in(&self.resource_weights, j, after as usize);
+            return weight_in(&self.held.resource_weights, j, after as usize);
         }
-        weight_in(&self.link_weights, j, (after - resources) as usize)
+        weight_in(&self.held.link_weights, j, (after - resources) as usize)
     }
 }

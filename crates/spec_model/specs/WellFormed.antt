@@ -84,12 +84,12 @@ pub record IsOptionIn (s : SpecValue) (o : Choice) : Type 0 where
   pub resource : o.resource < length s.resources
   pub time : o.time ≤ most_number
 
+-- a message's tasks are there, each receiver once, and its delay and its quantity are small; its hop limit is any number
 pub record IsMessageIn (s : SpecValue) (m : Message) : Type 0 where
   pub sender : m.sender < length s.tasks
   pub receivers : All (λ w. w < length s.tasks) m.receivers
   pub some_receiver : 0 < length m.receivers
   pub each_once : AreDistinct m.receivers
-  pub limit : m.limit ≤ most_hops s
   pub delay : m.delay ≤ most_number
   pub quantity : m.quantity ≤ most_number
 
@@ -107,7 +107,8 @@ pub record AreRows (objectives items : ℕ) (rows : List (List ℕ)) : Type 0 wh
   pub one_each : length rows ≡ items
   pub each : All (IsRow objectives) rows
 
-pub record IsWellFormed (s : SpecValue) : Type 0 where
+-- what holds of a specification before its hop limits and its size are looked at
+pub record IsPlan (s : SpecValue) : Type 0 where
   pub few_tasks : length s.tasks ≤ most_tasks
   pub few_messages : length s.messages ≤ most_messages
   pub few_resources : length s.resources ≤ most_resources
@@ -115,8 +116,6 @@ pub record IsWellFormed (s : SpecValue) : Type 0 where
   pub few_arcs : length s.arcs ≤ 2 * length s.links
   pub few_options : length s.options ≤ most_options
   pub few_objectives : length s.objectives ≤ most_objectives
-  pub few_variables : all_variables s ≤ most_variables
-  pub few_terms : size s ≤ most_terms
   pub named : length s.message_names ≡ length s.messages
   pub tasks_distinct : AreDistinct s.tasks
   pub messages_distinct : AreDistinct s.message_names
@@ -133,5 +132,11 @@ pub record IsWellFormed (s : SpecValue) : Type 0 where
   pub resource_rows : AreRows (length s.objectives) (length s.resources) s.resource_weights
   pub link_rows : AreRows (length s.objectives) (length s.links) s.link_weights
   pub traffic_rows : AreRows (length s.objectives) (length s.links) s.traffic_weights
-  pub products : (m a j : ℕ) → m < length s.messages → a < length s.arcs → weight_in s.traffic_weights j (arc_at s a).link * (message_at s m).quantity ≤ most_number
   pub no_cycle : HasCycle s.messages → ⊥
+
+pub record IsWellFormed (s : SpecValue) : Type 0 where
+  pub plan : IsPlan s
+  pub limits : All (λ m. m.limit ≤ most_hops s) s.messages
+  pub few_variables : all_variables s ≤ most_variables
+  pub few_terms : size s ≤ most_terms
+  pub products : (m a j : ℕ) → m < length s.messages → a < length s.arcs → weight_in s.traffic_weights j (arc_at s a).link * (message_at s m).quantity ≤ most_number

@@ -18,7 +18,7 @@ returns-then-after-resources c =
 pub overflow_cast-after-2 : goal.overflow_cast-after-2
 overflow_cast-after-2 c =
     let at = wire_at c.args.spec.now c.args.v c.options-options.result c.messages.result c.arcs-arcs.result c.resources-resources.result c.options-options.ensures.count c.messages.ensures.count c.arcs-arcs.ensures.count c.resources-resources.ensures.count (omega arith) (omega arith) (omega arith) c.requires in
-    omega (arith, at.there, c.facts.ensures.few_links)
+    omega (arith, at.there, c.facts.ensures.plan.few_links)
 
 pub returns : goal.returns
 returns c =

@@ -1,7 +1,7 @@
 use Rattle.std.proofs.Common.{ℕ, ◌≡◌, length, ap, ◌∙◌, map, subst}
 use Rattle.spec_model.specs.Spec.{SpecValue, below}
 use Rattle.spec_graph.specs.Lists.{choice_value}
-use Rattle.spec_graph.specs.Plan.{IsPlan}
+use Rattle.spec_model.specs.WellFormed.{IsPlan}
 use Rattle.spec_graph.specs.Sums.{options_of_task}
 use Rattle.spec_graph.proofs.Finishing.{few_counted, all_counted, long_counts, finished_terms_is}
 use Rattle.spec_graph.proofs.builder.SpecBuilder.finished_terms.Goals as goal

@@ -4,7 +4,7 @@ use Rattle.std.proofs.lemmas.List.{length-map}
 use Rattle.std.proofs.lemmas.List.Elements.{All-map}
 use Rattle.spec_model.specs.Spec.{SpecValue, Message}
 use Rattle.task_order.specs.Order.{IsOrderOf}
-use Rattle.spec_graph.specs.Builder.{plan_of}
+use Rattle.spec_graph.specs.Held.{value_of}
 use Rattle.spec_graph.specs.Lists.{message_number}
 use Rattle.spec_graph.specs.Merged.{AreOfOneSender, IsMergeRepeated, IsNameOfOther, merged_message, merged_names, messages_at}
 use Rattle.spec_graph.specs.Refusals.{HasTwice}
@@ -14,17 +14,17 @@ use Rattle.spec_graph.proofs.builder.SpecBuilder.merge.Goals as goal
 
 pub push_reserved-requires : goal.push_reserved-requires
 push_reserved-requires c =
-    let ms = c.self.inside.messages.items in
+    let ms = c.self.inside.held.messages.items in
     let listed = map message_number c.args.messages.now in
     let long : length ms ≡ length c.args.self.now.messages = ap (λ (s : SpecValue). length s.messages) c.self.view_is in
     let value : c.in-Some.listed ≡ listed = subst (λ r. MatchOption r (HasTwice listed) (λ l. l ≡ listed)) c.in-Some.is c.in_ok-listed.ensures.value in
     let there : All (λ m. m < length ms) listed = All-map (λ m. m < length ms) message_number c.args.messages.now (λ k d l. omega (arith, c.requires.messages_there k d l, long)) in
     let short = kept_short ms c.keep_others.new.messages.items c.in-Some.listed listed c.keep_others.ensures.kept value (omega (arith, c.requires.some_message, length-map c.args.messages.now message_number)) there in
-    omega (arith, short, c.keep_others.new.messages.ok.0, c.self.inside.messages.ok.0, c.self.inside.messages.ok.1, c.keep_others.ensures.capacity)
+    omega (arith, short, c.keep_others.new.messages.ok.0, c.self.inside.held.messages.ok.0, c.self.inside.held.messages.ok.1, c.keep_others.ensures.capacity)
 
 pub overflow_cast-result : goal.overflow_cast-result
 overflow_cast-result c =
-    let ms = c.self.inside.messages.items in
+    let ms = c.self.inside.held.messages.items in
     let listed = map message_number c.args.messages.now in
     let long : length ms ≡ length c.args.self.now.messages = ap (λ (s : SpecValue). length s.messages) c.self.view_is in
     let value : c.in-Some.listed ≡ listed = subst (λ r. MatchOption r (HasTwice listed) (λ l. l ≡ listed)) c.in-Some.is c.in_ok-listed.ensures.value in
@@ -34,8 +34,8 @@ overflow_cast-result c =
 
 pub invariant_of-self : goal.invariant_of-self
 invariant_of-self c =
-    let ms = c.self.inside.messages.items in
-    let names = c.self.inside.message_names in
+    let ms = c.self.inside.held.messages.items in
+    let names = c.self.inside.held.message_names in
     let listed = map message_number c.args.messages.now in
     let long : length ms ≡ length c.args.self.now.messages = ap (λ (s : SpecValue). length s.messages) c.self.view_is in
     let value : c.in-Some.listed ≡ listed = subst (λ r. MatchOption r (HasTwice listed) (λ l. l ≡ listed)) c.in-Some.is c.in_ok-listed.ensures.value in
@@ -47,14 +47,14 @@ invariant_of-self c =
     let new = merged_is ms c.keep_others.new.messages.items c.push_reserved.new.self.items c.in_ok-message.message c.in-Some.listed listed c.keep_others.ensures.kept value message c.push_reserved.ensures.items in
     let named : c.in_ok-self-inside.field-0 ≡ merged_names names c.args.name.now listed = c.in_ok-self-inside.ensures ∙ ap (merged_names names c.args.name.now) value in
     record {
-      plan = plan_merged_at (plan_of c.self.inside) c.args.name.now listed c.in_ok-self-inside.field-0 c.push_reserved.new.self.items named new (plan_merged (plan_of c.self.inside) c.args.name.now listed c.self.invariant.plan some there one free);
+      plan = plan_merged_at (value_of c.self.inside.held) c.args.name.now listed c.in_ok-self-inside.field-0 c.push_reserved.new.self.items named new (plan_merged (value_of c.self.inside.held) c.args.name.now listed c.self.invariant.plan some there one free);
       order = subst (IsOrderOf c.self.inside.order) (sym new) (order_merged c.self.inside.order ms listed there one c.self.invariant.order);
       room = c.self.invariant.room;
     }
 
 pub returns-clause-accepted : goal.returns-clause-accepted
 returns-clause-accepted c =
-    let names = c.self.inside.message_names in
+    let names = c.self.inside.held.message_names in
     let listed = map message_number c.args.messages.now in
     let value : c.in-Some.listed ≡ listed = subst (λ r. MatchOption r (HasTwice listed) (λ l. l ≡ listed)) c.in-Some.is c.in_ok-listed.ensures.value in
     let once : ¬ HasTwice listed = subst (λ (xs : List ℕ). ¬ HasTwice xs) value (subst (λ r. MatchOption r (HasTwice listed) (λ l. ¬ HasTwice l)) c.in-Some.is c.in_ok-listed.ensures.once) in

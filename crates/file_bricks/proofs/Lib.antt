@@ -1,0 +1,5 @@
+pub mod Deciding
+pub mod Said
+pub mod Numbered
+pub mod Headed
+pub mod Written
