@@ -5,3 +5,4 @@ pub mod Claims
 pub mod Statements
 pub mod Answers
 pub mod Printed
+pub mod Fronts

@@ -6,6 +6,7 @@
 #![tactic(auto)]
 
 mod entries;
+mod fronts;
 mod items;
 mod pieces;
 mod printing;
@@ -13,5 +14,6 @@ mod reading;
 mod vectors;
 
 pub use entries::{Entry, Vector};
+pub use fronts::{Entries, Front};
 pub use printing::print_design;
 pub use reading::read_implementation;
