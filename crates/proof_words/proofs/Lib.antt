@@ -1,4 +1,3 @@
 pub mod Marks
 pub mod Spellings
-pub mod Joining
 pub mod Legal

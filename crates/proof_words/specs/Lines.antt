@@ -1,14 +1,10 @@
 -- The lines of a proof file, as words and as text.
-use Rattle.std.specs.Prelude.{ℕ, List, [], ◌∷◌, ◌++◌, map, codes, decimal}
-use Rattle.std.specs.List.{join_with_byte}
+use Rattle.std.specs.Prelude.{ℕ, List, ◌∷◌, map, codes, decimal}
 use Rattle.line_words.specs.Rules.{Words}
+use Rattle.spelled_lines.specs.Lines.{spelled}
 use Rattle.pb_rules.specs.declared.Op.{Op}
 use Rattle.pb_rules.specs.Frames.{Line, derived, cover}
 use Rattle.proof_words.specs.Words.{op_text}
-
--- words as a line: one space between two, and LF at the end
-abbrev pub spelled : Words → List ℕ
-spelled ws = join_with_byte 32 ws ++ 10 ∷ []
 
 -- the words of a derived line: `p`, and one for each operation
 abbrev pub derivation_words : List Op → Words

@@ -1,29 +1,26 @@
 -- A text that breaks no rule is the text of the design and the vector that it states.
-use Rattle.std.proofs.Common.{◌≡◌, ℕ, zero, suc, ◌+◌, ◌-◌, ◌<◌, ◌≤◌, Bool, true, false, ltb, List, [], ◌∷◌, ◌++◌, length, take, drop, get_or, map, Option, Some, None, Ok, refl, sym, ap, subst, ◌∙◌, append_assoc, arith, inl, inr}
+use Rattle.std.proofs.Common.{◌≡◌, ℕ, zero, suc, ◌+◌, ◌-◌, ◌<◌, ◌≤◌, Bool, true, false, ltb, List, [], ◌∷◌, ◌++◌, length, get_or, map, Option, Some, None, Ok, refl, sym, ap, subst, ◌∙◌, arith, inl, inr}
 use Rattle.std.specs.Prelude.{codes, decimal, slice_set, ◌||◌, is_some, is_none, if◌then◌else◌}
-use Rattle.std.specs.List.{list_any, position_or_len, before_first, slice_split, join_with_byte}
+use Rattle.std.specs.List.{list_any}
 use Rattle.std.specs.Str.{bytes_eq}
-use Rattle.std.proofs.lemmas.Bool.{cases_Bool, cases_lt, ltb-false, eqb-true}
-use Rattle.std.proofs.lemmas.List.{append-nil, take_more, take_at, take-append-drop, length-take, length-drop, length-map, get_or-set_same, get_or-set_other, length-set}
-use Rattle.std.proofs.lemmas.List.Sums.{passes_at_first}
-use Rattle.std.proofs.lemmas.List.Splits.{join_with_byte-slice_split}
+use Rattle.std.proofs.lemmas.Bool.{cases_Bool, ltb-false}
+use Rattle.std.proofs.lemmas.List.{append-nil, length-map, get_or-set_same, get_or-set_other, length-set}
 use Rattle.std.proofs.lemmas.Slice.Eq.{bytes_eq-Decides}
-use Rattle.line_words.specs.Front.{is_lf}
 use Rattle.line_words.specs.Rules.{Words, Test, Statement, first_broken}
-use Rattle.line_words.specs.Run.{Reading, run, unless_broken}
-use Rattle.line_words.specs.declared.refusals.Why.{Why}
+use Rattle.line_words.specs.Run.{run}
 use Rattle.line_words.specs.declared.refusals.Why.TheVariants.{BadByte, BadStatement, NotInOrder, Unclosed}
-use Rattle.line_words.proofs.Least.{run-nil, run-cons}
 use Rattle.line_words.proofs.Whys.{neither}
 use Rattle.spec_model.specs.Spec.{SpecValue, Bits, bits_of, design_variables}
 use Rattle.spec_model.specs.WellFormed.{IsWellFormed}
 use Rattle.spec_model.proofs.Pieces.{flat-suc}
 use Rattle.spec_model.proofs.Those.{flat_map-below_more}
-use Rattle.result_text.specs.Spelling.{spelled, item_words, item_text, items_text, vector_words}
-use Rattle.result_text.specs.Lines.{pieces, piece_tests, is_bad, is_space, lacks_lf, words_of}
+use Rattle.spelled_lines.specs.Lines.{spelled, pieces, is_bad, lacks_lf, words_of, is_empty}
+use Rattle.result_text.specs.Spelling.{item_words, item_text, items_text, vector_words}
+use Rattle.result_text.specs.Lines.{piece_tests}
 use Rattle.result_text.specs.Stating.{item_tests, item_variable, vector_tests, is_vector, later_words, vector_numbers, number_in}
-use Rattle.result_text.specs.Statements.{Stated, nothing, with_line, is_empty, words_tests, end_tests, result_rules}
-use Rattle.result_text.proofs.FirstPiece.{pieces-nil, pieces-first, pieces-last}
+use Rattle.result_text.specs.Statements.{Stated, nothing, with_line, words_tests, result_rules}
+use Rattle.spelled_lines.proofs.Ended.{ended_spelled}
+use Rattle.spelled_lines.proofs.Over.{IsKept, whole}
 use Rattle.result_text.proofs.Going.{tests_of, after, line_at, with_lines-push, length-nothing}
 use Rattle.result_text.proofs.Parsing.{AreSmall}
 use Rattle.result_text.proofs.Reread.{all_false}
@@ -64,41 +61,19 @@ one_more s design low v le lt later =
     ∙ ap (λ (t : List ℕ). t ++ item_text s g v) (same_below s g f v other ∙ none_from s f low v le (λ k ge below. later k ge))
     ∙ ap (λ (t : List ℕ). items_text s f low ++ t) here
 
--- ---- a piece that ends with LF is its words, spelled
+-- ---- a line that breaks no rule
 
-cut : (bs : List ℕ) → position_or_len is_lf bs < length bs → position_or_len is_lf (take (position_or_len is_lf bs + 1) bs) ≡ position_or_len is_lf bs
-cut [] lt = absurd (omega (arith, lt))
-cut (b ∷ bs) lt =
-    elim (cases_Bool (is_lf b)) [
-      | inl t ↦ let n : position_or_len is_lf (b ∷ bs) ≡ 0 = rw t refl in let m : position_or_len is_lf (b ∷ []) ≡ 0 = rw t refl in rw n m
-      | inr f ↦
-          let k = position_or_len is_lf bs in
-          let n : position_or_len is_lf (b ∷ bs) ≡ suc (position_or_len is_lf bs) = rw f (omega arith) in
-          let next : suc (position_or_len is_lf bs) + 1 ≡ suc (position_or_len is_lf bs + 1) = omega arith in
-          let m : position_or_len is_lf (b ∷ take (k + 1) bs) ≡ suc (position_or_len is_lf (take (k + 1) bs)) = rw f (omega arith) in
-          rw (n, next) (m ∙ ap (λ (j : ℕ). suc j) (cut bs (omega (arith, lt, n))))
-    ]
+-- a piece that breaks no rule has no bad byte and its LF, and what follows in the tests passes too
+pub record IsFine (piece : List ℕ) (tests : List Test) : Type 0 where
+  pub good : list_any is_bad piece ≡ false
+  pub ended : lacks_lf piece ≡ false
+  pub later : first_broken tests ≡ None
 
-piece_spelled : (bs : List ℕ) → position_or_len is_lf bs < length bs → take (position_or_len is_lf bs + 1) bs ≡ spelled (words_of (take (position_or_len is_lf bs + 1) bs))
-piece_spelled bs lt =
-    let n = position_or_len is_lf bs in
-    let piece = take (n + 1) bs in
-    let body = take n bs in
-    let lf : get_or bs n 0 ≡ 10 = eqb-true (get_or bs n 0) 10 (passes_at_first is_lf bs 0 lt) in
-    let ended : piece ≡ body ++ 10 ∷ [] = take_more bs n 0 lt ∙ ap (λ (b : ℕ). take n bs ++ b ∷ []) lf in
-    let len : length body ≡ n = omega (arith, length-take n bs, lt) in
-    let front : before_first is_lf piece ≡ body = ap (λ (k : ℕ). take k piece) (cut bs lt) ∙ ap (take n) ended ∙ take_at body (10 ∷ []) n len in
-    ended ∙ ap (λ (t : List ℕ). t ++ 10 ∷ []) (sym (ap (λ (t : List ℕ). join_with_byte 32 (slice_split is_space t)) front ∙ join_with_byte-slice_split 32 body))
-
-no_lf : (bs : List ℕ) → length bs ≤ position_or_len is_lf bs → list_any is_lf bs ≡ false
-no_lf [] h = refl
-no_lf (b ∷ bs) h =
-    elim (cases_Bool (is_lf b)) [
-      | inl t ↦ absurd (let n : position_or_len is_lf (b ∷ bs) ≡ 0 = rw t refl in omega (arith, n, h))
-      | inr f ↦
-          let n : position_or_len is_lf (b ∷ bs) ≡ suc (position_or_len is_lf bs) = rw f (omega arith) in
-          ap (λ (x : Bool). x || list_any is_lf bs) f ∙ no_lf bs (omega (arith, n, h))
-    ]
+pub fine_alone : (piece : List ℕ) (later : List Test) → first_broken (piece_tests piece ++ later) ≡ None → IsFine piece later
+fine_alone piece later e =
+    let first = none_of (BadByte, list_any is_bad piece) ((BadStatement, lacks_lf piece) ∷ later) e in
+    let second = none_of (BadStatement, lacks_lf piece) later first.1 in
+    record { good = first.0; ended = second.0; later = second.1 }
 
 -- ---- what the lines so far state, and their text
 
@@ -182,53 +157,21 @@ spelt_more s w stated text piece h fine spell =
 
 -- ---- the whole text
 
-abbrev ok : List Statement → Reading
-ok all = Ok all
-
-ok_is : (xs ys : List Statement) → ok xs ≡ ok ys → xs ≡ ys
-ok_is xs ys e = cc
-
-unless_ok : (number : ℕ) (b : Option Why) (more : Reading) (all : List Statement) → unless_broken number b more ≡ ok all → (b ≡ None) × (more ≡ ok all)
-unless_ok number None more all e = (refl, e)
-unless_ok number (Some why) more all e = absurd cc
+-- what lines that break no rule state is spelled by them
+spelt_kept : (s : SpecValue) → IsWellFormed s → IsKept (result_rules s) (λ done text. IsSpelt s (after s done) text)
+spelt_kept s w = record {
+  start = start s;
+  more = λ done text piece number h fine ended.
+      subst (λ (x : Stated). IsSpelt s x (text ++ piece)) (sym (with_lines-push s (nothing s) done (line_at number piece))) (spelt_more s w (after s done) text piece h fine (ended_spelled piece ended));
+  ended = λ done piece lacks fine. absurd (let c : true ≡ false = sym lacks ∙ (fine_alone piece (words_tests s (after s done) (words_of piece)) fine).ended in cc);
+}
 
 -- the statements of a text are its lines, and the last one is the vector's
-pub record IsWhole (s : SpecValue) (all : List Statement) (text : List ℕ) : Type 0 where
+pub record IsWholeText (s : SpecValue) (all : List Statement) (text : List ℕ) : Type 0 where
   pub spelt : IsSpelt s (after s all) text
   pub closed : is_none (after s all).vector ≡ false
 
-whole_from : (s : SpecValue) → IsWellFormed s → (fuel : ℕ) (bytes : List ℕ) (number : ℕ) (done : List Statement) (text : List ℕ) (all : List Statement)
-    → length bytes ≤ fuel → IsSpelt s (after s done) text → run (result_rules s) number done (pieces bytes) ≡ ok all → IsWhole s all (text ++ bytes)
-whole_from s w fuel [] number done text all le h e =
-    let end = unless_ok number (first_broken (end_tests s done)) (ok done) all (sym (run-nil (result_rules s) number done) ∙ ap (run (result_rules s) number done) (sym pieces-nil) ∙ e) in
-    let is : done ≡ all = ok_is done all end.1 in
-    let closed = none_of (Unclosed, is_none (after s done).vector) [] end.0 in
-    subst (λ (x : List Statement). IsWhole s x (text ++ [])) is (record { spelt = subst (IsSpelt s (after s done)) (sym (append-nil text)) h; closed = closed.0 })
-whole_from s w zero (b ∷ bs) number done text all le h e = absurd (omega (arith, le))
-whole_from s w (suc fuel) (b ∷ bs) number done text all le h e =
-    elim (cases_lt (position_or_len is_lf (b ∷ bs)) (length (b ∷ bs))) [
-      | inl lt ↦
-          let bytes = b ∷ bs in
-          let n = position_or_len is_lf bytes in
-          let piece = take (n + 1) bytes in
-          let rest = drop (n + 1) bytes in
-          let step = unless_ok number (first_broken (tests_of s (after s done) piece)) (run (result_rules s) (number + 1) (done ++ line_at number piece ∷ []) (pieces rest)) all
-          (sym (run-cons (result_rules s) number done piece (pieces rest)) ∙ ap (run (result_rules s) number done) (sym (pieces-first bytes lt)) ∙ e) in
-          let more = spelt_more s w (after s done) text piece h step.0 (piece_spelled bytes lt) in
-          let next = subst (λ (x : Stated). IsSpelt s x (text ++ piece)) (sym (with_lines-push s (nothing s) done (line_at number piece))) more in
-          let shorter : length rest ≤ fuel = omega (arith, le, length-drop (n + 1) bytes) in
-          let tail = whole_from s w fuel rest (number + 1) (done ++ line_at number piece ∷ []) (text ++ piece) all shorter next step.1 in
-          subst (IsWhole s all) (append_assoc text piece rest ∙ ap (λ (x : List ℕ). text ++ x) (take-append-drop (n + 1) bytes)) tail
-      | inr ge ↦
-          let bytes = b ∷ bs in
-          let step = unless_ok number (first_broken (tests_of s (after s done) bytes)) (run (result_rules s) (number + 1) (done ++ line_at number bytes ∷ []) (pieces [])) all
-          (sym (run-cons (result_rules s) number done bytes (pieces [])) ∙ ap (run (result_rules s) number done) (sym (pieces-last bytes (omega arith) ge)) ∙ e) in
-          let alone = none_first (piece_tests bytes) (words_tests s (after s done) (words_of bytes)) step.0 in
-          let first = none_of (BadByte, list_any is_bad bytes) ((BadStatement, lacks_lf bytes) ∷ []) alone in
-          let second = none_of (BadStatement, lacks_lf bytes) [] first.1 in
-          let lacks : lacks_lf bytes ≡ true = rw (no_lf bytes ge) refl in
-          absurd (let c : true ≡ false = sym lacks ∙ second.0 in cc)
-    ]
-
-pub whole : (s : SpecValue) → IsWellFormed s → (bytes : List ℕ) (all : List Statement) → run (result_rules s) 1 [] (pieces bytes) ≡ ok all → IsWhole s all bytes
-whole s w bytes all e = whole_from s w (length bytes) bytes 1 [] [] all (omega arith) (start s) e
+pub whole_text : (s : SpecValue) → IsWellFormed s → (bytes : List ℕ) (all : List Statement) → run (result_rules s) 1 [] (pieces bytes) ≡ Ok all → IsWholeText s all bytes
+whole_text s w bytes all e =
+    let h = whole (result_rules s) (λ done text. IsSpelt s (after s done) text) (spelt_kept s w) bytes all e in
+    record { spelt = h.kept; closed = (none_of (Unclosed, is_none (after s all).vector) [] h.closed).0 }

@@ -11,13 +11,13 @@ use Rattle.line_words.specs.declared.refusals.ReadFault.TheVariants as faults
 use Rattle.line_words.proofs.Least.{Outcome, run_is}
 use Rattle.spec_model.specs.Spec.{SpecValue, bits_of, design_variables}
 use Rattle.spec_model.specs.WellFormed.{IsWellFormed}
-use Rattle.result_text.specs.Spelling.{spelled, items_text, vector_words, implementation_text}
-use Rattle.result_text.specs.Lines.{pieces}
+use Rattle.spelled_lines.specs.Lines.{spelled, pieces}
+use Rattle.result_text.specs.Spelling.{items_text, vector_words, implementation_text}
 use Rattle.result_text.specs.Statements.{result_rules}
 use Rattle.result_text.specs.Answers.{EntryValue, as_seen, entry_of, numbers_or_none}
 use Rattle.result_text.specs.Printed.{IsTextOf, GivesBack, HasNames}
 use Rattle.result_text.specs.declared.entries.Entry.{Entry}
-use Rattle.result_text.proofs.Accepting.{vector_text, IsVectorIn, IsWhole, none_from, whole}
+use Rattle.result_text.proofs.Accepting.{vector_text, IsVectorIn, IsWholeText, none_from, whole_text}
 use Rattle.result_text.proofs.Going.{after, in_order}
 use Rattle.result_text.proofs.Reread.{reread}
 
@@ -28,7 +28,7 @@ has_vector : (s : SpecValue) (bytes design_text : List ℕ) (vector : Option (Li
 has_vector s bytes design_text None closed h is = absurd (let c : true ≡ false = closed in cc)
 has_vector s bytes design_text (Some numbers) closed h is = (h.0, All-from_recursion (λ n. n < 2 ^ 63) numbers h.1, is)
 
-text_of_whole : (s : SpecValue) (all : List Statement) (bytes : List ℕ) → IsWhole s all bytes → IsTextOf s bytes (entry_of s all)
+text_of_whole : (s : SpecValue) (all : List Statement) (bytes : List ℕ) → IsWholeText s all bytes → IsTextOf s bytes (entry_of s all)
 text_of_whole s all bytes h =
     let stated = after s all in
     let spelt = h.spelt in
@@ -44,7 +44,7 @@ text_of_whole s all bytes h =
 
 accepted_by : (s : SpecValue) → IsWellFormed s → (bytes : List ℕ) (r : Reading) → run (result_rules s) 1 [] (pieces bytes) ≡ r → Outcome (result_rules s) (pieces bytes) r → HasNoFault (result_rules s) (pieces bytes)
     → IsTextOf s bytes (entry_of s (statements (result_rules s) (pieces bytes)))
-accepted_by s w bytes (Ok all) e out fine = subst (λ (st : List Statement). IsTextOf s bytes (entry_of s st)) out.0 (text_of_whole s all bytes (whole s w bytes all e))
+accepted_by s w bytes (Ok all) e out fine = subst (λ (st : List Statement). IsTextOf s bytes (entry_of s st)) out.0 (text_of_whole s all bytes (whole_text s w bytes all e))
 accepted_by s w bytes (Err r) e out fine = absurd (fine r.line r.why out.holds)
 
 -- what breaks no rule is the text of what it states

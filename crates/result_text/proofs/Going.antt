@@ -18,9 +18,10 @@ use Rattle.line_words.specs.declared.refusals.Stop.TheVariants.{Broken}
 use Rattle.line_words.proofs.Answering.{stopped}
 use Rattle.line_words.proofs.Whys.{some}
 use Rattle.spec_model.specs.Spec.{SpecValue, design_variables}
-use Rattle.result_text.specs.Lines.{piece_tests, words_of}
+use Rattle.spelled_lines.specs.Lines.{words_of, is_empty}
+use Rattle.result_text.specs.Lines.{piece_tests}
 use Rattle.result_text.specs.Stating.{item_tests, item_variable, is_vector}
-use Rattle.result_text.specs.Statements.{Stated, nothing, with_line, with_lines, is_empty, words_tests, end_tests, result_rules}
+use Rattle.result_text.specs.Statements.{Stated, nothing, with_line, with_lines, words_tests, end_tests, result_rules}
 use Rattle.result_text.specs.Answers.{as_seen, entry_of, IsEntryOf}
 use Rattle.result_text.specs.declared.entries.Entry.{Entry}
 

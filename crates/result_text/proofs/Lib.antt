@@ -1,10 +1,6 @@
 pub mod ItemWords
-pub mod Joining
 pub mod Found
-pub mod FirstPiece
-pub mod Saying
 pub mod Going
-pub mod Spelled
 pub mod Numbering
 pub mod Parsing
 pub mod Reread

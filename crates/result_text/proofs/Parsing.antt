@@ -12,7 +12,7 @@ use Rattle.line_words.specs.Rules.{Words, first_broken}
 use Rattle.line_words.proofs.Digits.{own}
 use Rattle.line_words.proofs.Plain.{plain_whole_of-decimal}
 use Rattle.line_words.proofs.Whys.{both}
-use Rattle.names.specs.Names.{IsName, is_name_byte, number_of}
+use Rattle.names.specs.Names.{IsName, number_of}
 use Rattle.spec_model.specs.Spec.{SpecValue, Arc, Choice, Name, name_at, option_at, arc_at, arc_var, resource_var, link_var, design_variables, choice}
 use Rattle.spec_model.specs.WellFormed.{IsWellFormed, AreDistinct}
 use Rattle.result_text.specs.Spelling.{bind_words, use_words, alloc_words, wire_words, item_words, vector_words}
@@ -20,32 +20,37 @@ use Rattle.result_text.specs.Stating.{arc_number, bind_tests, use_tests, name_te
 use Rattle.result_text.specs.Printed.{HasNames}
 use Rattle.result_text.proofs.ItemWords.{kind_of, item_option, use_is, alloc_is, wire_is}
 use Rattle.result_text.proofs.Numbering.{number_of_name, known_name, place_of_arc}
-use Rattle.result_text.proofs.Spelled.{AreNames}
+use Rattle.spelled_lines.specs.Lines.{is_word_byte, IsWord}
+use Rattle.spelled_lines.proofs.Spelled.{AreWords}
 
 -- ---- numbers as words
 
-digit_name_byte : (b : ℕ) → is_ascii_digit b ≡ true → is_name_byte b ≡ true
-digit_name_byte b h = grind (arith, nat_tests, h)
+digit_word_byte : (b : ℕ) → is_ascii_digit b ≡ true → is_word_byte b ≡ true
+digit_word_byte b h = grind (arith, nat_tests, h)
 
-digit_bytes : (w : List ℕ) → list_all is_ascii_digit w ≡ true → list_all is_name_byte w ≡ true
+digit_bytes : (w : List ℕ) → list_all is_ascii_digit w ≡ true → list_all is_word_byte w ≡ true
 digit_bytes [] h = refl
-digit_bytes (b ∷ w) h = let p = both (is_ascii_digit b) (list_all is_ascii_digit w) h in rw (digit_name_byte b p.0) (digit_bytes w p.1)
+digit_bytes (b ∷ w) h = let p = both (is_ascii_digit b) (list_all is_ascii_digit w) h in rw (digit_word_byte b p.0) (digit_bytes w p.1)
 
-pub decimal_name : (n : ℕ) → n < 2 ^ 63 → IsName (decimal n)
-decimal_name n lt = record { some = decimal_nonempty n (omega (arith, lt)); bytes = digit_bytes (decimal n) (digits_decimal own n (omega (arith, lt))) }
+pub decimal_word : (n : ℕ) → n < 2 ^ 63 → IsWord (decimal n)
+decimal_word n lt = record { some = decimal_nonempty n (omega (arith, lt)); bytes = digit_bytes (decimal n) (digits_decimal own n (omega (arith, lt))) }
 
 -- ---- items
 
 -- words that are read as a design variable
 pub record IsReadAs (s : SpecValue) (v : ℕ) (ws : Words) : Type 0 where
-  pub words : AreNames ws
+  pub words : AreWords ws
   pub some_word : 0 < length ws
   pub item : is_vector ws ≡ false
   pub tests : first_broken (item_tests s ws) ≡ None
   pub variable : item_variable s ws ≡ v
 
-name_in : (names : List Name) (i : ℕ) → All IsName names → i < length names → IsName (name_at names i)
-name_in names i h lt = h i [] lt
+-- a name is a word of a line
+pub word_of : (name : Name) → IsName name → IsWord name
+word_of name h = record { some = h.some; bytes = h.bytes }
+
+name_in : (names : List Name) (i : ℕ) → All IsName names → i < length names → IsWord (name_at names i)
+name_in names i h lt = word_of (name_at names i) (h i [] lt)
 
 abbrev no_option : Choice
 no_option = choice 0 0 0
@@ -70,7 +75,7 @@ bind_read s w h o lt =
     let fine = bind_fine s (name_at s.tasks task) (name_at s.resources resource) (decimal o) task resource o (plain_whole_of-decimal o small)
     (number_of_name s.tasks task w.plan.tasks_distinct is.task) (number_of_name s.resources resource w.plan.resources_distinct is.resource) is.task is.resource lt refl refl in
     record {
-      words = (record { some = omega arith; bytes = refl }, (name_in s.tasks task h.tasks is.task, (name_in s.resources resource h.resources is.resource, (decimal_name o small, tt))));
+      words = (record { some = omega arith; bytes = refl }, (name_in s.tasks task h.tasks is.task, (name_in s.resources resource h.resources is.resource, (decimal_word o small, tt))));
       some_word = omega arith;
       item = refl;
       tests = fine.0;
@@ -143,9 +148,9 @@ item_read s w h v lt =
 abbrev pub AreSmall : List ℕ → Type 0
 AreSmall numbers = AllByRecursion (λ n. n < 2 ^ 63) numbers
 
-decimals_named : (numbers : List ℕ) → AreSmall numbers → AreNames (map decimal numbers)
+decimals_named : (numbers : List ℕ) → AreSmall numbers → AreWords (map decimal numbers)
 decimals_named [] h = tt
-decimals_named (n ∷ more) h = (decimal_name n h.0, decimals_named more h.1)
+decimals_named (n ∷ more) h = (decimal_word n h.0, decimals_named more h.1)
 
 are_numbers : (numbers : List ℕ) → AreSmall numbers → list_any no_number (map decimal numbers) ≡ false
 are_numbers [] h = refl
@@ -161,7 +166,7 @@ numbers_back (n ∷ more) h = rw (plain_whole_of-decimal n h.0, numbers_back mor
 
 -- words that are read as a vector
 pub record IsVectorRead (s : SpecValue) (numbers : List ℕ) : Type 0 where
-  pub words : AreNames (vector_words numbers)
+  pub words : AreWords (vector_words numbers)
   pub tests : first_broken (vector_tests s (map decimal numbers)) ≡ None
   pub back : vector_numbers (vector_words numbers) ≡ numbers
 

@@ -10,18 +10,19 @@ use Rattle.line_words.proofs.Least.{run-nil, first_broken-append-none}
 use Rattle.spec_model.specs.Spec.{SpecValue, Bits, bits_of, design_variables}
 use Rattle.spec_model.specs.WellFormed.{IsWellFormed}
 use Rattle.spec_model.proofs.Pieces.{flat-suc}
-use Rattle.result_text.specs.Spelling.{spelled, item_words, item_text, items_text, vector_words, implementation_text}
-use Rattle.result_text.specs.Lines.{pieces, piece_tests, words_of}
+use Rattle.spelled_lines.specs.Lines.{spelled, pieces, words_of}
+use Rattle.result_text.specs.Spelling.{item_words, item_text, items_text, vector_words, implementation_text}
+use Rattle.result_text.specs.Lines.{piece_tests}
 use Rattle.result_text.specs.Stating.{item_tests, item_variable}
 use Rattle.result_text.specs.Statements.{Stated, nothing, with_line, words_tests, result_rules}
 use Rattle.result_text.specs.Answers.{EntryValue, entry_of, numbers_or_none}
 use Rattle.result_text.specs.Printed.{HasNames}
-use Rattle.result_text.proofs.FirstPiece.{pieces-nil}
+use Rattle.spelled_lines.proofs.FirstPiece.{pieces-nil}
 use Rattle.result_text.proofs.Going.{tests_of, after, line_at, with_lines-push, goes_on, length-with_line, length-nothing}
 use Rattle.result_text.proofs.Parsing.{IsReadAs, item_read, AreSmall, IsVectorRead, vector_read}
-use Rattle.result_text.proofs.Spelled.{AreNames, IsSpelled, spelled_is, none_empty}
+use Rattle.spelled_lines.proofs.Spelled.{AreWords, IsSpelled, spelled_is, none_empty}
 
-spelled_of : (ws : Words) → 0 < length ws → AreNames ws → IsSpelled ws
+spelled_of : (ws : Words) → 0 < length ws → AreWords ws → IsSpelled ws
 spelled_of [] lt h = absurd (omega (arith, lt))
 spelled_of (w ∷ ws) lt h = spelled_is w ws h
 
@@ -41,7 +42,7 @@ item_state s stated ws v r = rw (r.item, r.variable) refl
 -- a spelled line is tried by its words
 line_fine : (s : SpecValue) (stated : Stated) (ws : Words) → IsSpelled ws → first_broken (words_tests s stated ws) ≡ None → first_broken (tests_of s stated (spelled ws)) ≡ None
 line_fine s stated ws p fine =
-    first_broken-append-none (piece_tests (spelled ws)) (words_tests s stated (words_of (spelled ws))) p.fine
+    first_broken-append-none (piece_tests (spelled ws)) (words_tests s stated (words_of (spelled ws))) (rw (p.good, p.ended) refl)
     ∙ ap (λ (w : Words). first_broken (words_tests s stated w)) p.words ∙ fine
 
 -- what a spelled line more states

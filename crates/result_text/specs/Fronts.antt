@@ -1,8 +1,9 @@
 -- A front, and how it is written: a header, the objectives, each entry under its number from 1, and whether it is whole.
 use Rattle.std.specs.Prelude.{◌≡◌, ◌<◌, ◌^◌, ℕ, ◌+◌, List, [], ◌∷◌, ◌++◌, length, Bool, if◌then◌else◌, codes, decimal, All}
 use Rattle.line_words.specs.Rules.{Words}
+use Rattle.spelled_lines.specs.Lines.{spelled}
 use Rattle.spec_model.specs.Spec.{SpecValue, bits_of, design_variables}
-use Rattle.result_text.specs.Spelling.{spelled, implementation_text}
+use Rattle.result_text.specs.Spelling.{implementation_text}
 use Rattle.result_text.specs.Answers.{EntryValue}
 use Rattle.result_text.specs.declared.fronts.Front.{Front}
 

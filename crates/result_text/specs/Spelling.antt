@@ -1,7 +1,8 @@
 -- How an implementation is written: a line for each true design variable, and the line of its vector.
 use Rattle.std.specs.Prelude.{ℕ, List, [], ◌∷◌, ◌++◌, length, map, if◌then◌else◌, slice_index_or, codes, decimal}
-use Rattle.std.specs.List.{flat_map, join_with_byte}
+use Rattle.std.specs.List.{flat_map}
 use Rattle.line_words.specs.Rules.{Words}
+use Rattle.spelled_lines.specs.Lines.{spelled}
 use Rattle.spec_model.specs.Spec.{SpecValue, Bits, below, name_at, option_at, arc_at, design_variables}
 
 -- an option is chosen
@@ -41,10 +42,6 @@ item_words s v = slice_index_or (item_lines s) v []
 -- the words of the line of a vector
 abbrev pub vector_words : List ℕ → Words
 vector_words numbers = codes "vector" ∷ map decimal numbers
-
--- words as a line: one space between two, and LF at the end
-abbrev pub spelled : Words → List ℕ
-spelled ws = join_with_byte 32 ws ++ 10 ∷ []
 
 -- what is written of a design variable: its line where it is true
 abbrev pub item_text : SpecValue → Bits → ℕ → List ℕ

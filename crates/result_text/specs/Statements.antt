@@ -1,8 +1,9 @@
 -- An implementation text: its lines, what each is refused for, and the design and vector that they state.
-use Rattle.std.specs.Prelude.{ℕ, ◌+◌, List, [], ◌∷◌, ◌++◌, length, Bool, true, false, ◌||◌, ◌==◌, nat_lt, slice_set, replicate, if◌then◌else◌, Option, Some, None, is_some, is_none}
+use Rattle.std.specs.Prelude.{ℕ, ◌+◌, List, [], ◌∷◌, ◌++◌, Bool, true, false, ◌||◌, nat_lt, slice_set, replicate, if◌then◌else◌, Option, Some, None, is_some, is_none}
 use Rattle.std.specs.List.{list_any}
 use Rattle.line_words.specs.Rules.{Words, Rules, Statement, Test}
 use Rattle.line_words.specs.declared.refusals.Why.TheVariants.{BadStatement, Unclosed, NotInOrder}
+use Rattle.spelled_lines.specs.Lines.{is_empty}
 use Rattle.spec_model.specs.Spec.{SpecValue, design_variables}
 use Rattle.result_text.specs.Lines.{piece_tests, stated}
 use Rattle.result_text.specs.Stating.{item_tests, item_variable, vector_tests, is_vector, later_words, vector_numbers}
@@ -29,9 +30,6 @@ with_line s stated ws =
 abbrev pub with_lines : SpecValue → Stated → List Statement → Stated
 with_lines s stated [] = stated
 with_lines s stated (line ∷ more) = with_lines s (with_line s stated line.words) more
-
-abbrev pub is_empty : List ℕ → Bool
-is_empty word = length word == 0
 
 -- A line breaks the form after the vector's line, or where a space stands at an end or beside another one. A vector's
 -- line has its own rules. Another line names a design variable after that of the line before.

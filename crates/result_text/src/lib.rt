@@ -8,7 +8,6 @@
 mod entries;
 mod fronts;
 mod items;
-mod pieces;
 mod printing;
 mod reading;
 mod vectors;

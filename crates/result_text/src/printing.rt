@@ -1,8 +1,9 @@
 //! Writes a design and a vector in their one spelling.
 
-ghost use Rattle.std.specs.Prelude.{◌≡◌, ℕ, ◌<◌, ◌∷◌, ◌++◌, length, IfOk, OnOk, OnErr};
+ghost use Rattle.std.specs.Prelude.{◌≡◌, ℕ, ◌<◌, ◌∷◌, ◌++◌, length, decimal, IfOk, OnOk, OnErr};
 ghost use Rattle.spec_model.specs.Spec.{bits_of, design_variables};
-ghost use Rattle.result_text.specs.Spelling.{bind_words, use_words, alloc_words, wire_words, item_words, vector_words, spelled, item_text, items_text, implementation_text};
+ghost use Rattle.spelled_lines.specs.Lines.{spelled};
+ghost use Rattle.result_text.specs.Spelling.{bind_words, use_words, alloc_words, wire_words, item_words, vector_words, item_text, items_text, implementation_text};
 
 use impl_rules::Design;
 use line_words::put_whole;
@@ -17,6 +18,14 @@ fn put_word(text: &mut Vec<u8>, word: &str) -> Result<(), AllocError>
     text.extend_from_slice(word.as_bytes())
 }
 
+/// Appends a space and a number.
+fn put_number(alloc: Global, text: &mut Vec<u8>, number: u64) -> Result<(), AllocError>
+    ensures { OnOk result (text.new.items ≡ text.old.items ++ 32 ∷ decimal number) }
+{
+    text.push(b' ')?;
+    put_whole(alloc, text, number)
+}
+
 fn put_bind(alloc: Global, spec: &Spec, o: OptNo, text: &mut Vec<u8>) -> Result<(), AllocError>
     requires { o.0 < length spec.now.options }
     ensures { OnOk result (text.new.items ≡ text.old.items ++ spelled (bind_words spec.now o.0)) }
@@ -25,8 +34,7 @@ fn put_bind(alloc: Global, spec: &Spec, o: OptNo, text: &mut Vec<u8>) -> Result<
     text.extend_from_slice(b"bind")?;
     put_word(text, spec.task_name(option.task))?;
     put_word(text, spec.resource_name(option.resource))?;
-    text.push(b' ')?;
-    put_whole(alloc, text, o.0 as u64)?;
+    put_number(alloc, text, o.0 as u64)?;
     text.push(b'\n')?;
     Ok(())
 }
@@ -136,8 +144,7 @@ fn put_vector(alloc: Global, vector: &[u64], text: &mut Vec<u8>) -> Result<(), A
 {
     text.extend_from_slice(b"vector")?;
     for number in vector {
-        text.push(b' ')?;
-        put_whole(alloc, text, *number)?;
+        put_number(alloc, text, *number)?;
     }
     text.push(b'\n')?;
     Ok(())

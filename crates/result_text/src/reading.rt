@@ -1,24 +1,24 @@
 //! Reads an implementation text line by line, and stops at the first rule that is broken.
 
 ghost use Rattle.std.specs.Prelude.{◌≡◌, ◌++◌, None, [], length, map, MatchResult, IfOk};
-ghost use Rattle.std.specs.List.{list_any};
 ghost use Rattle.line_words.specs.Rules.{first_broken};
 ghost use Rattle.line_words.specs.Run.{run};
 ghost use Rattle.line_words.specs.Reads.{Reads, Agrees, Stops};
 ghost use Rattle.spec_model.specs.Spec.{design_variables};
-ghost use Rattle.result_text.specs.Lines.{pieces, piece_tests, words_of};
+ghost use Rattle.spelled_lines.specs.Lines.{pieces, words_of};
+ghost use Rattle.result_text.specs.Lines.{piece_tests};
 ghost use Rattle.result_text.specs.Stating.{is_vector};
-ghost use Rattle.result_text.specs.Statements.{is_empty, words_tests, with_line, nothing, result_rules};
+ghost use Rattle.result_text.specs.Statements.{words_tests, with_line, nothing, result_rules};
 ghost use Rattle.result_text.specs.Answers.{EntryValue, IsEntryOf, state_of, as_seen, entry_of};
 ghost use Rattle.result_text.specs.Printed.{IsTextOf, GivesBack};
 
 use crate::items::item_of;
-use crate::pieces::{first_piece, has_bad_byte, lacks_lf, words_of};
 use crate::vectors::vector_of;
 use crate::{Entry, Vector};
 use impl_rules::Design;
 use line_words::{FileTag, ReadFault, Stop, Why};
 use spec_graph::Spec;
+use spelled_lines::{first_piece, has_bad_byte, has_empty, lacks_lf, words_of};
 use std::alloc::{AllocError, Global};
 
 /// What the lines so far state: the design, the least variable whose line may follow, and the vector once its line was
@@ -40,18 +40,6 @@ impl Seen {
             vector: None,
         })
     }
-}
-
-fn any_empty(words: &[&str]) -> bool
-    ensures { result ≡ list_any (λ w. is_empty w.now) words.now }
-{
-    words.iter().any(|word| word.is_empty())
-}
-
-fn has_empty(words: &[&str]) -> bool
-    ensures { result ≡ list_any is_empty (map (λ w. w.now) words.now) }
-{
-    any_empty(words)
 }
 
 fn is_vector(words: &[&str]) -> bool

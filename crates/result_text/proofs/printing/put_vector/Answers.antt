@@ -1,7 +1,10 @@
-use Rattle.std.proofs.Common.{arith}
-use Rattle.result_text.proofs.Joining.{vector_more}
+use Rattle.std.proofs.Common.{get_or, refl, arith}
+use Rattle.std.specs.Prelude.{codes, decimal}
+use Rattle.spelled_lines.proofs.Joining.{word_more}
 use Rattle.result_text.proofs.printing.put_vector.Goals as goal
 
 pub loop-number-preserved : goal.loop-number-preserved
 loop-number-preserved c =
-    vector_more c.args.text.now.items c.loop-number.text.items c.push.new.self.items c.put_whole.new.out.items c.args.vector.now c.loop-number.number-index c.loop-number.invariant c.in_ok-push.ensures.items c.in_ok-put_whole.ensures.ok (omega arith)
+    let v = c.args.vector.now in
+    let i = c.loop-number.number-index in
+    word_more decimal (codes "vector") c.args.text.now.items c.loop-number.text.items c.put_number.new.text.items v i 0 (get_or v i 0) c.loop-number.invariant c.in_ok-put_number.ensures refl (omega arith)

@@ -5,10 +5,10 @@ use Rattle.line_words.specs.Rules.{first_broken}
 use Rattle.line_words.specs.Run.{run}
 use Rattle.line_words.specs.declared.refusals.FileTag.TheVariants.{Front}
 use Rattle.line_words.proofs.Answering.{stopped}
-use Rattle.result_text.specs.Lines.{pieces, words_of}
+use Rattle.spelled_lines.specs.Lines.{pieces, words_of}
 use Rattle.result_text.specs.Statements.{Stated, nothing, with_line, result_rules}
 use Rattle.result_text.specs.Answers.{as_seen, entry_of, state_of}
-use Rattle.result_text.proofs.FirstPiece.{pieces-nil}
+use Rattle.spelled_lines.proofs.FirstPiece.{pieces-nil}
 use Rattle.result_text.proofs.Going.{tests_of, line_at, with_lines-push, length-with_line, goes_on, stops_here, ends}
 use Rattle.result_text.proofs.reading.read_all.Goals as goal
 

@@ -2,7 +2,7 @@ use Rattle.std.proofs.Common.{◌≡◌, ◌+◌, ◌<◌, ◌^◌, [], List, le
 use Rattle.line_words.specs.Rules.{Statement}
 use Rattle.line_words.specs.Run.{run}
 use Rattle.spec_model.specs.Spec.{design_variables}
-use Rattle.result_text.specs.Lines.{pieces}
+use Rattle.spelled_lines.specs.Lines.{pieces}
 use Rattle.result_text.specs.Statements.{nothing, with_lines, result_rules}
 use Rattle.result_text.specs.Answers.{state_of}
 use Rattle.result_text.proofs.reading.read_all.Given as goal

@@ -1,6 +1,6 @@
 use Rattle.line_words.specs.declared.refusals.FileTag.TheVariants.{Front}
 use Rattle.line_words.proofs.Answering.{agrees_reads}
-use Rattle.result_text.specs.Lines.{pieces}
+use Rattle.spelled_lines.specs.Lines.{pieces}
 use Rattle.result_text.specs.Statements.{result_rules}
 use Rattle.result_text.specs.Answers.{as_seen, entry_of}
 use Rattle.result_text.proofs.Going.{in_order}

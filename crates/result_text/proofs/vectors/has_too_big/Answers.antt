@@ -1,6 +1,6 @@
 use Rattle.std.proofs.Common.{sym, ◌∙◌}
 use Rattle.result_text.specs.Stating.{too_big}
-use Rattle.result_text.proofs.Saying.{any_said}
+use Rattle.spelled_lines.proofs.Saying.{any_said}
 use Rattle.result_text.proofs.vectors.has_too_big.Goals as goal
 
 pub returns : goal.returns

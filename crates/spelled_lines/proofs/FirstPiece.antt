@@ -1,5 +1,5 @@
 -- The first line of a text, with its LF.
-use Rattle.std.proofs.Common.{◌≡◌, ℕ, zero, suc, ◌+◌, ◌<◌, ◌≤◌, true, false, List, [], ◌∷◌, length, take, drop, refl, ap, ◌∙◌, arith, inl, inr}
+use Rattle.std.proofs.Common.{◌≡◌, ℕ, zero, suc, ◌+◌, ◌<◌, ◌≤◌, true, false, List, [], ◌∷◌, ◌++◌, length, take, drop, refl, sym, ap, ◌∙◌, arith, inl, inr}
 use Rattle.std.specs.List.{position_or_len, onto_first, list_any}
 use Rattle.std.specs.Str.{IsAscii, IsUtf8}
 use Rattle.std.proofs.lemmas.Bool.{cases_Bool}
@@ -8,7 +8,7 @@ use Rattle.std.proofs.lemmas.Str.{IsUtf8-from_ascii}
 use Rattle.line_words.specs.Front.{is_lf}
 use Rattle.line_words.proofs.Whys.{neither}
 use Rattle.line_words.proofs.Ascii.{IsAscii-part}
-use Rattle.result_text.specs.Lines.{pieces, is_bad}
+use Rattle.spelled_lines.specs.Lines.{pieces, is_bad}
 
 pub pieces-nil : pieces [] ≡ []
 unfolding pieces
@@ -54,6 +54,38 @@ pieces-last (b ∷ c ∷ bs) h ge =
           let n : before_lf (b ∷ c ∷ bs) ≡ suc (before_lf (c ∷ bs)) = rw f (omega arith) in
           pieces-byte b (c ∷ bs) f ∙ ap (onto_first b) (pieces-last (c ∷ bs) (omega arith) (omega (arith, n, ge)))
     ]
+
+-- a text that ends with LF, and more
+pub pieces-append : (xs ys : List ℕ) → pieces (xs ++ 10 ∷ ys) ≡ pieces (xs ++ 10 ∷ []) ++ pieces ys
+pieces-append [] ys =
+    let alone : pieces (10 ∷ []) ≡ (10 ∷ []) ∷ [] = pieces-end 10 [] refl ∙ rw pieces-nil refl in
+    pieces-end 10 ys refl ∙ ap (λ (ps : List (List ℕ)). ps ++ pieces ys) (sym alone)
+pieces-append (b ∷ xs) ys =
+    elim (cases_Bool (is_lf b)) [
+      | inl t ↦
+          pieces-end b (xs ++ 10 ∷ ys) t ∙ ap (λ (ps : List (List ℕ)). (b ∷ []) ∷ ps) (pieces-append xs ys)
+          ∙ ap (λ (ps : List (List ℕ)). ps ++ pieces ys) (sym (pieces-end b (xs ++ 10 ∷ []) t))
+      | inr f ↦
+          pieces-byte b (xs ++ 10 ∷ ys) f ∙ ap (onto_first b) (pieces-append xs ys)
+          ∙ onto-append b (pieces (xs ++ 10 ∷ [])) (pieces ys) (some_piece xs)
+          ∙ ap (λ (ps : List (List ℕ)). ps ++ pieces ys) (sym (pieces-byte b (xs ++ 10 ∷ []) f))
+    ]
+  where
+    onto-append : (b : ℕ) (ps qs : List (List ℕ)) → 0 < length ps → onto_first b (ps ++ qs) ≡ onto_first b ps ++ qs
+    onto-append b [] qs lt = absurd (omega (arith, lt))
+    onto-append b (p ∷ ps) qs lt = refl
+
+    long : (b : ℕ) (ps : List (List ℕ)) → 0 < length (onto_first b ps)
+    long b [] = omega arith
+    long b (p ∷ ps) = omega arith
+
+    some_piece : (xs : List ℕ) → 0 < length (pieces (xs ++ 10 ∷ []))
+    some_piece [] = rw (pieces-end 10 [] refl) (omega arith)
+    some_piece (b ∷ xs) =
+        elim (cases_Bool (is_lf b)) [
+          | inl t ↦ rw (pieces-end b (xs ++ 10 ∷ []) t) (omega arith)
+          | inr f ↦ rw (pieces-byte b (xs ++ 10 ∷ []) f) (long b (pieces (xs ++ 10 ∷ [])))
+        ]
 
 -- ---- the bytes of a line without fault are ASCII text
 

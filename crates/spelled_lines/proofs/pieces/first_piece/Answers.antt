@@ -1,7 +1,7 @@
 use Rattle.std.proofs.Common.{◌∙◌, arith}
 use Rattle.std.proofs.lemmas.List.{take_all, drop_all}
-use Rattle.result_text.proofs.FirstPiece.{pieces-first, pieces-last}
-use Rattle.result_text.proofs.pieces.first_piece.Goals as goal
+use Rattle.spelled_lines.proofs.FirstPiece.{pieces-first, pieces-last}
+use Rattle.spelled_lines.proofs.pieces.first_piece.Goals as goal
 
 pub returns-then-len-bytes-clause-pieces : goal.returns-then-len-bytes-clause-pieces
 returns-then-len-bytes-clause-pieces c =

@@ -1,10 +1,10 @@
-//! The lines of a result text, each with its LF, and their words.
+//! The lines of a text, each with its LF, and their words.
 
-ghost use Rattle.std.specs.Prelude.{◌≡◌, ◌<◌, ◌≤◌, ◌∷◌, false, length, IfOk};
+ghost use Rattle.std.specs.Prelude.{◌≡◌, ◌<◌, ◌≤◌, ◌∷◌, false, length, map, IfOk};
 ghost use Rattle.std.specs.List.{position_or_len, list_any, slice_split};
 ghost use Rattle.line_words.specs.Front.{is_lf};
 ghost use Rattle.line_words.proofs.Collected.{said};
-ghost use Rattle.result_text.specs.Lines.{pieces, is_bad, is_space, lacks_lf, words_of};
+ghost use Rattle.spelled_lines.specs.Lines.{pieces, is_bad, is_space, is_empty, lacks_lf, body_of, words_of};
 
 use std::alloc::{AllocError, Global};
 
@@ -20,8 +20,8 @@ fn is_bad(byte: u8) -> bool
     !(byte == b'\n' || (32 <= byte && byte <= 126))
 }
 
-/// Whether a byte may not stand in a result text.
-pub(crate) fn has_bad_byte(piece: &[u8]) -> bool
+/// Whether a line has a byte that may not stand there.
+pub fn has_bad_byte(piece: &[u8]) -> bool
     ensures { result ≡ list_any is_bad piece.now }
 {
     piece.iter().any(|byte| is_bad(*byte))
@@ -34,7 +34,7 @@ fn has_lf(piece: &[u8]) -> bool
 }
 
 /// Whether a line has no LF.
-pub(crate) fn lacks_lf(piece: &[u8]) -> bool
+pub fn lacks_lf(piece: &[u8]) -> bool
     ensures { result ≡ lacks_lf piece.now }
 {
     !has_lf(piece)
@@ -49,7 +49,7 @@ fn len_before_lf(bytes: &[u8]) -> usize
 }
 
 /// The first line of a text, with its LF, and what follows it.
-pub(crate) fn first_piece(bytes: &[u8]) -> (&[u8], &[u8])
+pub fn first_piece(bytes: &[u8]) -> (&[u8], &[u8])
     requires { 0 < length bytes.now }
     ensures pieces { pieces bytes.now ≡ result.0.now ∷ pieces result.1.now }
     ensures shorter { length result.1.now < length bytes.now }
@@ -62,6 +62,13 @@ pub(crate) fn first_piece(bytes: &[u8]) -> (&[u8], &[u8])
     }
 }
 
+/// A line without its LF.
+pub fn body_of(piece: &[u8]) -> &[u8]
+    ensures { result.now ≡ body_of piece.now }
+{
+    &piece[..len_before_lf(piece)]
+}
+
 /// What stands between the spaces of a text.
 fn split_words(alloc: Global, text: &str) -> Result<Vec<&str>, AllocError>
     ensures { IfOk result (λ v. said v.items ≡ slice_split is_space text.now) }
@@ -70,13 +77,25 @@ fn split_words(alloc: Global, text: &str) -> Result<Vec<&str>, AllocError>
 }
 
 /// The words of a line.
-pub(crate) fn words_of(alloc: Global, piece: &[u8]) -> Result<Vec<&str>, AllocError>
+pub fn words_of(alloc: Global, piece: &[u8]) -> Result<Vec<&str>, AllocError>
     requires { list_any is_bad piece.now ≡ false }
     ensures { IfOk result (λ v. said v.items ≡ words_of piece.now) }
 {
-    let body = &piece[..len_before_lf(piece)];
-    let Ok(text) = std::str::from_utf8(body) else {
+    let Ok(text) = std::str::from_utf8(body_of(piece)) else {
         unreachable!();
     };
     split_words(alloc, text)
+}
+
+fn any_empty(words: &[&str]) -> bool
+    ensures { result ≡ list_any (λ w. is_empty w.now) words.now }
+{
+    words.iter().any(|word| word.is_empty())
+}
+
+/// Whether a word of a line is empty: a space stands at an end, or beside another one.
+pub fn has_empty(words: &[&str]) -> bool
+    ensures { result ≡ list_any is_empty (map (λ w. w.now) words.now) }
+{
+    any_empty(words)
 }

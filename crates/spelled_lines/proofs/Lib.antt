@@ -1,0 +1,6 @@
+pub mod FirstPiece
+pub mod Saying
+pub mod Spelled
+pub mod Ended
+pub mod Joining
+pub mod Over
