@@ -2,10 +2,8 @@
 use Rattle.std.proofs.Common.{◌≡◌, ℕ, zero, suc, ◌+◌, ◌-◌, ◌<◌, ◌≤◌, Bool, true, false, ltb, List, [], ◌∷◌, ◌++◌, length, get_or, map, Option, Some, None, Ok, refl, sym, ap, subst, ◌∙◌, arith, inl, inr}
 use Rattle.std.specs.Prelude.{codes, decimal, slice_set, ◌||◌, is_some, is_none, if◌then◌else◌}
 use Rattle.std.specs.List.{list_any}
-use Rattle.std.specs.Str.{bytes_eq}
 use Rattle.std.proofs.lemmas.Bool.{cases_Bool, ltb-false}
 use Rattle.std.proofs.lemmas.List.{append-nil, length-map, get_or-set_same, get_or-set_other, length-set}
-use Rattle.std.proofs.lemmas.Slice.Eq.{bytes_eq-Decides}
 use Rattle.line_words.specs.Rules.{Words, Test, Statement, first_broken}
 use Rattle.line_words.specs.Run.{run}
 use Rattle.line_words.specs.declared.refusals.Why.TheVariants.{BadByte, BadStatement, NotInOrder, Unclosed}
@@ -24,7 +22,7 @@ use Rattle.spelled_lines.proofs.Over.{IsKept, whole}
 use Rattle.result_text.proofs.Going.{tests_of, after, line_at, with_lines-push, length-nothing}
 use Rattle.result_text.proofs.Parsing.{AreSmall}
 use Rattle.result_text.proofs.Reread.{all_false}
-use Rattle.result_text.proofs.Rewriting.{none_of, none_last, none_first, item_back, vector_back}
+use Rattle.result_text.proofs.Rewriting.{same, cons_same, none_of, none_last, none_first, item_back, vector_back}
 
 -- ---- the text of a design, once a variable more is true
 
@@ -94,18 +92,12 @@ pub record IsSpelt (s : SpecValue) (stated : Stated) (text : List ℕ) : Type 0 
   pub is : text ≡ items_text s (bits_of stated.design) stated.least ++ vector_text stated.vector
   pub vector : IsVectorIn s stated.vector
 
-start : (s : SpecValue) → IsSpelt s (nothing s) []
+pub start : (s : SpecValue) → IsSpelt s (nothing s) []
 start s = record { len = length-nothing s; low = omega arith; later = λ k ge. all_false (design_variables s) k; is = refl; vector = tt }
 
 is_none_of : (vector : Option (List ℕ)) → is_some vector ≡ false → vector ≡ None
 is_none_of None e = refl
 is_none_of (Some v) e = absurd (let c : true ≡ false = e in cc)
-
-same : (xs ys : List ℕ) → bytes_eq xs ys ≡ true → xs ≡ ys
-same xs ys e = (bytes_eq-Decides xs ys).0 e
-
-cons_same : (x y : List ℕ) (xs ys : Words) → x ≡ y → xs ≡ ys → x ∷ xs ≡ y ∷ ys
-cons_same x y xs ys a b = cc
 
 -- the words of a vector's line
 vector_line : (s : SpecValue) (ws : Words) → is_vector ws ≡ true → first_broken (vector_tests s (later_words ws)) ≡ None → (ws ≡ vector_words (vector_numbers ws)) × IsVectorIn s (Some (vector_numbers ws))
@@ -115,7 +107,7 @@ vector_line s (k ∷ ws) t e =
     (cons_same k (codes "vector") ws (map decimal (map number_in ws)) (same k (codes "vector") t) b.numerals.words, (length-map ws number_in ∙ b.one_each, b.numerals.small))
 
 -- a line more
-spelt_more : (s : SpecValue) → IsWellFormed s → (stated : Stated) (text piece : List ℕ) → IsSpelt s stated text → first_broken (tests_of s stated piece) ≡ None → piece ≡ spelled (words_of piece)
+pub spelt_more : (s : SpecValue) → IsWellFormed s → (stated : Stated) (text piece : List ℕ) → IsSpelt s stated text → first_broken (tests_of s stated piece) ≡ None → piece ≡ spelled (words_of piece)
     → IsSpelt s (with_line s stated (words_of piece)) (text ++ piece)
 spelt_more s w stated text piece h fine spell =
     let ws = words_of piece in

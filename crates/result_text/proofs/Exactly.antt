@@ -13,11 +13,11 @@ use Rattle.spec_model.specs.Spec.{SpecValue, bits_of, design_variables}
 use Rattle.spec_model.specs.WellFormed.{IsWellFormed}
 use Rattle.spelled_lines.specs.Lines.{spelled, pieces}
 use Rattle.result_text.specs.Spelling.{items_text, vector_words, implementation_text}
-use Rattle.result_text.specs.Statements.{result_rules}
-use Rattle.result_text.specs.Answers.{EntryValue, as_seen, entry_of, numbers_or_none}
+use Rattle.result_text.specs.Statements.{Stated, result_rules}
+use Rattle.result_text.specs.Answers.{EntryValue, as_seen, entry_in, entry_of, numbers_or_none}
 use Rattle.result_text.specs.Printed.{IsTextOf, GivesBack, HasNames}
 use Rattle.result_text.specs.declared.entries.Entry.{Entry}
-use Rattle.result_text.proofs.Accepting.{vector_text, IsVectorIn, IsWholeText, none_from, whole_text}
+use Rattle.result_text.proofs.Accepting.{vector_text, IsVectorIn, IsSpelt, IsWholeText, none_from, whole_text}
 use Rattle.result_text.proofs.Going.{after, in_order}
 use Rattle.result_text.proofs.Reread.{reread}
 
@@ -28,19 +28,21 @@ has_vector : (s : SpecValue) (bytes design_text : List ℕ) (vector : Option (Li
 has_vector s bytes design_text None closed h is = absurd (let c : true ≡ false = closed in cc)
 has_vector s bytes design_text (Some numbers) closed h is = (h.0, All-from_recursion (λ n. n < 2 ^ 63) numbers h.1, is)
 
-text_of_whole : (s : SpecValue) (all : List Statement) (bytes : List ℕ) → IsWholeText s all bytes → IsTextOf s bytes (entry_of s all)
-text_of_whole s all bytes h =
-    let stated = after s all in
-    let spelt = h.spelt in
+-- what spells a design with a vector is their text
+pub text_of_spelt : (s : SpecValue) (stated : Stated) (bytes : List ℕ) → IsSpelt s stated bytes → is_none stated.vector ≡ false → IsTextOf s bytes (entry_in stated)
+text_of_spelt s stated bytes spelt closed =
     let f = bits_of stated.design in
     let items : items_text s f stated.least ≡ items_text s f (design_variables s) = sym (none_from s f stated.least (design_variables s) spelt.low (λ k ge lt. spelt.later k ge)) in
-    let v = has_vector s bytes (items_text s f stated.least) stated.vector h.closed spelt.vector spelt.is in
+    let v = has_vector s bytes (items_text s f stated.least) stated.vector closed spelt.vector spelt.is in
     record {
       bits = spelt.len;
       one_each = v.0;
       small = v.1;
       text = v.2 ∙ ap (λ (t : List ℕ). t ++ spelled (vector_words (numbers_or_none stated.vector))) items;
     }
+
+text_of_whole : (s : SpecValue) (all : List Statement) (bytes : List ℕ) → IsWholeText s all bytes → IsTextOf s bytes (entry_of s all)
+text_of_whole s all bytes h = text_of_spelt s (after s all) bytes h.spelt h.closed
 
 accepted_by : (s : SpecValue) → IsWellFormed s → (bytes : List ℕ) (r : Reading) → run (result_rules s) 1 [] (pieces bytes) ≡ r → Outcome (result_rules s) (pieces bytes) r → HasNoFault (result_rules s) (pieces bytes)
     → IsTextOf s bytes (entry_of s (statements (result_rules s) (pieces bytes)))

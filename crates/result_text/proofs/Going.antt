@@ -78,7 +78,7 @@ ranked_item s (k ∷ a ∷ b ∷ c ∷ d ∷ []) late =
     ]
 ranked_item s (k ∷ a ∷ b ∷ c ∷ d ∷ e ∷ more) late = (omega arith, (omega arith, tt))
 
-ranked_words : (s : SpecValue) (stated : Stated) (ws : Words) → IsRanked (rank BadStatement) (words_tests s stated ws)
+pub ranked_words : (s : SpecValue) (stated : Stated) (ws : Words) → IsRanked (rank BadStatement) (words_tests s stated ws)
 ranked_words s stated ws =
     elim (cases_Bool (is_vector ws)) [
       | inl t ↦ rw t (omega arith, (omega arith, (omega arith, (omega arith, tt))))

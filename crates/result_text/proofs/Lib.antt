@@ -7,3 +7,8 @@ pub mod Reread
 pub mod Rewriting
 pub mod Accepting
 pub mod Exactly
+pub mod FrontGoing
+pub mod FrontPrinting
+pub mod FrontAccepting
+pub mod FrontReread
+pub mod FrontExactly

@@ -58,7 +58,7 @@ no_option = choice 0 0 0
 abbrev no_arc : Arc
 no_arc = record { link = 0; tail = 0; head = 0 }
 
-eqb_self : (n : ℕ) → (n == n) ≡ true
+pub eqb_self : (n : ℕ) → (n == n) ≡ true
 eqb_self n = grind (arith, nat_tests)
 
 bind_fine : (s : SpecValue) (t r n : List ℕ) (task resource o : ℕ) → plain_whole_of n ≡ Ok o → number_of s.tasks t ≡ task → number_of s.resources r ≡ resource → task < length s.tasks → resource < length s.resources

@@ -40,17 +40,17 @@ pub none_first : (xs ys : List Test) → first_broken (xs ++ ys) ≡ None → fi
 none_first [] ys e = refl
 none_first (x ∷ xs) ys e = let p = none_of x (xs ++ ys) e in rw p.0 (none_first xs ys p.1)
 
-unnot : (b : Bool) → not b ≡ false → b ≡ true
+pub unnot : (b : Bool) → not b ≡ false → b ≡ true
 unnot true e = refl
 unnot false e = absurd cc
 
-same : (xs ys : List ℕ) → bytes_eq xs ys ≡ true → xs ≡ ys
+pub same : (xs ys : List ℕ) → bytes_eq xs ys ≡ true → xs ≡ ys
 same xs ys e = (bytes_eq-Decides xs ys).0 e
 
-cons_same : (x y : List ℕ) (xs ys : Words) → x ≡ y → xs ≡ ys → x ∷ xs ≡ y ∷ ys
+pub cons_same : (x y : List ℕ) (xs ys : Words) → x ≡ y → xs ≡ ys → x ∷ xs ≡ y ∷ ys
 cons_same x y xs ys a b = cc
 
-misshapen_not : first_broken misshapen ≡ None → ⊥
+pub misshapen_not : first_broken misshapen ≡ None → ⊥
 misshapen_not e = let c : some whys.BadStatement ≡ none = e in cc
 
 abbrev ok : ℕ → Result ℕ NumberFault
@@ -188,7 +188,7 @@ pub record AreNumerals (ws : Words) : Type 0 where
   pub words : ws ≡ map decimal (map number_in ws)
   pub small : AreSmall (map number_in ws)
 
-numerals : (ws : Words) → list_any no_number ws ≡ false → list_any too_big ws ≡ false → AreNumerals ws
+pub numerals : (ws : Words) → list_any no_number ws ≡ false → list_any too_big ws ≡ false → AreNumerals ws
 numerals [] a b = record { words = refl; small = tt }
 numerals (w ∷ ws) a b =
     let p = neither (no_number w) (list_any no_number ws) a in

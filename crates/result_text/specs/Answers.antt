@@ -25,9 +25,13 @@ abbrev pub numbers_or_none : Option (List ℕ) → List ℕ
 numbers_or_none None = []
 numbers_or_none (Some numbers) = numbers
 
+-- the entry that a design and its vector make
+abbrev pub entry_in : Stated → EntryValue
+entry_in stated = record { design = stated.design; vector = numbers_or_none stated.vector }
+
 -- the entry that all lines of a text state
 abbrev pub entry_of : SpecValue → List Statement → EntryValue
-entry_of s lines = record { design = (with_lines s (nothing s) lines).design; vector = numbers_or_none (with_lines s (nothing s) lines).vector }
+entry_of s lines = entry_in (with_lines s (nothing s) lines)
 
 -- what a reader has seen, as it is seen
 abbrev pub state_of : Seen → Stated

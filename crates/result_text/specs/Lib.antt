@@ -6,3 +6,5 @@ pub mod Statements
 pub mod Answers
 pub mod Printed
 pub mod Fronts
+pub mod FrontLines
+pub mod FrontAnswers

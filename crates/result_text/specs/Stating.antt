@@ -109,10 +109,14 @@ number_in word = value_of (plain_whole_of word)
 abbrev pub vector_tests : SpecValue → Words → List Test
 vector_tests s ws = (BadStatement, not (length ws == length s.objectives)) ∷ (BadNumber, list_any no_number ws) ∷ (TooBig, list_any too_big ws) ∷ []
 
+-- the first word is this one
+abbrev pub starts_with : List ℕ → Words → Bool
+starts_with keyword [] = false
+starts_with keyword (w ∷ ws) = bytes_eq w keyword
+
 -- the line of a vector, which ends the text
 abbrev pub is_vector : Words → Bool
-is_vector [] = false
-is_vector (k ∷ ws) = bytes_eq k (codes "vector")
+is_vector ws = starts_with (codes "vector") ws
 
 -- the words after the first
 abbrev pub later_words : Words → Words

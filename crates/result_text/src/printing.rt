@@ -11,7 +11,7 @@ use spec_graph::{ArcNo, LinkNo, MsgNo, OptNo, ResNo, Spec};
 use std::alloc::{AllocError, Global};
 
 /// Appends a space and a word.
-fn put_word(text: &mut Vec<u8>, word: &str) -> Result<(), AllocError>
+pub(crate) fn put_word(text: &mut Vec<u8>, word: &str) -> Result<(), AllocError>
     ensures { OnOk result (text.new.items ≡ text.old.items ++ 32 ∷ word.now) }
 {
     text.push(b' ')?;
@@ -19,7 +19,7 @@ fn put_word(text: &mut Vec<u8>, word: &str) -> Result<(), AllocError>
 }
 
 /// Appends a space and a number.
-fn put_number(alloc: Global, text: &mut Vec<u8>, number: u64) -> Result<(), AllocError>
+pub(crate) fn put_number(alloc: Global, text: &mut Vec<u8>, number: u64) -> Result<(), AllocError>
     ensures { OnOk result (text.new.items ≡ text.old.items ++ 32 ∷ decimal number) }
 {
     text.push(b' ')?;
@@ -123,7 +123,7 @@ fn put_if_true(
 
 /// Appends the lines of the true design variables.
 #[tactic(auto, using(spec_model::proofs::Those::those_steps))]
-fn put_items(
+pub(crate) fn put_items(
     alloc: Global,
     spec: &Spec,
     design: &Design,
@@ -139,7 +139,11 @@ fn put_items(
 }
 
 /// Appends the line of a vector.
-fn put_vector(alloc: Global, vector: &[u64], text: &mut Vec<u8>) -> Result<(), AllocError>
+pub(crate) fn put_vector(
+    alloc: Global,
+    vector: &[u64],
+    text: &mut Vec<u8>,
+) -> Result<(), AllocError>
     ensures { OnOk result (text.new.items ≡ text.old.items ++ spelled (vector_words vector.now)) }
 {
     text.extend_from_slice(b"vector")?;

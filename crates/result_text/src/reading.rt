@@ -7,7 +7,7 @@ ghost use Rattle.line_words.specs.Reads.{Reads, Agrees, Stops};
 ghost use Rattle.spec_model.specs.Spec.{design_variables};
 ghost use Rattle.spelled_lines.specs.Lines.{pieces, words_of};
 ghost use Rattle.result_text.specs.Lines.{piece_tests};
-ghost use Rattle.result_text.specs.Stating.{is_vector};
+ghost use Rattle.result_text.specs.Stating.{starts_with, is_vector};
 ghost use Rattle.result_text.specs.Statements.{words_tests, with_line, nothing, result_rules};
 ghost use Rattle.result_text.specs.Answers.{EntryValue, IsEntryOf, state_of, as_seen, entry_of};
 ghost use Rattle.result_text.specs.Printed.{IsTextOf, GivesBack};
@@ -25,13 +25,13 @@ use std::alloc::{AllocError, Global};
 /// read.
 #[derive(Drop)]
 pub(crate) struct Seen {
-    design: Design,
-    least: u64,
-    vector: Option<Vector>,
+    pub(crate) design: Design,
+    pub(crate) least: u64,
+    pub(crate) vector: Option<Vector>,
 }
 
 impl Seen {
-    fn nothing(alloc: Global, spec: &Spec) -> Result<Seen, AllocError>
+    pub(crate) fn nothing(alloc: Global, spec: &Spec) -> Result<Seen, AllocError>
         ensures { IfOk result (λ seen. state_of seen ≡ nothing spec.now) }
     {
         Ok(Seen {
@@ -42,17 +42,29 @@ impl Seen {
     }
 }
 
-fn is_vector(words: &[&str]) -> bool
-    ensures { result ≡ is_vector (map (λ w. w.now) words.now) }
+/// Whether the first word is this one.
+pub(crate) fn starts_with(words: &[&str], keyword: &str) -> bool
+    ensures { result ≡ starts_with keyword.now (map (λ w. w.now) words.now) }
 {
     match words {
-        [keyword, ..] => *keyword == "vector",
+        [word, ..] => *word == keyword,
         [] => false,
     }
 }
 
+fn is_vector(words: &[&str]) -> bool
+    ensures { result ≡ is_vector (map (λ w. w.now) words.now) }
+{
+    starts_with(words, "vector")
+}
+
 /// Takes the words of a line, or says what they are refused for.
-fn take_words(alloc: Global, spec: &Spec, seen: &mut Seen, words: &[&str]) -> Result<(), Stop>
+pub(crate) fn take_words(
+    alloc: Global,
+    spec: &Spec,
+    seen: &mut Seen,
+    words: &[&str],
+) -> Result<(), Stop>
     requires { length seen.old.design ≡ design_variables spec.now }
     ensures { let ws = map (λ w. w.now) words.now in
         MatchResult result
