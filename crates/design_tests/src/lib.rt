@@ -8,6 +8,8 @@ mod blocks;
 #[cfg(test)]
 mod broken;
 #[cfg(test)]
+mod fronts;
+#[cfg(test)]
 mod models;
 #[cfg(test)]
 mod reading;
