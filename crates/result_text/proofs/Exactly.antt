@@ -1,14 +1,12 @@
 -- A text is read exactly where it is printed, and as what was printed.
-use Rattle.std.proofs.Common.{◌≡◌, ℕ, ◌<◌, ◌^◌, true, false, List, [], ◌++◌, length, Option, Some, None, Result, Ok, Err, refl, sym, ap, subst, ◌∙◌, All}
+use Rattle.std.proofs.Common.{◌≡◌, ℕ, ◌<◌, ◌^◌, true, false, List, ◌++◌, length, Option, Some, None, Result, Ok, Err, refl, sym, ap, subst, ◌∙◌, All}
 use Rattle.std.specs.Prelude.{IfOk, is_none}
 use Rattle.std.proofs.lemmas.List.Elements.{All-from_recursion, recursion_from_All}
 use Rattle.line_words.specs.Rules.{Statement, HasNoFault, statements}
-use Rattle.line_words.specs.Run.{Reading, run}
 use Rattle.line_words.specs.Reads.{Reads}
 use Rattle.line_words.specs.declared.refusals.FileTag.TheVariants.{Front}
 use Rattle.line_words.specs.declared.refusals.ReadFault.{ReadFault}
 use Rattle.line_words.specs.declared.refusals.ReadFault.TheVariants as faults
-use Rattle.line_words.proofs.Least.{Outcome, run_is}
 use Rattle.spec_model.specs.Spec.{SpecValue, bits_of, design_variables}
 use Rattle.spec_model.specs.WellFormed.{IsWellFormed}
 use Rattle.spelled_lines.specs.Lines.{spelled, pieces}
@@ -17,6 +15,7 @@ use Rattle.result_text.specs.Statements.{Stated, result_rules}
 use Rattle.result_text.specs.Answers.{EntryValue, as_seen, entry_in, entry_of, numbers_or_none}
 use Rattle.result_text.specs.Printed.{IsTextOf, GivesBack, HasNames}
 use Rattle.result_text.specs.declared.entries.Entry.{Entry}
+use Rattle.spelled_lines.proofs.Over.{accepted, is_read}
 use Rattle.result_text.proofs.Accepting.{vector_text, IsVectorIn, IsSpelt, IsWholeText, none_from, whole_text}
 use Rattle.result_text.proofs.Going.{after, in_order}
 use Rattle.result_text.proofs.Reread.{reread}
@@ -44,17 +43,13 @@ text_of_spelt s stated bytes spelt closed =
 text_of_whole : (s : SpecValue) (all : List Statement) (bytes : List ℕ) → IsWholeText s all bytes → IsTextOf s bytes (entry_of s all)
 text_of_whole s all bytes h = text_of_spelt s (after s all) bytes h.spelt h.closed
 
-accepted_by : (s : SpecValue) → IsWellFormed s → (bytes : List ℕ) (r : Reading) → run (result_rules s) 1 [] (pieces bytes) ≡ r → Outcome (result_rules s) (pieces bytes) r → HasNoFault (result_rules s) (pieces bytes)
-    → IsTextOf s bytes (entry_of s (statements (result_rules s) (pieces bytes)))
-accepted_by s w bytes (Ok all) e out fine = subst (λ (st : List Statement). IsTextOf s bytes (entry_of s st)) out.0 (text_of_whole s all bytes (whole_text s w bytes all e))
-accepted_by s w bytes (Err r) e out fine = absurd (fine r.line r.why out.holds)
-
 -- what breaks no rule is the text of what it states
-pub accepted : (s : SpecValue) → IsWellFormed s → (bytes : List ℕ) → HasNoFault (result_rules s) (pieces bytes) → IsTextOf s bytes (entry_of s (statements (result_rules s) (pieces bytes)))
-accepted s w bytes fine = accepted_by s w bytes (run (result_rules s) 1 [] (pieces bytes)) refl (run_is (result_rules s) (pieces bytes) (in_order s)) fine
+text_of_fine : (s : SpecValue) → IsWellFormed s → (bytes : List ℕ) → HasNoFault (result_rules s) (pieces bytes) → IsTextOf s bytes (entry_of s (statements (result_rules s) (pieces bytes)))
+text_of_fine s w bytes fine =
+    accepted (result_rules s) (pieces bytes) (λ st. IsTextOf s bytes (entry_of s st)) (in_order s) (λ all e. text_of_whole s all bytes (whole_text s w bytes all e)) fine
 
 pub printed : (s : SpecValue) → IsWellFormed s → (bytes : List ℕ) (found : Result Entry ReadFault) → Reads Front (result_rules s) as_seen (entry_of s) (pieces bytes) found → IfOk found (λ e. IsTextOf s bytes (as_seen e))
-printed s w bytes (Ok e) r = subst (IsTextOf s bytes) (sym r.1) (accepted s w bytes r.0)
+printed s w bytes (Ok e) r = subst (IsTextOf s bytes) (sym r.1) (text_of_fine s w bytes r.0)
 printed s w bytes (Err (faults.Refused fault)) r = tt
 printed s w bytes (Err faults.NoMemory) r = tt
 
@@ -69,7 +64,7 @@ pub text_read : (s : SpecValue) → IsWellFormed s → HasNames s → (bytes : L
 text_read s w h bytes e is =
     let text = implementation_text s (bits_of e.design) e.vector in
     let r = reread s w h e.design e.vector is.bits is.one_each (recursion_from_All (λ n. n < 2 ^ 63) e.vector is.small) in
-    let out = subst (Outcome (result_rules s) (pieces text)) r.reads (run_is (result_rules s) (pieces text) (in_order s)) in
+    let out = is_read (result_rules s) (pieces text) r.all (in_order s) r.reads in
     subst (λ (b : List ℕ). IsRead s b e) (sym is.text) (record { fine = out.1; value = ap (entry_of s) (sym out.0) ∙ r.value })
 
 pub back : (s : SpecValue) → IsWellFormed s → HasNames s → (bytes : List ℕ) (found : Result Entry ReadFault) → Reads Front (result_rules s) as_seen (entry_of s) (pieces bytes) found

@@ -12,9 +12,10 @@ use Rattle.line_words.specs.declared.refusals.Why.TheVariants.{BadByte, BadState
 use Rattle.line_words.specs.declared.refusals.FileTag.TheVariants as files
 use Rattle.line_words.specs.declared.refusals.ReadFault.{ReadFault}
 use Rattle.line_words.specs.declared.refusals.Stop.TheVariants.{Broken}
-use Rattle.line_words.proofs.Least.{run-nil, run-cons}
+use Rattle.line_words.proofs.Least.{run-nil}
 use Rattle.line_words.proofs.Answering.{stopped}
 use Rattle.spec_model.specs.Spec.{SpecValue, design_variables}
+use Rattle.spelled_lines.proofs.Over.{taken, refused}
 use Rattle.spelled_lines.specs.Lines.{words_of}
 use Rattle.result_text.specs.Stating.{misshapen, starts_with}
 use Rattle.result_text.specs.Statements.{Stated, with_line}
@@ -105,19 +106,14 @@ pub front_goes_on : (s : SpecValue) (number : ℕ) (done : List Statement) (stat
     → run (front_rules s) number done now ≡ total → now ≡ piece ∷ more → stated ≡ front_after s done → first_broken (front_line_tests s stated piece) ≡ None
     → run (front_rules s) (number + 1) (done ++ front_line_at number piece ∷ []) more ≡ total
 front_goes_on s number done stated piece more now total so_far lines is fine =
-    let here : first_broken (front_line_tests s (front_after s done) piece) ≡ None = ap (λ (x : FrontStated). first_broken (front_line_tests s x piece)) (sym is) ∙ fine in
-    let step : run (front_rules s) number done (piece ∷ more) ≡ run (front_rules s) (number + 1) (done ++ front_line_at number piece ∷ []) more =
-    run-cons (front_rules s) number done piece more ∙ ap (λ (b : Option Why). unless_broken number b (run (front_rules s) (number + 1) (done ++ front_line_at number piece ∷ []) more)) here in
-    sym step ∙ ap (run (front_rules s) number done) (sym lines) ∙ so_far
+    taken (front_rules s) number done piece more now total so_far lines (ap (λ (x : FrontStated). first_broken (front_line_tests s x piece)) (sym is) ∙ fine)
 
 -- a line that breaks a rule is the text's refusal
 pub front_stops_here : (s : SpecValue) (number : ℕ) (done : List Statement) (stated : FrontStated) (piece : List ℕ) (more now : List (List ℕ)) (total : Reading) (why : Why)
     → run (front_rules s) number done now ≡ total → now ≡ piece ∷ more → stated ≡ front_after s done → first_broken (front_line_tests s stated piece) ≡ Some why
     → total ≡ Err (record { line = number; why = why })
 front_stops_here s number done stated piece more now total why so_far lines is broken =
-    let here : first_broken (front_line_tests s (front_after s done) piece) ≡ Some why = ap (λ (x : FrontStated). first_broken (front_line_tests s x piece)) (sym is) ∙ broken in
-    sym so_far ∙ ap (run (front_rules s) number done) lines ∙ run-cons (front_rules s) number done piece more
-    ∙ ap (λ (b : Option Why). unless_broken number b (run (front_rules s) (number + 1) (done ++ front_line_at number piece ∷ []) more)) here
+    refused (front_rules s) number done piece more now total why so_far lines (ap (λ (x : FrontStated). first_broken (front_line_tests s x piece)) (sym is) ∙ broken)
 
 abbrev ok : List Statement → Reading
 ok all = Ok all

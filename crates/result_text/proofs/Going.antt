@@ -13,7 +13,8 @@ use Rattle.line_words.specs.declared.refusals.Why.{Why}
 use Rattle.line_words.specs.declared.refusals.Why.TheVariants.{BadStatement, NotInOrder, Unclosed}
 use Rattle.line_words.specs.declared.refusals.FileTag.TheVariants.{Front}
 use Rattle.line_words.specs.declared.refusals.ReadFault.{ReadFault}
-use Rattle.line_words.proofs.Least.{run-nil, run-cons, first_broken-append-some}
+use Rattle.line_words.proofs.Least.{run-nil, first_broken-append-some}
+use Rattle.spelled_lines.proofs.Over.{taken, refused}
 use Rattle.line_words.specs.declared.refusals.Stop.TheVariants.{Broken}
 use Rattle.line_words.proofs.Answering.{stopped}
 use Rattle.line_words.proofs.Whys.{some}
@@ -109,17 +110,14 @@ pub goes_on : (s : SpecValue) (number : ℕ) (done : List Statement) (stated : S
     → run (result_rules s) number done now ≡ total → now ≡ piece ∷ more → stated ≡ after s done → first_broken (tests_of s stated piece) ≡ None
     → run (result_rules s) (number + 1) (done ++ line_at number piece ∷ []) more ≡ total
 goes_on s number done stated piece more now total so_far lines is fine =
-    let here : first_broken (tests_of s (after s done) piece) ≡ None = ap (λ (x : Stated). first_broken (tests_of s x piece)) (sym is) ∙ fine in
-    let step : run (result_rules s) number done (piece ∷ more) ≡ run (result_rules s) (number + 1) (done ++ line_at number piece ∷ []) more = run-cons (result_rules s) number done piece more ∙ rw here refl in
-    sym step ∙ ap (run (result_rules s) number done) (sym lines) ∙ so_far
+    taken (result_rules s) number done piece more now total so_far lines (ap (λ (x : Stated). first_broken (tests_of s x piece)) (sym is) ∙ fine)
 
 -- a line that breaks a rule is the text's refusal
 pub stops_here : (s : SpecValue) (number : ℕ) (done : List Statement) (stated : Stated) (piece : List ℕ) (more now : List (List ℕ)) (total : Reading) (why : Why)
     → run (result_rules s) number done now ≡ total → now ≡ piece ∷ more → stated ≡ after s done → first_broken (tests_of s stated piece) ≡ Some why
     → total ≡ Err (record { line = number; why = why })
 stops_here s number done stated piece more now total why so_far lines is broken =
-    let here : first_broken (tests_of s (after s done) piece) ≡ Some why = ap (λ (x : Stated). first_broken (tests_of s x piece)) (sym is) ∙ broken in
-    sym so_far ∙ ap (run (result_rules s) number done) lines ∙ run-cons (result_rules s) number done piece more ∙ rw here refl
+    refused (result_rules s) number done piece more now total why so_far lines (ap (λ (x : Stated). first_broken (tests_of s x piece)) (sym is) ∙ broken)
 
 -- what is answered at the end of the text
 pub ends : (s : SpecValue) (number : ℕ) (done : List Statement) (stated : Stated) (total : Reading) (found : Result Entry ReadFault)

@@ -48,10 +48,14 @@ objectives_tests s piece =
 abbrev pub number_tests : ℕ → List ℕ → List Test
 number_tests next word = (BadNumber, no_number word) ∷ (TooBig, too_big word) ∷ (NotInOrder, not (number_in word == next)) ∷ []
 
--- `entry` and a number, or `complete` or `open` alone
+-- the last line is `complete` or `open`
+abbrev pub last_tests : List ℕ → List Test
+last_tests word = (BadStatement, not (bytes_eq word (codes "complete") || bytes_eq word (codes "open"))) ∷ []
+
+-- `entry` and a number, or the last line
 abbrev pub between_tests : ℕ → Words → List Test
 between_tests next [] = misshapen
-between_tests next (k ∷ []) = (BadStatement, not (bytes_eq k (codes "complete") || bytes_eq k (codes "open"))) ∷ []
+between_tests next (k ∷ []) = last_tests k
 between_tests next (k ∷ w ∷ []) = if bytes_eq k (codes "entry") then number_tests next w else misshapen
 between_tests next (k ∷ w ∷ x ∷ more) = misshapen
 
@@ -80,17 +84,21 @@ after_words s stated now =
     then record { place = Between; entries = stated.entries ++ entry_in now ∷ []; current = nothing s; complete = stated.complete }
     else record stated { current = now }
 
+-- the next line stands elsewhere
+abbrev pub at_place : Place → FrontStated → FrontStated
+at_place place stated = record stated { place = place }
+
 -- an entry begins, or the front ends
 abbrev pub after_between : FrontStated → Words → FrontStated
 after_between stated ws =
     if starts_with (codes "entry") ws
-    then record stated { place = Inside }
+    then at_place Inside stated
     else record stated { place = Closed; complete = starts_with (codes "complete") ws }
 
 -- by the place of the line
 abbrev pub next_in : SpecValue → FrontStated → Words → Place → FrontStated
-next_in s stated ws Header = record stated { place = Objectives }
-next_in s stated ws Objectives = record stated { place = Between }
+next_in s stated ws Header = at_place Objectives stated
+next_in s stated ws Objectives = at_place Between stated
 next_in s stated ws Between = after_between stated ws
 next_in s stated ws Inside = after_words s stated (with_line s stated.current ws)
 next_in s stated ws Closed = stated

@@ -8,9 +8,9 @@ ghost use Rattle.line_words.specs.declared.refusals.Why.TheVariants.{BadStatemen
 ghost use Rattle.spec_model.specs.Spec.{design_variables};
 ghost use Rattle.spelled_lines.specs.Lines.{is_bad, words_of};
 ghost use Rattle.result_text.specs.Answers.{state_of};
-ghost use Rattle.result_text.specs.FrontLines.{front_nothing, is_loose, header_tests, objectives_tests, number_tests, between_tests, byte_tests, tests_in, front_tests, next_number, after_words, after_between, next_in, front_with_line};
+ghost use Rattle.result_text.specs.FrontLines.{front_nothing, is_loose, header_tests, objectives_tests, number_tests, last_tests, between_tests, byte_tests, tests_in, front_tests, next_number, at_place, after_words, after_between, next_in, front_with_line};
 ghost use Rattle.result_text.specs.FrontAnswers.{front_state};
-ghost use Rattle.result_text.specs.declared.places.Place.TheVariants.{Header, Objectives, Between, Inside};
+ghost use Rattle.result_text.specs.declared.places.Place.TheVariants.{Objectives, Between, Inside};
 
 use crate::Entry;
 use crate::front_printing::objectives_line;
@@ -99,8 +99,8 @@ fn number_fault(word: &str, next: u64) -> Option<Why>
 }
 
 /// What a line of one word between entries is refused for.
-fn end_fault(word: &str) -> Option<Why>
-    ensures { result ≡ first_broken (between_tests 0 (word.now ∷ [])) }
+fn last_fault(word: &str) -> Option<Why>
+    ensures { result ≡ first_broken (last_tests word.now) }
 {
     if word == "complete" || word == "open" {
         None
@@ -125,7 +125,7 @@ fn between_fault(words: &[&str], next: u64) -> Option<Why>
     ensures { result ≡ first_broken (between_tests next (map (λ w. w.now) words.now)) }
 {
     match words {
-        [word] => end_fault(word),
+        [word] => last_fault(word),
         [keyword, number] => entry_fault(keyword, number, next),
         _ => Some(Why::BadStatement),
     }
@@ -201,13 +201,11 @@ fn take_inside(alloc: Global, spec: &Spec, seen: &mut FrontSeen, piece: &[u8]) -
 }
 
 /// Takes the first line, or says what it is refused for.
-fn take_header(spec: &Spec, seen: &mut FrontSeen, piece: &[u8]) -> Result<(), Stop>
-    ensures { let tests = tests_in spec.now (front_state seen.old) piece.now Header in
-        MatchResult result
-        (λ _. (first_broken tests ≡ None) × (front_state seen.new ≡ next_in spec.now (front_state seen.old) (words_of piece.now) Header))
-        (λ stop. Stops stop (first_broken tests)) }
+fn take_header(seen: &mut FrontSeen, piece: &[u8]) -> Result<(), Stop>
+    ensures { MatchResult result
+        (λ _. (first_broken (header_tests piece.now) ≡ None) × (front_state seen.new ≡ at_place Objectives (front_state seen.old)))
+        (λ stop. Stops stop (first_broken (header_tests piece.now))) }
 {
-    let _ = spec;
     if let Some(why) = header_fault(piece) {
         return Err(Stop::Broken(why));
     }
@@ -223,9 +221,9 @@ fn take_objectives(
     piece: &[u8],
 ) -> Result<(), Stop>
     requires { list_any is_bad piece.now ≡ false }
-    ensures { let tests = tests_in spec.now (front_state seen.old) piece.now Objectives in
+    ensures { let tests = objectives_tests spec.now piece.now in
         MatchResult result
-        (λ _. (first_broken tests ≡ None) × (front_state seen.new ≡ next_in spec.now (front_state seen.old) (words_of piece.now) Objectives))
+        (λ _. (first_broken tests ≡ None) × (front_state seen.new ≡ at_place Between (front_state seen.old)))
         (λ stop. Stops stop (first_broken tests)) }
 {
     check_objectives(alloc, spec, piece)?;
@@ -243,7 +241,7 @@ fn take_in_place(alloc: Global, spec: &Spec, seen: &mut FrontSeen, piece: &[u8])
         (λ stop. Stops stop (first_broken tests)) }
 {
     match seen.place {
-        Place::Header => take_header(spec, seen, piece),
+        Place::Header => take_header(seen, piece),
         Place::Objectives => take_objectives(alloc, spec, seen, piece),
         Place::Between => take_between(alloc, seen, piece),
         Place::Inside => take_inside(alloc, spec, seen, piece),

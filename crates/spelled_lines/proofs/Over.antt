@@ -1,13 +1,13 @@
 -- What holds of a text that breaks no rule, from what each line adds to it.
-use Rattle.std.proofs.Common.{◌≡◌, ℕ, zero, suc, ◌+◌, ◌≤◌, true, List, [], ◌∷◌, ◌++◌, length, take, drop, Option, Some, None, Ok, refl, sym, ap, subst, ◌∙◌, append_assoc, arith, inl, inr}
+use Rattle.std.proofs.Common.{◌≡◌, ℕ, zero, suc, ◌+◌, ◌≤◌, true, List, [], ◌∷◌, ◌++◌, length, take, drop, Option, Some, None, Ok, Err, refl, sym, ap, subst, ◌∙◌, append_assoc, arith, inl, inr}
 use Rattle.std.specs.List.{position_or_len}
 use Rattle.std.proofs.lemmas.Bool.{cases_lt}
 use Rattle.std.proofs.lemmas.List.{append-nil, take-append-drop, length-drop}
 use Rattle.line_words.specs.Front.{is_lf}
-use Rattle.line_words.specs.Rules.{Rules, Statement, first_broken, tests_after, at_number}
+use Rattle.line_words.specs.Rules.{Rules, Statement, AreInOrder, HasNoFault, first_broken, tests_after, at_number, statements}
 use Rattle.line_words.specs.Run.{Reading, run, unless_broken}
 use Rattle.line_words.specs.declared.refusals.Why.{Why}
-use Rattle.line_words.proofs.Least.{run-nil, run-cons}
+use Rattle.line_words.proofs.Least.{Outcome, run-nil, run-cons, run_is}
 use Rattle.spelled_lines.specs.Lines.{pieces, body_of, lacks_lf}
 use Rattle.spelled_lines.proofs.FirstPiece.{pieces-nil, pieces-first, pieces-last}
 use Rattle.spelled_lines.proofs.Ended.{piece_ended, no_lf}
@@ -22,6 +22,24 @@ unless_ok : (number : ℕ) (b : Option Why) (more : Reading) (all : List Stateme
 unless_ok number None more all e = (refl, e)
 unless_ok number (Some why) more all e = absurd cc
 
+-- ---- a reader's ways on
+
+-- a line that breaks no rule is taken
+pub taken : (rules : Rules) (number : ℕ) (done : List Statement) (piece : List ℕ) (more now : List (List ℕ)) (total : Reading) → run rules number done now ≡ total → now ≡ piece ∷ more
+    → first_broken (tests_after rules done piece) ≡ None → run rules (number + 1) (done ++ at_number number (rules.stated piece)) more ≡ total
+taken rules number done piece more now total so_far lines fine =
+    let rest = run rules (number + 1) (done ++ at_number number (rules.stated piece)) more in
+    sym (run-cons rules number done piece more ∙ ap (λ (b : Option Why). unless_broken number b rest) fine) ∙ ap (run rules number done) (sym lines) ∙ so_far
+
+-- a line that breaks a rule is the text's refusal
+pub refused : (rules : Rules) (number : ℕ) (done : List Statement) (piece : List ℕ) (more now : List (List ℕ)) (total : Reading) (why : Why) → run rules number done now ≡ total → now ≡ piece ∷ more
+    → first_broken (tests_after rules done piece) ≡ Some why → total ≡ Err (record { line = number; why = why })
+refused rules number done piece more now total why so_far lines broken =
+    let rest = run rules (number + 1) (done ++ at_number number (rules.stated piece)) more in
+    sym so_far ∙ ap (run rules number done) lines ∙ run-cons rules number done piece more ∙ ap (λ (b : Option Why). unless_broken number b rest) broken
+
+-- ---- what was read
+
 -- a line that is read breaks no rule, and the lines after it are read
 pub read_line : (rules : Rules) (number : ℕ) (done : List Statement) (piece : List ℕ) (more : List (List ℕ)) (all : List Statement) → run rules number done (piece ∷ more) ≡ Ok all
     → (first_broken (tests_after rules done piece) ≡ None) × (run rules (number + 1) (done ++ at_number number (rules.stated piece)) more ≡ Ok all)
@@ -33,6 +51,18 @@ pub read_end : (rules : Rules) (number : ℕ) (done all : List Statement) → ru
 read_end rules number done all e =
     let end = unless_ok number (first_broken (rules.end done)) (ok done) all (sym (run-nil rules number done) ∙ e) in
     (end.0, ok_is done all end.1)
+
+-- what reading gives has no fault, and is what the text states
+pub is_read : (rules : Rules) (lines : List (List ℕ)) (all : List Statement) → AreInOrder rules → run rules 1 [] lines ≡ Ok all → (all ≡ statements rules lines) × HasNoFault rules lines
+is_read rules lines all order e = subst (Outcome rules lines) e (run_is rules lines order)
+
+-- what holds wherever reading gives statements holds of what a text without fault states
+pub accepted : (rules : Rules) (lines : List (List ℕ)) (P : List Statement → Type 0) → AreInOrder rules → ((all : List Statement) → run rules 1 [] lines ≡ Ok all → P all) → HasNoFault rules lines → P (statements rules lines)
+accepted rules lines P order each fine = go (run rules 1 [] lines) refl (run_is rules lines order)
+  where
+    go : (r : Reading) → run rules 1 [] lines ≡ r → Outcome rules lines r → P (statements rules lines)
+    go (Ok all) e out = subst P out.0 (each all e)
+    go (Err r) e out = absurd (fine r.line r.why out.holds)
 
 -- what is kept over lines that break no rule: `Kept done text` where the lines of `text` state `done`
 pub record IsKept (rules : Rules) (Kept : List Statement → List ℕ → Type 0) : Type 0 where
