@@ -22,6 +22,7 @@ use Rattle.spec_model.specs.Limits.{most_tasks, most_messages}
 use Rattle.tgff_reader.specs.Words.{word_at, first, is_at, is_bad, is_big, read_or}
 use Rattle.tgff_reader.specs.Lines.{is_opening, block_name, block_index, is_graph_name, is_closing, keyword_of, is_task_shape, is_arc_shape}
 use Rattle.tgff_reader.specs.Reaching.{messages_of}
+use Rattle.tgff_reader.specs.Looking.{is_graph, is_table}
 use Rattle.tgff_reader.specs.Faults as faults
 use Rattle.tgff_reader.specs.After as states
 use Rattle.tgff_reader.specs.Facts.{TgffValue, IsWord, IsName, IsTask, IsArc, IsDeadline, IsGraph, IsRow, IsTable, IsTgff, task_name, arc_name, graph_index, table_key, task_count, arc_count}
@@ -122,28 +123,28 @@ graph_is_new i l = record {
   deadlines_in = All-nil (IsDeadline 0);
 }
 
-opens_graph : (gs : List Graph) (ts : List Table) (i : ℕ) → IsTgff (made gs ts) → i < 2 ^ 63 → list_any (faults.is_graph i) gs ≡ false → IsTgff (made (gs ++ states.new_graph i ∷ []) ts)
+opens_graph : (gs : List Graph) (ts : List Table) (i : ℕ) → IsTgff (made gs ts) → i < 2 ^ 63 → list_any (is_graph i) gs ≡ false → IsTgff (made (gs ++ states.new_graph i ∷ []) ts)
 opens_graph gs ts i f l none = record {
   graphs_in = All-push IsGraph gs (states.new_graph i) f.graphs_in (graph_is_new i l);
-  graphs_distinct = distinct_more graph_index (faults.is_graph i) gs (states.new_graph i) f.graphs_distinct (λ y e. eq-eqb y.index i e) none;
+  graphs_distinct = distinct_more graph_index (is_graph i) gs (states.new_graph i) f.graphs_distinct (λ y e. eq-eqb y.index i e) none;
   tables_in = f.tables_in;
   tables_distinct = f.tables_distinct;
   few_tasks = omega (arith, sum_by_push task_count gs (states.new_graph i), f.few_tasks);
   few_arcs = omega (arith, sum_by_push arc_count gs (states.new_graph i), f.few_arcs);
 }
 
-both_same : (name : List ℕ) (i : ℕ) (t : Table) → table_key t ≡ (name, i) → faults.is_table name i t ≡ true
+both_same : (name : List ℕ) (i : ℕ) (t : Table) → table_key t ≡ (name, i) → is_table name i t ≡ true
 both_same name i t e =
     let n : bytes_eq t.name name ≡ true = same_bytes t.name name (ap (λ (k : List ℕ × ℕ). k.0) e) in
     let x : (t.index == i) ≡ true = eq-eqb t.index i (ap (λ (k : List ℕ × ℕ). k.1) e) in
     and_from (bytes_eq t.name name) (t.index == i) n x
 
-opens_table : (gs : List Graph) (ts : List Table) (name : List ℕ) (i : ℕ) → IsTgff (made gs ts) → IsWord name → i < 2 ^ 63 → list_any (faults.is_table name i) ts ≡ false → IsTgff (made gs (ts ++ states.new_table name i ∷ []))
+opens_table : (gs : List Graph) (ts : List Table) (name : List ℕ) (i : ℕ) → IsTgff (made gs ts) → IsWord name → i < 2 ^ 63 → list_any (is_table name i) ts ≡ false → IsTgff (made gs (ts ++ states.new_table name i ∷ []))
 opens_table gs ts name i f w l none = record {
   graphs_in = f.graphs_in;
   graphs_distinct = f.graphs_distinct;
   tables_in = All-push IsTable ts (states.new_table name i) f.tables_in (record { named = w; index = l; rows = All-nil IsRow });
-  tables_distinct = distinct_more table_key (faults.is_table name i) ts (states.new_table name i) f.tables_distinct (λ y e. both_same name i y e) none;
+  tables_distinct = distinct_more table_key (is_table name i) ts (states.new_table name i) f.tables_distinct (λ y e. both_same name i y e) none;
   few_tasks = f.few_tasks;
   few_arcs = f.few_arcs;
 }
@@ -168,7 +169,7 @@ number_new b name (Err TooBig) bad big h = absurd (false≢true (sym big))
 opens : (b : Blocks) (name : List ℕ) (i : ℕ) → IsState (standing Outside b) → IsWord name → i < 2 ^ 63 → faults.has_block b name i ≡ false → IsState (standing (states.opened name i) b)
 opens b name i s w l new = elim (cases_Bool (is_graph_name name)) [
   | inl t ↦
-      let none : list_any (faults.is_graph i) b.graphs ≡ false = sym (chosen (is_graph_name name) (list_any (faults.is_graph i) b.graphs) (list_any (faults.is_table name i) b.tables) t) ∙ new in
+      let none : list_any (is_graph i) b.graphs ≡ false = sym (chosen (is_graph_name name) (list_any (is_graph i) b.graphs) (list_any (is_table name i) b.tables) t) ∙ new in
       let file : IsTgff (made b.graphs (b.tables ++ [])) = subst (λ (gs : List Graph). IsTgff (made gs (b.tables ++ []))) (append-nil b.graphs) s.file in
       let next : IsState (standing (InGraph (states.new_graph i)) b) = record {
         file = opens_graph b.graphs (b.tables ++ []) i file l none;
@@ -177,7 +178,7 @@ opens b name i s w l new = elim (cases_Bool (is_graph_name name)) [
       } in
       subst (λ (c : Open). IsState (standing c b)) (sym (chosen (is_graph_name name) (InGraph (states.new_graph i)) (InTable (states.new_table name i)) t)) next
   | inr t ↦
-      let none : list_any (faults.is_table name i) b.tables ≡ false = sym (other (is_graph_name name) (list_any (faults.is_graph i) b.graphs) (list_any (faults.is_table name i) b.tables) t) ∙ new in
+      let none : list_any (is_table name i) b.tables ≡ false = sym (other (is_graph_name name) (list_any (is_graph i) b.graphs) (list_any (is_table name i) b.tables) t) ∙ new in
       let file : IsTgff (made (b.graphs ++ []) b.tables) = subst (λ (ts : List Table). IsTgff (made (b.graphs ++ []) ts)) (append-nil b.tables) s.file in
       let next : IsState (standing (InTable (states.new_table name i)) b) = record {
         file = opens_table (b.graphs ++ []) b.tables name i file w l none;

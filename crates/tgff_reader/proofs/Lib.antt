@@ -4,4 +4,5 @@ pub mod Reached
 pub mod Numbered
 pub mod Kept
 pub mod Going
+pub mod Places
 pub mod Found

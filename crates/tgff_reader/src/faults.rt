@@ -8,7 +8,7 @@ ghost use Rattle.line_words.specs.Rules.{first_broken};
 ghost use Rattle.tgff_reader.specs.Words.{said};
 ghost use Rattle.tgff_reader.specs.Faults as tests;
 
-use crate::file::{Graph, Table, TgffArc, TgffTask};
+use crate::file::{Graph, TgffArc, TgffTask};
 use crate::shapes::{
     is_arc_shape, is_deadline_shape, is_graph_name, is_period_shape, is_task_shape,
 };
@@ -49,38 +49,14 @@ fn has_arc(arcs: &[TgffArc], name: &str) -> bool
     arcs.iter().any(|arc| arc.name.list() == name)
 }
 
-/// Whether a graph has an index.
-fn has_graph(graphs: &[Graph], index: u64) -> bool
-    ensures { result ≡ list_any (tests.is_graph index) graphs.now }
-{
-    graphs.iter().any(|graph| graph.index == index)
-}
-
-/// Whether a table has this name and this index.
-pub(crate) fn is_table(table: &Table, name: &str, index: u64) -> bool
-    ensures { result ≡ tests.is_table name.now index table.now }
-{
-    if table.name.list() != name {
-        return false;
-    }
-    table.index == index
-}
-
-/// Whether one of the tables has a name and an index.
-fn has_table(tables: &[Table], name: &str, index: u64) -> bool
-    ensures { result ≡ list_any (tests.is_table name.now index) tables.now }
-{
-    tables.iter().any(|table| is_table(table, name, index))
-}
-
 /// Whether a block of a name and an index is there.
 fn has_block(blocks: &Blocks, name: &str, index: u64) -> bool
     ensures { result ≡ tests.has_block blocks.now name.now index }
 {
     if is_graph_name(name) {
-        has_graph(blocks.graphs.list(), index)
+        blocks.graphs.has(index)
     } else {
-        has_table(blocks.tables.list(), name, index)
+        blocks.tables.has(name, index)
     }
 }
 

@@ -3,7 +3,9 @@
 ghost use Rattle.std.specs.Prelude.{◌≡◌, []};
 ghost use Rattle.tgff_reader.specs.Facts.{IsTgff};
 
+use crate::graphs::Graphs;
 use crate::lists::{Items, Text};
+use crate::tables::Tables;
 use std::alloc::Global;
 use std::marker::Model;
 
@@ -63,8 +65,8 @@ pub struct Table {
 /// at most 1,024 tasks and 2,048 arcs.
 #[derive(Debug, Drop)]
 pub struct Tgff {
-    pub graphs: Items<Graph>,
-    pub tables: Items<Table>,
+    pub graphs: Graphs,
+    pub tables: Tables,
 }
 
 impl Model for Tgff {
@@ -83,8 +85,8 @@ impl Tgff {
         ensures { result ≡ record { graphs = []; tables = [] } }
     {
         Tgff {
-            graphs: Items::of(Vec::new(alloc)),
-            tables: Items::of(Vec::new(alloc)),
+            graphs: Graphs::none(alloc),
+            tables: Tables::none(alloc),
         }
     }
 

@@ -10,6 +10,7 @@
 
 mod faults;
 mod file;
+mod graphs;
 mod keyword;
 pub mod laws;
 mod lists;
@@ -18,9 +19,12 @@ mod open_graph;
 mod reading;
 mod shapes;
 mod state;
+mod tables;
 mod taking;
 mod words;
 
 pub use file::{Graph, Row, Table, Tgff, TgffArc, TgffDeadline, TgffTask};
+pub use graphs::Graphs;
 pub use lists::{Items, Text};
 pub use reading::read_tgff;
+pub use tables::Tables;

@@ -14,8 +14,9 @@ ghost use Rattle.tgff_reader.specs.After.{start};
 ghost use Rattle.tgff_reader.specs.Tgff.{tgff_rules, stated, as_seen};
 
 use crate::file::Tgff;
-use crate::lists::Items;
+use crate::graphs::Graphs;
 use crate::state::{Blocks, Open, State};
+use crate::tables::Tables;
 use crate::taking::take;
 use line_words::{FileTag, Line, Lines, ReadFault, Stop, Why};
 use std::alloc::{AllocError, Global};
@@ -40,8 +41,8 @@ fn start(alloc: Global) -> State
     State {
         current: Open::Outside,
         blocks: Blocks {
-            graphs: Items::of(Vec::new(alloc)),
-            tables: Items::of(Vec::new(alloc)),
+            graphs: Graphs::none(alloc),
+            tables: Tables::none(alloc),
             tasks: 0,
             arcs: 0,
         },

@@ -221,7 +221,7 @@ fn take_in_table(
     ensures { states.Takes (record { current = blocks_in.InTable table; blocks = blocks }) (said words.now) result }
 {
     if is_closing(words) {
-        blocks.tables.push(table)?;
+        blocks.tables.push(alloc, table)?;
         return Ok(State {
             current: Open::Outside,
             blocks,
