@@ -1,4 +1,3 @@
-pub mod Deciding
 pub mod Marked
 pub mod Reached
 pub mod Numbered

@@ -5,7 +5,7 @@
 ghost use Rattle.std.specs.Prelude.{◌≡◌, ◌<◌, ◌≤◌, length, Result};
 ghost use Rattle.std.specs.List.{list_any};
 ghost use Rattle.line_words.specs.Rules.{first_broken};
-ghost use Rattle.tgff_reader.specs.Words.{said};
+ghost use Rattle.file_bricks.specs.Words.{said};
 ghost use Rattle.tgff_reader.specs.Faults as tests;
 
 use crate::file::{Graph, TgffArc, TgffTask};
@@ -13,7 +13,7 @@ use crate::shapes::{
     is_arc_shape, is_deadline_shape, is_graph_name, is_period_shape, is_task_shape,
 };
 use crate::state::Blocks;
-use crate::words::{is_bad_decimal, is_bad_whole, is_big_decimal, is_big_whole, word_at};
+use file_bricks::{is_bad_decimal, is_bad_whole, is_big_decimal, is_big_whole, word_at};
 use line_words::{MOST_NAME_BYTES, NumberFault, What, Why};
 use spec_model::{MOST_MESSAGES, MOST_TASKS};
 
@@ -33,6 +33,13 @@ fn is_unknown(tasks: &[TgffTask], name: &str) -> bool
     ensures { result ≡ tests.is_unknown tasks.now name.now }
 {
     place_of(tasks, name) >= tasks.len()
+}
+
+/// Whether no task has the name of an arc's first task, or of its second one.
+fn has_unknown_end(tasks: &[TgffTask], words: &[&str]) -> bool
+    ensures { result ≡ tests.has_unknown_end tasks.now (said words.now) }
+{
+    is_unknown(tasks, word_at(words, 3)) || is_unknown(tasks, word_at(words, 5))
 }
 
 /// Whether a task has a name.
@@ -153,10 +160,7 @@ pub(crate) fn arc_words_fault(graph: &Graph, words: &[&str]) -> Option<Why>
     if is_bad_whole(kind) {
         return Some(Why::BadNumber);
     }
-    if is_unknown(graph.tasks.list(), word_at(words, 3)) {
-        return Some(Why::UnknownName);
-    }
-    if is_unknown(graph.tasks.list(), word_at(words, 5)) {
+    if has_unknown_end(graph.tasks.list(), words) {
         return Some(Why::UnknownName);
     }
     if has_arc(graph.arcs.list(), word_at(words, 1)) {

@@ -4,8 +4,8 @@ ghost use Rattle.std.specs.Prelude.{◌≡◌, []};
 ghost use Rattle.tgff_reader.specs.Facts.{IsTgff};
 
 use crate::graphs::Graphs;
-use crate::lists::{Items, Text};
 use crate::tables::Tables;
+use file_bricks::{Items, Text};
 use std::alloc::Global;
 use std::marker::Model;
 
@@ -61,8 +61,8 @@ pub struct Table {
 ///
 /// Every rule that the reader tests holds of them: names of tasks and of arcs are new in their
 /// graph and have at most 64 bytes, arcs and deadlines name tasks of their graph, no arcs of a graph
-/// make a cycle, whole numbers are below 2^63, no two blocks have one name and index, and there are
-/// at most 1,024 tasks and 2,048 arcs.
+/// make a cycle, whole numbers are below 2^63, periods and deadlines below 10^15 of either sign, no
+/// two blocks have one name and index, and there are at most 1,024 tasks and 2,048 arcs.
 #[derive(Debug, Drop)]
 pub struct Tgff {
     pub graphs: Graphs,

@@ -13,7 +13,6 @@ mod file;
 mod graphs;
 mod keyword;
 pub mod laws;
-mod lists;
 mod looking;
 mod open_graph;
 mod reading;
@@ -25,6 +24,5 @@ mod words;
 
 pub use file::{Graph, Row, Table, Tgff, TgffArc, TgffDeadline, TgffTask};
 pub use graphs::Graphs;
-pub use lists::{Items, Text};
 pub use reading::read_tgff;
 pub use tables::Tables;

@@ -1,7 +1,7 @@
 use Rattle.std.proofs.Common.{◌≡◌, ℕ, List, Some, None, ap, sym, ◌∙◌, Bool, rules}
 use Rattle.line_words.specs.Rules.{first_broken}
 use Rattle.line_words.proofs.Least.{first_broken-append-none, first_broken-append-some}
-use Rattle.tgff_reader.specs.Words.{said, word_at}
+use Rattle.file_bricks.specs.Words.{said, word_at}
 use Rattle.tgff_reader.specs.Faults.{arc_word_tests, arc_graph_tests, closes_cycle, place_of}
 use Rattle.tgff_reader.specs.Reaching.{reaches}
 use Rattle.tgff_reader.specs.declared.file.Graph.{Graph}
