@@ -3,3 +3,4 @@ pub mod Said
 pub mod Numbered
 pub mod Headed
 pub mod Written
+pub mod Bounded

@@ -9,9 +9,11 @@ use Rattle.line_words.specs.declared.refusals.Why.TheVariants.{NoHeader}
 use Rattle.line_words.specs.declared.refusals.FileTag.TheVariants.{Genotype}
 use Rattle.line_words.specs.declared.refusals.ReadFault.{ReadFault}
 use Rattle.line_words.specs.declared.refusals.ReadFault.TheVariants as faults
-use Rattle.line_words.proofs.Steps.{ranked, in_order_headed}
+use Rattle.line_words.proofs.Steps.{ranked}
+use Rattle.file_bricks.specs.Numbers.{read_or}
+use Rattle.file_bricks.proofs.Headed.{in_order_headed}
 use Rattle.spec_model.specs.Genotypes.{GeneValue, natural, plain_gene}
-use Rattle.genotype.specs.Statements.{is_header, stated_of, stated_tests, least_after, least_from, with_stated, with_all, later, end_tests, genotype_rules, genes_of, as_seen, number_of}
+use Rattle.genotype.specs.Statements.{is_header, stated_of, stated_tests, least_after, least_from, with_stated, with_all, later, end_tests, genotype_rules, genes_of, as_seen}
 use Rattle.genotype.specs.declared.stated.Stated.{Stated}
 
 pub least_from-push : (least : ℕ) (done : List Statement) (s : Statement) → least_from least (done ++ s ∷ []) ≡ least_after (least_from least done) (stated_of s.words)
@@ -24,7 +26,7 @@ with_all-push genes (d ∷ done) s = with_all-push (with_stated genes (stated_of
 
 pub length-with_stated : (genes : List GeneValue) (stated : Option Stated) → length (with_stated genes stated) ≡ length genes
 length-with_stated genes None = refl
-length-with_stated genes (Some s) = length-set genes (number_of s.variable) _
+length-with_stated genes (Some s) = length-set genes (read_or 0 s.variable) _
 
 length-with_all : (genes : List GeneValue) (done : List Statement) → length (with_all genes done) ≡ length genes
 length-with_all genes [] = refl
@@ -41,4 +43,4 @@ stated_ranked n least None = ranked (rank NoHeader) (stated_tests n least None) 
 stated_ranked n least (Some s) = ranked (rank NoHeader) (stated_tests n least (Some s)) refl
 
 pub in_order : (n : ℕ) → AreInOrder (genotype_rules n)
-in_order n = in_order_headed is_header (later n) end_tests (λ before ws. stated_ranked n (least_from 0 before) (stated_of ws)) (λ before. tt)
+in_order n = in_order_headed is_header (later n) end_tests (λ header before ws. stated_ranked n (least_from 0 before) (stated_of ws)) (λ header before. tt)

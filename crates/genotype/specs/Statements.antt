@@ -1,20 +1,19 @@
 -- A genotype file: its statements, what each is refused for, and the genes that they state.
-use Rattle.std.specs.Prelude.{ℕ, ◌+◌, ◌^◌, List, [], ◌∷◌, slice_set, Bool, true, false, ◌||◌, ◌&&◌, nat_lt, nat_le, ◌==◌, if◌then◌else◌, Option, Some, None, Result, Ok, Err, codes}
+use Rattle.std.specs.Prelude.{ℕ, ◌+◌, ◌^◌, List, [], ◌∷◌, slice_set, Bool, true, false, ◌||◌, nat_lt, nat_le, ◌==◌, if◌then◌else◌, Option, Some, None, Result, Ok, Err, codes}
 use Rattle.std.specs.Str.{bytes_eq}
 use Rattle.line_words.specs.Numbers.{whole_of}
-use Rattle.line_words.specs.Rules.{Words, Rules, Statement, Test, headed_rules, without_header}
+use Rattle.line_words.specs.Rules.{Words, Rules, Statement, Test, without_header}
 use Rattle.line_words.specs.declared.numbers.NumberFault.{NumberFault}
-use Rattle.line_words.specs.declared.numbers.NumberFault.TheVariants as numbers
 use Rattle.line_words.specs.declared.refusals.Why.TheVariants.{BadStatement, BadNumber, UnknownName, TooBig, NotInOrder}
+use Rattle.file_bricks.specs.Words.{is_headed}
+use Rattle.file_bricks.specs.Numbers.{is_bad, is_big, read_or}
+use Rattle.file_bricks.specs.Headed.{headed_rules}
 use Rattle.spec_model.specs.Genotypes.{GeneValue, natural}
 use Rattle.genotype.specs.declared.stated.Stated.{Stated}
 
 -- the header is `genotype 1`
 abbrev pub is_header : Words → Bool
-is_header [] = false
-is_header (k ∷ []) = false
-is_header (k ∷ a ∷ []) = bytes_eq k (codes "genotype") && bytes_eq a (codes "1")
-is_header (k ∷ a ∷ b ∷ more) = false
+is_header ws = is_headed (codes "genotype") (codes "1") ws
 
 -- the numbers of a statement `gene V P B`: its variable, its priority and its phase
 abbrev pub stated_of : Words → Option Stated
@@ -24,18 +23,6 @@ stated_of (k ∷ v ∷ []) = None
 stated_of (k ∷ v ∷ p ∷ []) = None
 stated_of (k ∷ v ∷ p ∷ b ∷ []) = if bytes_eq k (codes "gene") then Some (record { variable = whole_of v; priority = whole_of p; phase = whole_of b }) else None
 stated_of (k ∷ v ∷ p ∷ b ∷ a ∷ more) = None
-
--- a word is no number
-abbrev pub is_bad : Result ℕ NumberFault → Bool
-is_bad (Ok v) = false
-is_bad (Err numbers.BadNumber) = true
-is_bad (Err numbers.TooBig) = false
-
--- a word is a number that is too big for every place
-abbrev pub is_big : Result ℕ NumberFault → Bool
-is_big (Ok v) = false
-is_big (Err numbers.BadNumber) = false
-is_big (Err numbers.TooBig) = true
 
 -- a number that is neither 0 nor 1
 abbrev pub is_no_bit : Result ℕ NumberFault → Bool
@@ -74,15 +61,10 @@ abbrev pub stated_tests : ℕ → ℕ → Option Stated → List Test
 stated_tests n least None = (BadStatement, true) ∷ []
 stated_tests n least (Some s) = gene_tests n least s
 
--- the number that a word gave
-abbrev pub number_of : Result ℕ NumberFault → ℕ
-number_of (Ok v) = v
-number_of (Err e) = 0
-
 -- the least variable that may follow a statement: the one past its variable
 abbrev pub least_after : ℕ → Option Stated → ℕ
 least_after least None = least
-least_after least (Some s) = number_of s.variable + 1
+least_after least (Some s) = read_or 0 s.variable + 1
 
 -- the least variable that may follow statements, where it was `least` before them
 abbrev pub least_from : ℕ → List Statement → ℕ
@@ -92,7 +74,7 @@ least_from least (s ∷ more) = least_from (least_after least (stated_of s.words
 -- genes once a statement has set one
 abbrev pub with_stated : List GeneValue → Option Stated → List GeneValue
 with_stated genes None = genes
-with_stated genes (Some s) = slice_set genes (number_of s.variable) (record { priority = number_of s.priority; phase = number_of s.phase == 1 })
+with_stated genes (Some s) = slice_set genes (read_or 0 s.variable) (record { priority = read_or 0 s.priority; phase = read_or 0 s.phase == 1 })
 
 -- genes once statements have set some
 abbrev pub with_all : List GeneValue → List Statement → List GeneValue
@@ -100,12 +82,12 @@ with_all genes [] = genes
 with_all genes (s ∷ more) = with_all (with_stated genes (stated_of s.words)) more
 
 -- the rules of a statement after the header and the statements after it
-abbrev pub later : ℕ → List Statement → Words → List Test
-later n before ws = stated_tests n (least_from 0 before) (stated_of ws)
+abbrev pub later : ℕ → Words → List Statement → Words → List Test
+later n header before ws = stated_tests n (least_from 0 before) (stated_of ws)
 
 -- the end has no rule of its own
-abbrev pub end_tests : List Statement → List Test
-end_tests before = []
+abbrev pub end_tests : Words → List Statement → List Test
+end_tests header before = []
 
 -- the rules of a genotype file for n genes
 abbrev pub genotype_rules : ℕ → Rules

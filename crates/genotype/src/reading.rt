@@ -1,38 +1,17 @@
 //! Reads a genotype's text from left to right, and stops at the first rule that is broken.
 
 ghost use Rattle.std.specs.Prelude.{◌≡◌, ◌<◌, length, map, Some, None, [], MatchResult, IfOk};
-ghost use Rattle.line_words.specs.Text.{lines, words_in};
-ghost use Rattle.line_words.specs.Rules.{texts, first_broken};
+ghost use Rattle.line_words.specs.Text.{lines};
+ghost use Rattle.line_words.specs.Rules.{first_broken};
 ghost use Rattle.line_words.specs.Run.{run};
 ghost use Rattle.line_words.specs.Reads.{Reads, Agrees};
-ghost use Rattle.line_words.proofs.Collected.{said};
-ghost use Rattle.genotype.specs.Statements.{is_header, stated_of, stated_tests, least_after, with_stated, genotype_rules, genes_of, as_seen};
+ghost use Rattle.genotype.specs.Statements.{stated_of, stated_tests, least_after, with_stated, genotype_rules, genes_of, as_seen};
 
 use crate::genes::{Gene, Genotype};
 use crate::stated::{fault_of, number_of, stated_of};
-use line_words::{FileTag, Line, Lines, ReadFault, Stop, Why};
-use std::alloc::{AllocError, Global};
-
-/// The words of a line.
-fn words_of<'a>(alloc: Global, line: &Line<'a>) -> Result<Vec<&'a str>, AllocError>
-    ensures { IfOk result (λ v. said v.items ≡ texts (words_in line.now.content)) }
-{
-    let mut texts = Vec::new(alloc);
-    let mut words = line.words();
-    while let Some(word) = words.next() {
-        texts.push(word.text)?;
-    }
-    Ok(texts)
-}
-
-fn is_header(words: &[&str]) -> bool
-    ensures { result ≡ is_header (map (λ w. w.now) words.now) }
-{
-    match words {
-        [keyword, version] => *keyword == "genotype" && *version == "1",
-        _ => false,
-    }
-}
+use file_bricks::{is_headed, words_of};
+use line_words::{FileTag, Lines, ReadFault, Stop, Why};
+use std::alloc::Global;
 
 /// The genes that were read, and the least variable that may come next.
 #[derive(Drop)]
@@ -79,7 +58,7 @@ fn read_all(alloc: Global, mut lines: Lines, n: u64) -> Result<Genotype, ReadFau
         Some(Ok(line)) => line,
     };
     let words = words_of(alloc, &header)?;
-    if !is_header(&words) {
+    if !is_headed(&words, "genotype", "1") {
         return Err(Stop::Broken(Why::NoHeader).at_line(FileTag::Genotype, header.number()));
     }
     let mut seen = Seen {

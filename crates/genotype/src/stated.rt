@@ -2,8 +2,10 @@
 
 ghost use Rattle.std.specs.Prelude.{◌≡◌, map, None};
 ghost use Rattle.line_words.specs.Rules.{first_broken};
-ghost use Rattle.genotype.specs.Statements.{stated_of, is_bad, is_big, is_no_bit, is_wide, is_from, is_below, has_bad_number, has_big_number, gene_tests, number_of};
+ghost use Rattle.file_bricks.specs.Numbers.{read_or};
+ghost use Rattle.genotype.specs.Statements.{stated_of, is_no_bit, is_wide, is_from, is_below, has_bad_number, has_big_number, gene_tests};
 
+use file_bricks::{first_broken, is_bad, is_big};
 use line_words::{NumberFault, Why, whole};
 
 /// The numbers of a statement `gene V P B`, as its words read.
@@ -31,24 +33,6 @@ pub(crate) fn stated_of(words: &[&str]) -> Option<Stated>
             }
         }
         _ => None,
-    }
-}
-
-fn is_bad(number: Result<u64, NumberFault>) -> bool
-    ensures { result ≡ is_bad number }
-{
-    match number {
-        Err(NumberFault::BadNumber) => true,
-        _ => false,
-    }
-}
-
-fn is_big(number: Result<u64, NumberFault>) -> bool
-    ensures { result ≡ is_big number }
-{
-    match number {
-        Err(NumberFault::TooBig) => true,
-        _ => false,
     }
 }
 
@@ -110,24 +94,17 @@ fn has_big_number(stated: Stated) -> bool
 pub(crate) fn fault_of(n: u64, least: u64, stated: Stated) -> Option<Why>
     ensures { result ≡ first_broken (gene_tests n least stated) }
 {
-    if has_bad_number(stated) {
-        return Some(Why::BadNumber);
-    }
-    if is_from(n, stated.variable) {
-        return Some(Why::UnknownName);
-    }
-    if has_big_number(stated) {
-        return Some(Why::TooBig);
-    }
-    if is_below(least, stated.variable) {
-        return Some(Why::NotInOrder);
-    }
-    None
+    first_broken(&[
+        (Why::BadNumber, has_bad_number(stated)),
+        (Why::UnknownName, is_from(n, stated.variable)),
+        (Why::TooBig, has_big_number(stated)),
+        (Why::NotInOrder, is_below(least, stated.variable)),
+    ])
 }
 
 /// The number of a statement without fault.
 pub(crate) fn number_of(number: Result<u64, NumberFault>) -> u64
-    ensures { result ≡ number_of number }
+    ensures { result ≡ read_or 0 number }
 {
     match number {
         Ok(number) => number,

@@ -14,7 +14,7 @@ use Rattle.line_words.proofs.Whys.{both}
 use Rattle.names.specs.Names.{IsName, is_name_byte}
 use Rattle.spec_model.specs.Spec.{Name}
 use Rattle.spec_model.specs.WellFormed.{AreDistinct}
-use Rattle.tgff_reader.specs.Facts.{IsWord}
+use Rattle.file_bricks.specs.Words.{IsWord}
 use Rattle.graph_plan.specs.Graphs.{name_in}
 use Rattle.graph_plan.specs.Room.{AreNew}
 

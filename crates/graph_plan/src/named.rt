@@ -2,7 +2,7 @@
 
 ghost use Rattle.std.specs.Prelude.{◌≡◌, IfOk, string_bytes};
 ghost use Rattle.names.specs.Names.{IsName};
-ghost use Rattle.tgff_reader.specs.Facts.{IsWord};
+ghost use Rattle.file_bricks.specs.Words.{IsWord};
 ghost use Rattle.graph_plan.specs.Graphs.{name_in};
 
 use std::alloc::{AllocError, Global};

@@ -1,19 +1,14 @@
 -- What a search for a table or a row has passed, and what it finds.
 use Rattle.std.proofs.Common.{◌≡◌, ℕ, ◌<◌, ◌≤◌, inl, inr, false, List, [], Option, Some, None, map, get_or, sym, ap, ◌∙◌, arith}
-use Rattle.std.specs.Prelude.{IfSome}
+use Rattle.std.specs.Prelude.{IfSome, MatchOption}
 use Rattle.std.proofs.lemmas.Bool.{cases_lt}
 use Rattle.std.proofs.lemmas.List.{get_or-map, length-map}
 use Rattle.spec_model.specs.WellFormed.{AreDistinct}
-use Rattle.tgff_reader.specs.Faults.{is_table}
 use Rattle.tgff_reader.specs.Facts.{table_key}
-use Rattle.tgff_reader.specs.Looking.{table_at, row_at, IsTableAt, is_of_kind}
+use Rattle.tgff_reader.specs.Looking.{table_at, row_at, IsTableAt, HasNoTable, is_of_kind}
 use Rattle.tgff_reader.specs.declared.file.Table.{Table}
 
 -- ---- tables
-
--- none of the first tables has the name and the index
-abbrev pub NoTableBelow : List Table → List ℕ → ℕ → ℕ → Type 0
-NoTableBelow tables name index n = (i : ℕ) → i < n → is_table name index (table_at tables i) ≡ false
 
 key_at : (tables : List Table) (name : List ℕ) (index i : ℕ) → IsTableAt tables name index i → get_or (map table_key tables) i (name, index) ≡ (name, index)
 key_at tables name index i t =
@@ -32,7 +27,7 @@ one_table tables name index i j d s t = elim (cases_lt i j) [
 ]
 
 -- a place that was found is the only one
-pub only_table : (tables : List Table) (name : List ℕ) (index : ℕ) (found : Option ℕ) → AreDistinct (map table_key tables) → IfSome found (IsTableAt tables name index)
+pub only_table : (tables : List Table) (name : List ℕ) (index : ℕ) (found : Option ℕ) → AreDistinct (map table_key tables) → MatchOption found (HasNoTable tables name index) (IsTableAt tables name index)
     → IfSome found (λ place. (other : ℕ) → IsTableAt tables name index other → other ≡ place)
 only_table tables name index None d t = tt
 only_table tables name index (Some place) d t = λ other u. one_table tables name index place other d t u

@@ -1,8 +1,7 @@
 -- The steps of the reader, over what `Lines` gives.
-use Rattle.std.proofs.Common.{◌≡◌, ℕ, ◌+◌, ◌<◌, true, false, List, [], ◌∷◌, ◌++◌, length, Option, Some, None, Ok, Err, refl, sym, ap, subst, ◌∙◌, arith, All}
+use Rattle.std.proofs.Common.{◌≡◌, ℕ, ◌+◌, true, false, List, [], ◌∷◌, ◌++◌, length, Option, Some, None, Ok, Err, refl, sym, ap, subst, ◌∙◌, All}
 use Rattle.std.specs.Prelude.{if◌then◌else◌}
-use Rattle.std.proofs.lemmas.List.{length-map}
-use Rattle.line_words.specs.Text.{Piece, words_in}
+use Rattle.line_words.specs.Text.{words_in}
 use Rattle.line_words.specs.Refused.{rank}
 use Rattle.line_words.specs.Rules.{Words, Statement, Test, IsRanked, AreInOrder, first_broken, texts}
 use Rattle.line_words.specs.Left.{Left, Numbered, Passes, Gives}
@@ -14,7 +13,7 @@ use Rattle.tgff_reader.specs.Words.{first, is_at}
 use Rattle.tgff_reader.specs.Lines.{is_opening, block_name, block_index, is_closing, keyword_of}
 use Rattle.tgff_reader.specs.Faults.{tests, tests_in, opening_tests, inner_tests, known_tests, is_open, end_tests}
 use Rattle.tgff_reader.specs.After.{after, after_all, start, state_of}
-use Rattle.tgff_reader.specs.Facts.{IsWord}
+use Rattle.file_bricks.specs.Words.{IsWord}
 use Rattle.tgff_reader.specs.Tgff.{later, at_end, tgff_rules}
 use Rattle.tgff_reader.specs.declared.keyword.Keyword.{Keyword}
 use Rattle.tgff_reader.specs.declared.keyword.Keyword.TheVariants.{Period, Task, Arc, HardDeadline, SoftDeadline}
@@ -23,7 +22,8 @@ use Rattle.tgff_reader.specs.declared.state.Blocks.{Blocks}
 use Rattle.tgff_reader.specs.declared.state.Open.{Open}
 use Rattle.tgff_reader.specs.declared.state.Open.TheVariants.{Outside, InGraph, InTable}
 use Rattle.tgff_reader.specs.declared.state.State.{State}
-use Rattle.tgff_reader.proofs.Deciding.{ranked_if}
+use Rattle.file_bricks.proofs.Deciding.{ranked_if}
+use Rattle.file_bricks.proofs.Said.{some_word}
 use Rattle.tgff_reader.proofs.Kept.{IsState, start_stands, stands_more}
 
 -- ---- the rules stand in their order
@@ -69,16 +69,13 @@ pub record IsDone (done : List Statement) (left : Left) (state : State) (total :
 pub none_done : (left : Left) (state : State) → state ≡ start → IsDone [] left state (run tgff_rules left.number [] left.lines)
 none_done left state e = record { so_far = refl; state_is = e; stands = subst IsState (sym e) start_stands }
 
-some_word : (line : Numbered) (ws : Words) → ws ≡ texts (words_in line.content) → 0 < length (words_in line.content) → 0 < length ws
-some_word line ws e h = omega (arith, h, ap length e, length-map (words_in line.content) (λ (w : Piece). w.text))
-
 pub line_done : (done : List Statement) (old new : Left) (state next : State) (total : Reading) (line : Numbered) (ws : Words) → IsDone done old state total → Gives old new line
     → ws ≡ texts (words_in line.content) → All IsWord (texts (words_in line.content)) → first_broken (tests state ws) ≡ None → next ≡ after state ws
     → IsDone (done ++ record { number = line.number; words = ws } ∷ []) new next total
 line_done done old new state next total line ws d g e words fine is = record {
   so_far = goes_on later at_end done old new line ws total g e d.so_far (ap (λ (s : State). first_broken (tests s ws)) (sym d.state_is) ∙ fine);
   state_is = is ∙ ap (λ (s : State). after s ws) d.state_is ∙ sym (after_all-push start done (record { number = line.number; words = ws }));
-  stands = subst IsState (sym is) (stands_more state ws d.stands (subst (All IsWord) (sym e) words) (some_word line ws e g.some_word) fine);
+  stands = subst IsState (sym is) (stands_more state ws d.stands (subst (All IsWord) (sym e) words) (some_word old new line ws g e) fine);
 }
 
 pub line_refused : (done : List Statement) (old new : Left) (state : State) (total : Reading) (line : Numbered) (ws : Words) (why : Why) → IsDone done old state total → Gives old new line

@@ -1,6 +1,6 @@
 -- What holds of the blocks so far, and stays so with each line that breaks no rule.
 use Rattle.std.proofs.Common.{◌≡◌, ℕ, ◌+◌, ◌<◌, ◌≤◌, ◌^◌, Bool, true, false, inl, inr, List, [], ◌∷◌, ◌++◌, length, map, get_or, drop, Option, Some, None, Result, Ok, Err, refl, sym, ap, subst, ◌∙◌, arith, All, Contains, length-append}
-use Rattle.std.specs.Prelude.{sum_by, nat_le, ◌==◌, if◌then◌else◌}
+use Rattle.std.specs.Prelude.{sum_by, nat_le, not, ◌||◌, ◌==◌, if◌then◌else◌}
 use Rattle.std.specs.List.{list_any, list_all}
 use Rattle.std.specs.Str.{bytes_eq}
 use Rattle.std.proofs.lemmas.Bool.{cases_Bool, false≢true, leb-false, leb-true, ltb-false, eqb-false, eq-eqb}
@@ -16,15 +16,21 @@ use Rattle.spec_model.specs.WellFormed.{HasCycle, AreDistinct}
 use Rattle.task_order.proofs.Sets.{and_both, and_from}
 use Rattle.line_words.specs.declared.numbers.NumberFault.{NumberFault}
 use Rattle.line_words.specs.declared.numbers.NumberFault.TheVariants.{BadNumber, TooBig}
-use Rattle.line_words.specs.declared.refusals.Why.TheVariants.{Unclosed, StrayClose}
+use Rattle.line_words.specs.declared.refusals.Why.TheVariants.{BadStatement, BadNumber, UnknownName, RepeatedName, Unclosed, StrayClose, TooBig, Cyclic, Limit}
+use Rattle.line_words.specs.declared.refusals.What.TheVariants.{NameBytes, Tasks, Messages}
+use Rattle.line_words.proofs.Whys.{neither}
 use Rattle.line_words.specs.Limits.{most_name_bytes}
 use Rattle.spec_model.specs.Limits.{most_tasks, most_messages}
-use Rattle.tgff_reader.specs.Words.{word_at, first, is_at, is_bad, is_big, read_or}
+use Rattle.file_bricks.specs.Numbers.{is_bad, is_big, read_or}
+use Rattle.file_bricks.specs.Words.{word_at}
+use Rattle.tgff_reader.specs.Words.{first, is_at}
 use Rattle.tgff_reader.specs.Lines.{is_opening, block_name, block_index, is_graph_name, is_closing, keyword_of, is_task_shape, is_arc_shape}
 use Rattle.tgff_reader.specs.Reaching.{messages_of}
+use Rattle.tgff_reader.specs.Looking.{is_graph, is_table}
 use Rattle.tgff_reader.specs.Faults as faults
 use Rattle.tgff_reader.specs.After as states
-use Rattle.tgff_reader.specs.Facts.{TgffValue, IsWord, IsName, IsTask, IsArc, IsDeadline, IsGraph, IsRow, IsTable, IsTgff, task_name, arc_name, graph_index, table_key, task_count, arc_count}
+use Rattle.file_bricks.specs.Words.{IsWord}
+use Rattle.tgff_reader.specs.Facts.{TgffValue, IsName, IsTask, IsArc, IsDeadline, IsGraph, IsRow, IsTable, IsTgff, task_name, arc_name, graph_index, table_key, task_count, arc_count}
 use Rattle.tgff_reader.specs.declared.keyword.Keyword.{Keyword}
 use Rattle.tgff_reader.specs.declared.keyword.Keyword.TheVariants.{Period, Task, Arc, HardDeadline, SoftDeadline}
 use Rattle.tgff_reader.specs.declared.file.Graph.{Graph}
@@ -35,9 +41,11 @@ use Rattle.tgff_reader.specs.declared.state.Blocks.{Blocks}
 use Rattle.tgff_reader.specs.declared.state.Open.{Open}
 use Rattle.tgff_reader.specs.declared.state.Open.TheVariants.{Outside, InGraph, InTable}
 use Rattle.tgff_reader.specs.declared.state.State.{State}
-use Rattle.tgff_reader.proofs.Deciding.{AllFalse, all_false, chosen, other, not_false}
+use Rattle.file_bricks.proofs.Deciding.{fine_for, chosen, other, not_false}
+use Rattle.file_bricks.proofs.Bounded.{decimal_small}
 use Rattle.tgff_reader.proofs.Reached.{no_cycle_more}
-use Rattle.tgff_reader.proofs.Numbered.{whole_small, index_small}
+use Rattle.file_bricks.proofs.Numbered.{whole_small}
+use Rattle.tgff_reader.proofs.Numbered.{index_small}
 
 -- ---- keys that are apart
 
@@ -114,6 +122,7 @@ start_stands = record { file = no_file; tasks_are = refl; arcs_are = refl }
 graph_is_new : (i : ℕ) → i < 2 ^ 63 → IsGraph (states.new_graph i)
 graph_is_new i l = record {
   index = l;
+  period = tt;
   tasks_in = All-nil IsTask;
   tasks_distinct = λ i j d l h e. absurd (omega (arith, h));
   arcs_in = All-nil (IsArc 0);
@@ -122,28 +131,28 @@ graph_is_new i l = record {
   deadlines_in = All-nil (IsDeadline 0);
 }
 
-opens_graph : (gs : List Graph) (ts : List Table) (i : ℕ) → IsTgff (made gs ts) → i < 2 ^ 63 → list_any (faults.is_graph i) gs ≡ false → IsTgff (made (gs ++ states.new_graph i ∷ []) ts)
+opens_graph : (gs : List Graph) (ts : List Table) (i : ℕ) → IsTgff (made gs ts) → i < 2 ^ 63 → list_any (is_graph i) gs ≡ false → IsTgff (made (gs ++ states.new_graph i ∷ []) ts)
 opens_graph gs ts i f l none = record {
   graphs_in = All-push IsGraph gs (states.new_graph i) f.graphs_in (graph_is_new i l);
-  graphs_distinct = distinct_more graph_index (faults.is_graph i) gs (states.new_graph i) f.graphs_distinct (λ y e. eq-eqb y.index i e) none;
+  graphs_distinct = distinct_more graph_index (is_graph i) gs (states.new_graph i) f.graphs_distinct (λ y e. eq-eqb y.index i e) none;
   tables_in = f.tables_in;
   tables_distinct = f.tables_distinct;
   few_tasks = omega (arith, sum_by_push task_count gs (states.new_graph i), f.few_tasks);
   few_arcs = omega (arith, sum_by_push arc_count gs (states.new_graph i), f.few_arcs);
 }
 
-both_same : (name : List ℕ) (i : ℕ) (t : Table) → table_key t ≡ (name, i) → faults.is_table name i t ≡ true
+both_same : (name : List ℕ) (i : ℕ) (t : Table) → table_key t ≡ (name, i) → is_table name i t ≡ true
 both_same name i t e =
     let n : bytes_eq t.name name ≡ true = same_bytes t.name name (ap (λ (k : List ℕ × ℕ). k.0) e) in
     let x : (t.index == i) ≡ true = eq-eqb t.index i (ap (λ (k : List ℕ × ℕ). k.1) e) in
     and_from (bytes_eq t.name name) (t.index == i) n x
 
-opens_table : (gs : List Graph) (ts : List Table) (name : List ℕ) (i : ℕ) → IsTgff (made gs ts) → IsWord name → i < 2 ^ 63 → list_any (faults.is_table name i) ts ≡ false → IsTgff (made gs (ts ++ states.new_table name i ∷ []))
+opens_table : (gs : List Graph) (ts : List Table) (name : List ℕ) (i : ℕ) → IsTgff (made gs ts) → IsWord name → i < 2 ^ 63 → list_any (is_table name i) ts ≡ false → IsTgff (made gs (ts ++ states.new_table name i ∷ []))
 opens_table gs ts name i f w l none = record {
   graphs_in = f.graphs_in;
   graphs_distinct = f.graphs_distinct;
   tables_in = All-push IsTable ts (states.new_table name i) f.tables_in (record { named = w; index = l; rows = All-nil IsRow });
-  tables_distinct = distinct_more table_key (faults.is_table name i) ts (states.new_table name i) f.tables_distinct (λ y e. both_same name i y e) none;
+  tables_distinct = distinct_more table_key (is_table name i) ts (states.new_table name i) f.tables_distinct (λ y e. both_same name i y e) none;
   few_tasks = f.few_tasks;
   few_arcs = f.few_arcs;
 }
@@ -168,7 +177,7 @@ number_new b name (Err TooBig) bad big h = absurd (false≢true (sym big))
 opens : (b : Blocks) (name : List ℕ) (i : ℕ) → IsState (standing Outside b) → IsWord name → i < 2 ^ 63 → faults.has_block b name i ≡ false → IsState (standing (states.opened name i) b)
 opens b name i s w l new = elim (cases_Bool (is_graph_name name)) [
   | inl t ↦
-      let none : list_any (faults.is_graph i) b.graphs ≡ false = sym (chosen (is_graph_name name) (list_any (faults.is_graph i) b.graphs) (list_any (faults.is_table name i) b.tables) t) ∙ new in
+      let none : list_any (is_graph i) b.graphs ≡ false = sym (chosen (is_graph_name name) (list_any (is_graph i) b.graphs) (list_any (is_table name i) b.tables) t) ∙ new in
       let file : IsTgff (made b.graphs (b.tables ++ [])) = subst (λ (gs : List Graph). IsTgff (made gs (b.tables ++ []))) (append-nil b.graphs) s.file in
       let next : IsState (standing (InGraph (states.new_graph i)) b) = record {
         file = opens_graph b.graphs (b.tables ++ []) i file l none;
@@ -177,7 +186,7 @@ opens b name i s w l new = elim (cases_Bool (is_graph_name name)) [
       } in
       subst (λ (c : Open). IsState (standing c b)) (sym (chosen (is_graph_name name) (InGraph (states.new_graph i)) (InTable (states.new_table name i)) t)) next
   | inr t ↦
-      let none : list_any (faults.is_table name i) b.tables ≡ false = sym (other (is_graph_name name) (list_any (faults.is_graph i) b.graphs) (list_any (faults.is_table name i) b.tables) t) ∙ new in
+      let none : list_any (is_table name i) b.tables ≡ false = sym (other (is_graph_name name) (list_any (is_graph i) b.graphs) (list_any (is_table name i) b.tables) t) ∙ new in
       let file : IsTgff (made (b.graphs ++ []) b.tables) = subst (λ (ts : List Table). IsTgff (made (b.graphs ++ []) ts)) (append-nil b.tables) s.file in
       let next : IsState (standing (InTable (states.new_table name i)) b) = record {
         file = opens_table (b.graphs ++ []) b.tables name i file w l none;
@@ -197,9 +206,9 @@ outside_more b ws s h some e =
       | inl t ↦
           let tried : first_broken (faults.opening_tests b name index) ≡ None
           = ap first_broken (sym (chosen (is_opening ws) (faults.opening_tests b name index) ((StrayClose, is_closing ws) ∷ []) t)) ∙ e in
-          let a = all_false (faults.opening_tests b name index) tried in
-          let word : IsWord name = word_rest (first ws) (h 0 [] some) a.0 in
-          let next : IsState (standing now b) = opens b name (read_or 0 index) s word (index_small ws) (number_new b name index a.1.0 a.1.1.1.0 a.1.1.0) in
+          let tests = faults.opening_tests b name index in
+          let word : IsWord name = word_rest (first ws) (h 0 [] some) (fine_for BadStatement tests tried) in
+          let next : IsState (standing now b) = opens b name (read_or 0 index) s word (index_small ws) (number_new b name index (fine_for BadNumber tests tried) (fine_for TooBig tests tried) (fine_for RepeatedName tests tried)) in
           subst (λ (c : Open). IsState (standing c b)) (sym (chosen (is_opening ws) now Outside t)) next
     ]
 
@@ -264,54 +273,67 @@ known_place : (tasks : List TgffTask) (name : List ℕ) → faults.is_unknown ta
 known_place tasks name e = leb-false (length tasks) (faults.place_of tasks name) e
 
 period_more : (g : Graph) (ws : Words) → IsGraph g → IsGraph (states.with_period g ws)
-period_more g ws f = record { index = f.index; tasks_in = f.tasks_in; tasks_distinct = f.tasks_distinct; arcs_in = f.arcs_in; arcs_distinct = f.arcs_distinct; no_cycle = f.no_cycle; deadlines_in = f.deadlines_in }
+period_more g ws f = record { index = f.index; period = decimal_small (word_at ws 1); tasks_in = f.tasks_in; tasks_distinct = f.tasks_distinct; arcs_in = f.arcs_in; arcs_distinct = f.arcs_distinct; no_cycle = f.no_cycle; deadlines_in = f.deadlines_in }
 
-task_more : (b : Blocks) (g : Graph) (ws : Words) → IsGraph g → All IsWord ws → AllFalse (faults.task_tests b g ws) → IsGraph (states.with_task g ws)
-task_more b g ws f h a =
+task_more : (b : Blocks) (g : Graph) (ws : Words) → IsGraph g → All IsWord ws → first_broken (faults.task_tests b g ws) ≡ None → IsGraph (states.with_task g ws)
+task_more b g ws f h e =
     let t = states.task_of ws in
-    let shape = and_both (nat_le 4 (length ws)) _ (not_false (is_task_shape ws) a.0) in
+    let tests = faults.task_tests b g ws in
+    let formed : not (is_task_shape ws) ≡ false = fine_for BadStatement tests e in
+    let new : list_any (faults.is_task (word_at ws 1)) g.tasks ≡ false = fine_for RepeatedName tests e in
+    let short : faults.is_long (word_at ws 1) ≡ false = fine_for (Limit NameBytes) tests e in
+    let shape = and_both (nat_le 4 (length ws)) _ (not_false (is_task_shape ws) formed) in
     let long : 4 ≤ length ws = leb-true 4 (length ws) shape.0 in
     let more = length-append g.tasks (t ∷ []) in
     record {
       index = f.index;
-      tasks_in = All-push IsTask g.tasks t f.tasks_in (record { named = name_at ws 1 h (omega (arith, long)) a.1.1.1.1.0; kind = whole_small (word_at ws 3) });
-      tasks_distinct = distinct_more task_name (faults.is_task (word_at ws 1)) g.tasks t f.tasks_distinct (λ y e. same_bytes y.name (word_at ws 1) e) a.1.1.0;
+      period = f.period;
+      tasks_in = All-push IsTask g.tasks t f.tasks_in (record { named = name_at ws 1 h (omega (arith, long)) short; kind = whole_small (word_at ws 3) });
+      tasks_distinct = distinct_more task_name (faults.is_task (word_at ws 1)) g.tasks t f.tasks_distinct (λ y e. same_bytes y.name (word_at ws 1) e) new;
       arcs_in = All-weaker (IsArc (length g.tasks)) (IsArc (length (g.tasks ++ t ∷ []))) (λ arc k. record { named = k.named; from = omega (arith, k.from, more); to = omega (arith, k.to, more); kind = k.kind }) g.arcs f.arcs_in;
       arcs_distinct = f.arcs_distinct;
       no_cycle = f.no_cycle;
-      deadlines_in = All-weaker (IsDeadline (length g.tasks)) (IsDeadline (length (g.tasks ++ t ∷ []))) (λ d k. record { task = omega (arith, k.task, more) }) g.deadlines f.deadlines_in;
+      deadlines_in = All-weaker (IsDeadline (length g.tasks)) (IsDeadline (length (g.tasks ++ t ∷ []))) (λ d k. record { task = omega (arith, k.task, more); at = k.at }) g.deadlines f.deadlines_in;
     }
 
-arc_more : (b : Blocks) (g : Graph) (ws : Words) → IsGraph g → All IsWord ws → AllFalse (faults.arc_tests b g ws) → IsGraph (states.with_arc g ws)
-arc_more b g ws f h a =
+arc_more : (b : Blocks) (g : Graph) (ws : Words) → IsGraph g → All IsWord ws → first_broken (faults.arc_tests b g ws) ≡ None → IsGraph (states.with_arc g ws)
+arc_more b g ws f h e =
     let arc = states.arc_of g.tasks ws in
-    let shape = and_both (nat_le 8 (length ws)) _ (not_false (is_arc_shape ws) a.0) in
+    let tests = faults.arc_tests b g ws in
+    let formed : not (is_arc_shape ws) ≡ false = fine_for BadStatement tests e in
+    let known : (faults.is_unknown g.tasks (word_at ws 3) || faults.is_unknown g.tasks (word_at ws 5)) ≡ false = fine_for UnknownName tests e in
+    let ends = neither (faults.is_unknown g.tasks (word_at ws 3)) (faults.is_unknown g.tasks (word_at ws 5)) known in
+    let new : list_any (faults.is_arc (word_at ws 1)) g.arcs ≡ false = fine_for RepeatedName tests e in
+    let open_end : faults.closes_cycle g ws ≡ false = fine_for Cyclic tests e in
+    let short : faults.is_long (word_at ws 1) ≡ false = fine_for (Limit NameBytes) tests e in
+    let shape = and_both (nat_le 8 (length ws)) _ (not_false (is_arc_shape ws) formed) in
     let long : 8 ≤ length ws = leb-true 8 (length ws) shape.0 in
-    let past = a.1.1.1.1.1.1 in
     record {
       index = f.index;
+      period = f.period;
       tasks_in = f.tasks_in;
       tasks_distinct = f.tasks_distinct;
       arcs_in = All-push (IsArc (length g.tasks)) g.arcs arc f.arcs_in (record {
-        named = name_at ws 1 h (omega (arith, long)) past.1.0;
-        from = known_place g.tasks (word_at ws 3) a.1.1.0;
-        to = known_place g.tasks (word_at ws 5) a.1.1.1.0;
+        named = name_at ws 1 h (omega (arith, long)) short;
+        from = known_place g.tasks (word_at ws 3) ends.0;
+        to = known_place g.tasks (word_at ws 5) ends.1;
         kind = whole_small (word_at ws 7);
       });
-      arcs_distinct = distinct_more arc_name (faults.is_arc (word_at ws 1)) g.arcs arc f.arcs_distinct (λ y e. same_bytes y.name (word_at ws 1) e) a.1.1.1.1.0;
-      no_cycle = no_cycle_more g.arcs arc f.no_cycle past.0;
+      arcs_distinct = distinct_more arc_name (faults.is_arc (word_at ws 1)) g.arcs arc f.arcs_distinct (λ y e. same_bytes y.name (word_at ws 1) e) new;
+      no_cycle = no_cycle_more g.arcs arc f.no_cycle open_end;
       deadlines_in = f.deadlines_in;
     }
 
-deadline_more : (g : Graph) (hard : Bool) (ws : Words) → IsGraph g → AllFalse (faults.deadline_tests g ws) → IsGraph (states.with_deadline g hard ws)
-deadline_more g hard ws f a = record {
+deadline_more : (g : Graph) (hard : Bool) (ws : Words) → IsGraph g → first_broken (faults.deadline_tests g ws) ≡ None → IsGraph (states.with_deadline g hard ws)
+deadline_more g hard ws f e = record {
   index = f.index;
+  period = f.period;
   tasks_in = f.tasks_in;
   tasks_distinct = f.tasks_distinct;
   arcs_in = f.arcs_in;
   arcs_distinct = f.arcs_distinct;
   no_cycle = f.no_cycle;
-  deadlines_in = All-push (IsDeadline (length g.tasks)) g.deadlines (states.deadline_of g.tasks hard ws) f.deadlines_in (record { task = known_place g.tasks (word_at ws 3) a.1.1.0 });
+  deadlines_in = All-push (IsDeadline (length g.tasks)) g.deadlines (states.deadline_of g.tasks hard ws) f.deadlines_in (record { task = known_place g.tasks (word_at ws 3) (fine_for UnknownName (faults.deadline_tests g ws) e); at = decimal_small (word_at ws 5) });
 }
 
 known_more : (b : Blocks) (g : Graph) (ws : Words) (keyword : Option Keyword) → IsState (standing (InGraph g) b) → All IsWord ws → first_broken (faults.known_tests b g ws keyword) ≡ None
@@ -319,15 +341,15 @@ known_more : (b : Blocks) (g : Graph) (ws : Words) (keyword : Option Keyword) �
 known_more b g ws None s h e = s
 known_more b g ws (Some Period) s h e = same_counts b g (states.with_period g ws) s (period_more g ws (open_graph b g s)) refl refl refl
 known_more b g ws (Some Task) s h e =
-    let a = all_false (faults.task_tests b g ws) e in
-    graph_line b (states.blocks_after b (Some Task)) g (states.with_task g ws) s refl refl (task_more b g ws (open_graph b g s) h a) refl
-    (omega (arith, length-append g.tasks (states.task_of ws ∷ []))) refl (omega (arith, leb-false most_tasks b.tasks a.1.1.1.1.1.0)) (few_arcs (InGraph g) b s)
+    let few : nat_le most_tasks b.tasks ≡ false = fine_for (Limit Tasks) (faults.task_tests b g ws) e in
+    graph_line b (states.blocks_after b (Some Task)) g (states.with_task g ws) s refl refl (task_more b g ws (open_graph b g s) h e) refl
+    (omega (arith, length-append g.tasks (states.task_of ws ∷ []))) refl (omega (arith, leb-false most_tasks b.tasks few)) (few_arcs (InGraph g) b s)
 known_more b g ws (Some Arc) s h e =
-    let a = all_false (faults.arc_tests b g ws) e in
-    graph_line b (states.blocks_after b (Some Arc)) g (states.with_arc g ws) s refl refl (arc_more b g ws (open_graph b g s) h a) refl
-    refl (omega (arith, length-append g.arcs (states.arc_of g.tasks ws ∷ []))) (few_tasks (InGraph g) b s) (omega (arith, leb-false most_messages b.arcs a.1.1.1.1.1.1.1.1.0))
-known_more b g ws (Some HardDeadline) s h e = same_counts b g (states.with_deadline g true ws) s (deadline_more g true ws (open_graph b g s) (all_false (faults.deadline_tests g ws) e)) refl refl refl
-known_more b g ws (Some SoftDeadline) s h e = same_counts b g (states.with_deadline g false ws) s (deadline_more g false ws (open_graph b g s) (all_false (faults.deadline_tests g ws) e)) refl refl refl
+    let few : nat_le most_messages b.arcs ≡ false = fine_for (Limit Messages) (faults.arc_tests b g ws) e in
+    graph_line b (states.blocks_after b (Some Arc)) g (states.with_arc g ws) s refl refl (arc_more b g ws (open_graph b g s) h e) refl
+    refl (omega (arith, length-append g.arcs (states.arc_of g.tasks ws ∷ []))) (few_tasks (InGraph g) b s) (omega (arith, leb-false most_messages b.arcs few))
+known_more b g ws (Some HardDeadline) s h e = same_counts b g (states.with_deadline g true ws) s (deadline_more g true ws (open_graph b g s) e) refl refl refl
+known_more b g ws (Some SoftDeadline) s h e = same_counts b g (states.with_deadline g false ws) s (deadline_more g false ws (open_graph b g s) e) refl refl refl
 
 -- a line that doesn't close a block and isn't one that opens another
 inner_fine : (ws : Words) (own : List Test) → is_closing ws ≡ false → first_broken (faults.inner_tests ws own) ≡ None → first_broken own ≡ None
@@ -335,7 +357,7 @@ inner_fine ws own f e =
     let inner : List Test = if is_at (first ws) then (Unclosed, true) ∷ [] else own in
     let past : first_broken inner ≡ None = ap first_broken (sym (other (is_closing ws) [] inner f)) ∙ e in
     elim (cases_Bool (is_at (first ws))) [
-      | inl t ↦ absurd (false≢true (sym ((all_false ((Unclosed, true) ∷ []) (ap first_broken (sym (chosen (is_at (first ws)) ((Unclosed, true) ∷ []) own t)) ∙ past)).0)))
+      | inl t ↦ absurd (false≢true (sym (fine_for Unclosed ((Unclosed, true) ∷ []) (ap first_broken (sym (chosen (is_at (first ws)) ((Unclosed, true) ∷ []) own t)) ∙ past))))
       | inr g ↦ ap first_broken (sym (other (is_at (first ws)) ((Unclosed, true) ∷ []) own g)) ∙ past
     ]
 

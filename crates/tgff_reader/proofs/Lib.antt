@@ -1,7 +1,7 @@
-pub mod Deciding
 pub mod Marked
 pub mod Reached
 pub mod Numbered
 pub mod Kept
 pub mod Going
+pub mod Places
 pub mod Found

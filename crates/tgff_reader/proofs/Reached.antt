@@ -10,7 +10,7 @@ use Rattle.task_order.specs.Order.{is_in, comes_after, is_joined}
 use Rattle.task_order.proofs.Sets.{or_cases, or_left, or_right, and_both, and_from}
 use Rattle.tgff_reader.specs.Reaching.{is_itself, with_arc, with_arcs, reaches, message_of, messages_of, IsOrder}
 use Rattle.tgff_reader.specs.declared.file.TgffArc.{TgffArc}
-use Rattle.tgff_reader.proofs.Deciding.{or_or}
+use Rattle.file_bricks.proofs.Deciding.{or_or}
 
 -- ---- a table of followers
 

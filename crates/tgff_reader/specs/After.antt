@@ -1,11 +1,11 @@
 -- What stands after a line that breaks no rule.
-use Rattle.std.specs.Prelude.{◌≡◌, ℕ, ℤ, pos, ◌+◌, ◌≤◌, length, List, [], ◌∷◌, ◌++◌, Bool, true, false, if◌then◌else◌, Option, Some, None, Result, Ok, Err}
-use Rattle.line_words.specs.Numbers.{whole_of}
-use Rattle.line_words.specs.Decimal.{decimal_of}
+use Rattle.std.specs.Prelude.{◌≡◌, ℕ, ◌+◌, ◌≤◌, length, List, [], ◌∷◌, ◌++◌, Bool, true, false, if◌then◌else◌, Option, Some, None, Result, Ok, Err}
 use Rattle.line_words.specs.Rules.{Words, Statement, first_broken}
 use Rattle.line_words.specs.Reads.{Stops}
 use Rattle.line_words.specs.declared.refusals.Stop.{Stop}
-use Rattle.tgff_reader.specs.Words.{word_at, first, read_or}
+use Rattle.file_bricks.specs.Numbers.{read_or, whole_in, decimal_in}
+use Rattle.file_bricks.specs.Words.{word_at}
+use Rattle.tgff_reader.specs.Words.{first}
 use Rattle.tgff_reader.specs.Lines.{is_opening, block_name, block_index, is_graph_name, is_closing, keyword_of}
 use Rattle.tgff_reader.specs.Faults.{place_of, tests, known_tests, deadline_tests}
 use Rattle.tgff_reader.specs.declared.keyword.Keyword.{Keyword}
@@ -19,14 +19,6 @@ use Rattle.tgff_reader.specs.declared.state.Blocks.{Blocks}
 use Rattle.tgff_reader.specs.declared.state.Open.{Open}
 use Rattle.tgff_reader.specs.declared.state.Open.TheVariants.{Outside, InGraph, InTable}
 use Rattle.tgff_reader.specs.declared.state.State.{State}
-
--- a word as a whole number
-abbrev pub whole_in : List ℕ → ℕ
-whole_in word = read_or 0 (whole_of word)
-
--- a word as a decimal, in units of 10 ^ -12
-abbrev pub decimal_in : List ℕ → ℤ
-decimal_in word = read_or (pos 0) (decimal_of word)
 
 -- ---- blocks
 

@@ -1,8 +1,9 @@
 -- What holds of each file of task graphs and tables that was read.
-use Rattle.std.specs.Prelude.{◌≡◌, ℕ, ◌<◌, ◌≤◌, ◌^◌, List, length, map, true, All, sum_by}
-use Rattle.std.specs.List.{list_all}
+use Rattle.std.specs.Prelude.{ℕ, ◌<◌, ◌≤◌, ◌^◌, List, length, map, All, sum_by}
+use Rattle.std.specs.Option.{IfSome}
 use Rattle.line_words.specs.Limits.{most_name_bytes}
-use Rattle.line_words.specs.Text.{is_word_byte}
+use Rattle.file_bricks.specs.Words.{IsWord}
+use Rattle.file_bricks.specs.Bounds.{IsAmount}
 use Rattle.spec_model.specs.Limits.{most_tasks, most_messages}
 use Rattle.spec_model.specs.WellFormed.{HasCycle, AreDistinct}
 use Rattle.tgff_reader.specs.Reaching.{messages_of}
@@ -17,11 +18,6 @@ use Rattle.tgff_reader.specs.declared.file.TgffDeadline.{TgffDeadline}
 pub record TgffValue : Type 0 where
   pub graphs : List Graph
   pub tables : List Table
-
--- a word: bytes from 33 to 126 without `#`
-pub record IsWord (word : List ℕ) : Type 0 where
-  pub some : 0 < length word
-  pub plain : list_all is_word_byte word ≡ true
 
 -- the name of a task or of an arc: a word, and not too long
 pub record IsName (name : List ℕ) : Type 0 where
@@ -40,9 +36,10 @@ pub record IsArc (tasks : ℕ) (arc : TgffArc) : Type 0 where
   pub to : arc.to < tasks
   pub kind : arc.kind < 2 ^ 63
 
--- a deadline of a graph with so many tasks
+-- a deadline of a graph with so many tasks, at a time within the bound of decimals
 pub record IsDeadline (tasks : ℕ) (deadline : TgffDeadline) : Type 0 where
   pub task : deadline.task < tasks
+  pub at : IsAmount deadline.at
 
 -- the name of a task
 abbrev pub task_name : TgffTask → List ℕ
@@ -52,10 +49,11 @@ task_name task = task.name
 abbrev pub arc_name : TgffArc → List ℕ
 arc_name arc = arc.name
 
--- A graph: no two tasks have one name and no two arcs, arcs and deadlines are between tasks that are there, and no
--- chain of arcs leads from a task back to it.
+-- A graph: its period is within the bound of decimals, no two tasks have one name and no two arcs, arcs and deadlines are
+-- between tasks that are there, and no chain of arcs leads from a task back to it.
 pub record IsGraph (graph : Graph) : Type 0 where
   pub index : graph.index < 2 ^ 63
+  pub period : IfSome graph.period IsAmount
   pub tasks_in : All IsTask graph.tasks
   pub tasks_distinct : AreDistinct (map task_name graph.tasks)
   pub arcs_in : All (IsArc (length graph.tasks)) graph.arcs

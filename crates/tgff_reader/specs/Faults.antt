@@ -1,5 +1,5 @@
 -- What a line is refused for, after the lines before it: one test for each cause.
-use Rattle.std.specs.Prelude.{ℕ, List, [], ◌∷◌, ◌++◌, length, Bool, true, false, ◌&&◌, not, ◌==◌, nat_lt, nat_le, if◌then◌else◌, Option, Some, None, Result, Ok, Err}
+use Rattle.std.specs.Prelude.{ℕ, List, [], ◌∷◌, ◌++◌, length, Bool, true, false, ◌||◌, not, ◌==◌, nat_lt, nat_le, if◌then◌else◌, Option, Some, None, Result, Ok, Err}
 use Rattle.std.specs.List.{list_any, position_or_len}
 use Rattle.std.specs.Str.{bytes_eq}
 use Rattle.spec_model.specs.Limits.{most_tasks, most_messages}
@@ -10,13 +10,15 @@ use Rattle.line_words.specs.Rules.{Words, Test}
 use Rattle.line_words.specs.declared.numbers.NumberFault.{NumberFault}
 use Rattle.line_words.specs.declared.refusals.Why.TheVariants.{BadStatement, BadNumber, UnknownName, RepeatedName, Unclosed, StrayClose, TooBig, Cyclic, Limit}
 use Rattle.line_words.specs.declared.refusals.What.TheVariants.{NameBytes, Tasks, Messages}
-use Rattle.tgff_reader.specs.Words.{word_at, first, is_at, is_bad, is_big}
+use Rattle.file_bricks.specs.Numbers.{is_bad, is_big}
+use Rattle.file_bricks.specs.Words.{word_at}
+use Rattle.tgff_reader.specs.Words.{first, is_at}
 use Rattle.tgff_reader.specs.Lines.{is_opening, block_name, block_index, is_graph_name, is_closing, keyword_of, is_period_shape, is_task_shape, is_arc_shape, is_deadline_shape}
+use Rattle.tgff_reader.specs.Looking.{is_graph, is_table}
 use Rattle.tgff_reader.specs.Reaching.{reaches}
 use Rattle.tgff_reader.specs.declared.keyword.Keyword.{Keyword}
 use Rattle.tgff_reader.specs.declared.keyword.Keyword.TheVariants.{Period, Task, Arc, HardDeadline, SoftDeadline}
 use Rattle.tgff_reader.specs.declared.file.Graph.{Graph}
-use Rattle.tgff_reader.specs.declared.file.Table.{Table}
 use Rattle.tgff_reader.specs.declared.file.TgffTask.{TgffTask}
 use Rattle.tgff_reader.specs.declared.file.TgffArc.{TgffArc}
 use Rattle.tgff_reader.specs.declared.state.Blocks.{Blocks}
@@ -47,14 +49,6 @@ abbrev pub is_long : List ℕ → Bool
 is_long name = nat_lt most_name_bytes (length name)
 
 -- ---- outside a block
-
--- a graph has the index
-abbrev pub is_graph : ℕ → Graph → Bool
-is_graph index graph = graph.index == index
-
--- a table has the name and the index
-abbrev pub is_table : List ℕ → ℕ → Table → Bool
-is_table name index table = bytes_eq table.name name && (table.index == index)
 
 -- a block of the name and the index is there
 abbrev pub has_block : Blocks → List ℕ → ℕ → Bool
@@ -103,13 +97,16 @@ task_tests blocks graph ws =
 abbrev pub closes_cycle : Graph → Words → Bool
 closes_cycle graph ws = reaches graph.arcs (place_of graph.tasks (word_at ws 5)) (place_of graph.tasks (word_at ws 3))
 
+-- no task has the name of an arc's first task, or of its second one
+abbrev pub has_unknown_end : List TgffTask → Words → Bool
+has_unknown_end tasks ws = is_unknown tasks (word_at ws 3) || is_unknown tasks (word_at ws 5)
+
 -- an arc's words
 abbrev pub arc_word_tests : Graph → Words → List Test
 arc_word_tests graph ws =
     (BadStatement, not (is_arc_shape ws))
     ∷ (BadNumber, is_bad (whole_of (word_at ws 7)))
-    ∷ (UnknownName, is_unknown graph.tasks (word_at ws 3))
-    ∷ (UnknownName, is_unknown graph.tasks (word_at ws 5))
+    ∷ (UnknownName, has_unknown_end graph.tasks ws)
     ∷ (RepeatedName, list_any (is_arc (word_at ws 1)) graph.arcs)
     ∷ (TooBig, is_big (whole_of (word_at ws 7)))
     ∷ []

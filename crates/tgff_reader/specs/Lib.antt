@@ -6,3 +6,4 @@ pub mod After
 pub mod Facts
 pub mod Tgff
 pub mod Looking
+pub mod Places

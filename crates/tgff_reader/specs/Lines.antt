@@ -1,10 +1,11 @@
 -- What a line's words are in and outside a block.
-use Rattle.std.specs.Prelude.{ℕ, List, drop, length, Bool, ◌&&◌, nat_lt, nat_le, if◌then◌else◌, Option, Some, None, Result, Ok, codes}
+use Rattle.std.specs.Prelude.{ℕ, List, [], ◌∷◌, drop, length, Bool, ◌&&◌, nat_lt, nat_le, if◌then◌else◌, Option, Result, Ok, codes}
 use Rattle.std.specs.Str.{bytes_eq}
 use Rattle.line_words.specs.Numbers.{whole_of}
 use Rattle.line_words.specs.Rules.{Words}
 use Rattle.line_words.specs.declared.numbers.NumberFault.{NumberFault}
-use Rattle.tgff_reader.specs.Words.{word_at, first, last, is_at}
+use Rattle.file_bricks.specs.Words.{word_at, keyword_in}
+use Rattle.tgff_reader.specs.Words.{first, last, is_at}
 use Rattle.tgff_reader.specs.declared.keyword.Keyword.{Keyword}
 use Rattle.tgff_reader.specs.declared.keyword.Keyword.TheVariants.{Period, Task, Arc, HardDeadline, SoftDeadline}
 
@@ -28,14 +29,13 @@ is_graph_name name = bytes_eq name (codes "TASK_GRAPH")
 abbrev pub is_closing : Words → Bool
 is_closing ws = bytes_eq (first ws) (codes "}")
 
+-- the first words of the lines of a task graph that are known
+abbrev pub keywords : List (List ℕ × Keyword)
+keywords = (codes "PERIOD", Period) ∷ (codes "TASK", Task) ∷ (codes "ARC", Arc) ∷ (codes "HARD_DEADLINE", HardDeadline) ∷ (codes "SOFT_DEADLINE", SoftDeadline) ∷ []
+
 -- a line of a task graph that is known, by its first word
 abbrev pub keyword_of : List ℕ → Option Keyword
-keyword_of word = if bytes_eq word (codes "PERIOD") then Some Period
-    else if bytes_eq word (codes "TASK") then Some Task
-    else if bytes_eq word (codes "ARC") then Some Arc
-    else if bytes_eq word (codes "HARD_DEADLINE") then Some HardDeadline
-    else if bytes_eq word (codes "SOFT_DEADLINE") then Some SoftDeadline
-    else None
+keyword_of word = keyword_in keywords word
 
 -- a place has this marker
 abbrev pub is_marked : Words → ℕ → List ℕ → Bool

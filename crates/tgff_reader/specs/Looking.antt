@@ -1,10 +1,20 @@
 -- Where a table and a row stand, and which word a cell has.
-use Rattle.std.specs.Prelude.{◌≡◌, ℕ, ◌<◌, ◌≤◌, List, [], length, Bool, true, false, ◌==◌, slice_index_or, Result, Ok, Err}
+use Rattle.std.specs.Prelude.{◌≡◌, ℕ, ◌<◌, ◌≤◌, List, [], length, Bool, true, false, ◌&&◌, ◌==◌, slice_index_or, Result, Ok, Err}
+use Rattle.std.specs.Str.{bytes_eq}
 use Rattle.line_words.specs.Numbers.{whole_of}
 use Rattle.line_words.specs.declared.numbers.NumberFault.{NumberFault}
 use Rattle.tgff_reader.specs.Words.{first}
+use Rattle.tgff_reader.specs.declared.file.Graph.{Graph}
 use Rattle.tgff_reader.specs.declared.file.Table.{Table}
 use Rattle.tgff_reader.specs.declared.file.Row.{Row}
+
+-- a graph has the index
+abbrev pub is_graph : ℕ → Graph → Bool
+is_graph index graph = graph.index == index
+
+-- a table has the name and the index
+abbrev pub is_table : List ℕ → ℕ → Table → Bool
+is_table name index table = bytes_eq table.name name && (table.index == index)
 
 -- the table at a place
 abbrev pub table_at : List Table → ℕ → Table

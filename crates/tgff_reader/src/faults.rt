@@ -5,15 +5,15 @@
 ghost use Rattle.std.specs.Prelude.{◌≡◌, ◌<◌, ◌≤◌, length, Result};
 ghost use Rattle.std.specs.List.{list_any};
 ghost use Rattle.line_words.specs.Rules.{first_broken};
-ghost use Rattle.tgff_reader.specs.Words.{said};
+ghost use Rattle.file_bricks.specs.Words.{said};
 ghost use Rattle.tgff_reader.specs.Faults as tests;
 
-use crate::file::{Graph, Table, TgffArc, TgffTask};
+use crate::file::{Graph, TgffArc, TgffTask};
 use crate::shapes::{
     is_arc_shape, is_deadline_shape, is_graph_name, is_period_shape, is_task_shape,
 };
 use crate::state::Blocks;
-use crate::words::{is_bad_decimal, is_bad_whole, is_big_decimal, is_big_whole, word_at};
+use file_bricks::{is_bad_decimal, is_bad_whole, is_big_decimal, is_big_whole, word_at};
 use line_words::{MOST_NAME_BYTES, NumberFault, What, Why};
 use spec_model::{MOST_MESSAGES, MOST_TASKS};
 
@@ -35,6 +35,13 @@ fn is_unknown(tasks: &[TgffTask], name: &str) -> bool
     place_of(tasks, name) >= tasks.len()
 }
 
+/// Whether no task has the name of an arc's first task, or of its second one.
+fn has_unknown_end(tasks: &[TgffTask], words: &[&str]) -> bool
+    ensures { result ≡ tests.has_unknown_end tasks.now (said words.now) }
+{
+    is_unknown(tasks, word_at(words, 3)) || is_unknown(tasks, word_at(words, 5))
+}
+
 /// Whether a task has a name.
 fn has_task(tasks: &[TgffTask], name: &str) -> bool
     ensures { result ≡ list_any (tests.is_task name.now) tasks.now }
@@ -49,38 +56,14 @@ fn has_arc(arcs: &[TgffArc], name: &str) -> bool
     arcs.iter().any(|arc| arc.name.list() == name)
 }
 
-/// Whether a graph has an index.
-fn has_graph(graphs: &[Graph], index: u64) -> bool
-    ensures { result ≡ list_any (tests.is_graph index) graphs.now }
-{
-    graphs.iter().any(|graph| graph.index == index)
-}
-
-/// Whether a table has this name and this index.
-pub(crate) fn is_table(table: &Table, name: &str, index: u64) -> bool
-    ensures { result ≡ tests.is_table name.now index table.now }
-{
-    if table.name.list() != name {
-        return false;
-    }
-    table.index == index
-}
-
-/// Whether one of the tables has a name and an index.
-fn has_table(tables: &[Table], name: &str, index: u64) -> bool
-    ensures { result ≡ list_any (tests.is_table name.now index) tables.now }
-{
-    tables.iter().any(|table| is_table(table, name, index))
-}
-
 /// Whether a block of a name and an index is there.
 fn has_block(blocks: &Blocks, name: &str, index: u64) -> bool
     ensures { result ≡ tests.has_block blocks.now name.now index }
 {
     if is_graph_name(name) {
-        has_graph(blocks.graphs.list(), index)
+        blocks.graphs.has(index)
     } else {
-        has_table(blocks.tables.list(), name, index)
+        blocks.tables.has(name, index)
     }
 }
 
@@ -177,10 +160,7 @@ pub(crate) fn arc_words_fault(graph: &Graph, words: &[&str]) -> Option<Why>
     if is_bad_whole(kind) {
         return Some(Why::BadNumber);
     }
-    if is_unknown(graph.tasks.list(), word_at(words, 3)) {
-        return Some(Why::UnknownName);
-    }
-    if is_unknown(graph.tasks.list(), word_at(words, 5)) {
+    if has_unknown_end(graph.tasks.list(), words) {
         return Some(Why::UnknownName);
     }
     if has_arc(graph.arcs.list(), word_at(words, 1)) {

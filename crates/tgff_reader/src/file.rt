@@ -3,7 +3,9 @@
 ghost use Rattle.std.specs.Prelude.{◌≡◌, []};
 ghost use Rattle.tgff_reader.specs.Facts.{IsTgff};
 
-use crate::lists::{Items, Text};
+use crate::graphs::Graphs;
+use crate::tables::Tables;
+use file_bricks::{Items, Text};
 use std::alloc::Global;
 use std::marker::Model;
 
@@ -59,12 +61,12 @@ pub struct Table {
 ///
 /// Every rule that the reader tests holds of them: names of tasks and of arcs are new in their
 /// graph and have at most 64 bytes, arcs and deadlines name tasks of their graph, no arcs of a graph
-/// make a cycle, whole numbers are below 2^63, no two blocks have one name and index, and there are
-/// at most 1,024 tasks and 2,048 arcs.
+/// make a cycle, whole numbers are below 2^63, periods and deadlines below 10^15 of either sign, no
+/// two blocks have one name and index, and there are at most 1,024 tasks and 2,048 arcs.
 #[derive(Debug, Drop)]
 pub struct Tgff {
-    pub graphs: Items<Graph>,
-    pub tables: Items<Table>,
+    pub graphs: Graphs,
+    pub tables: Tables,
 }
 
 impl Model for Tgff {
@@ -83,8 +85,8 @@ impl Tgff {
         ensures { result ≡ record { graphs = []; tables = [] } }
     {
         Tgff {
-            graphs: Items::of(Vec::new(alloc)),
-            tables: Items::of(Vec::new(alloc)),
+            graphs: Graphs::none(alloc),
+            tables: Tables::none(alloc),
         }
     }
 

@@ -3,6 +3,8 @@
 ghost use Rattle.std.specs.Prelude.{◌≡◌};
 ghost use Rattle.tgff_reader.specs.Lines.{keyword_of};
 
+use file_bricks::keyword_in;
+
 /// What a line of a task graph states, by its first word.
 #[derive(Clone, Copy, Debug)]
 pub enum Keyword {
@@ -17,17 +19,14 @@ pub enum Keyword {
 pub(crate) fn keyword_of(word: &str) -> Option<Keyword>
     ensures { result ≡ keyword_of word.now }
 {
-    if word == "PERIOD" {
-        Some(Keyword::Period)
-    } else if word == "TASK" {
-        Some(Keyword::Task)
-    } else if word == "ARC" {
-        Some(Keyword::Arc)
-    } else if word == "HARD_DEADLINE" {
-        Some(Keyword::HardDeadline)
-    } else if word == "SOFT_DEADLINE" {
-        Some(Keyword::SoftDeadline)
-    } else {
-        None
-    }
+    keyword_in(
+        &[
+            ("PERIOD", Keyword::Period),
+            ("TASK", Keyword::Task),
+            ("ARC", Keyword::Arc),
+            ("HARD_DEADLINE", Keyword::HardDeadline),
+            ("SOFT_DEADLINE", Keyword::SoftDeadline),
+        ],
+        word,
+    )
 }

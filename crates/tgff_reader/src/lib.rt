@@ -10,17 +10,19 @@
 
 mod faults;
 mod file;
+mod graphs;
 mod keyword;
 pub mod laws;
-mod lists;
 mod looking;
 mod open_graph;
 mod reading;
 mod shapes;
 mod state;
+mod tables;
 mod taking;
 mod words;
 
 pub use file::{Graph, Row, Table, Tgff, TgffArc, TgffDeadline, TgffTask};
-pub use lists::{Items, Text};
+pub use graphs::Graphs;
 pub use reading::read_tgff;
+pub use tables::Tables;

@@ -5,8 +5,7 @@ ghost use Rattle.std.specs.Option.{option_map};
 ghost use Rattle.tgff_reader.specs.Words.{first};
 ghost use Rattle.tgff_reader.specs.Looking.{table_at, row_at, is_of_kind, IsTableAt, HasNoTable, IsFirstOfKind, HasNoneOfKind};
 
-use crate::faults::is_table;
-use crate::file::{Row, Table, Tgff};
+use crate::file::{Row, Tgff};
 use line_words::whole;
 
 /// The first word of a row.
@@ -29,21 +28,6 @@ fn is_of_kind(row: &Row, kind: u64) -> bool
     }
 }
 
-/// The first of the tables with a name and an index.
-fn place_of_table(tables: &[Table], name: &str, index: u64) -> Option<usize>
-    ensures found { IfSome result (IsTableAt tables.now name.now index) }
-    ensures none { IfNone result (HasNoTable tables.now name.now index) }
-{
-    let mut place = 0;
-    'tables: while place < tables.len() {
-        if is_table(&tables[place], name, index) {
-            return Some(place);
-        }
-        place += 1;
-    }
-    None
-}
-
 impl Tgff {
     /// The table of a name and an index. There is one at most.
     pub fn table(&self, name: &str, index: u64) -> Option<usize>
@@ -51,7 +35,7 @@ impl Tgff {
         ensures one { IfSome result (λ place. (other : ℕ) → IsTableAt self.now.tables name.now index other → other ≡ place) }
         ensures none { IfNone result (HasNoTable self.now.tables name.now index) }
     {
-        place_of_table(self.tables.list(), name, index)
+        self.tables.find(name, index)
     }
 
     /// The first row of a table, from a place on, whose first word reads as a kind.

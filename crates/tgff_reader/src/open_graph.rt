@@ -7,7 +7,7 @@ ghost use Rattle.tgff_reader.specs.Reaching.{reaches};
 ghost use Rattle.tgff_reader.specs.After.{new_graph};
 
 use crate::file::{Graph, TgffArc, TgffDeadline, TgffTask};
-use crate::lists::Items;
+use file_bricks::Items;
 use std::alloc::{AllocError, Global};
 use std::marker::Model;
 use task_order::{TaskOrder, TaskSet};

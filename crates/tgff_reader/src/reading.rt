@@ -1,37 +1,23 @@
 //! Reads a TGFF file, once from left to right.
 
-ghost use Rattle.std.specs.Prelude.{◌≡◌, ◌≤◌, [], length, not, IfOk, All};
-ghost use Rattle.line_words.specs.Text.{lines, words_in};
+ghost use Rattle.std.specs.Prelude.{◌≡◌, ◌≤◌, [], length, not};
+ghost use Rattle.line_words.specs.Text.{lines};
 ghost use Rattle.line_words.specs.Limits.{most_file_bytes};
-ghost use Rattle.line_words.specs.Rules.{texts};
 ghost use Rattle.line_words.specs.Run.{run};
 ghost use Rattle.line_words.specs.Reads.{Reads, Agrees};
 ghost use Rattle.line_words.specs.declared.refusals.FileTag.TheVariants as files;
-ghost use Rattle.tgff_reader.specs.Words.{said};
-ghost use Rattle.tgff_reader.specs.Facts.{IsWord};
 ghost use Rattle.tgff_reader.specs.Faults.{is_open};
 ghost use Rattle.tgff_reader.specs.After.{start};
 ghost use Rattle.tgff_reader.specs.Tgff.{tgff_rules, stated, as_seen};
 
 use crate::file::Tgff;
-use crate::lists::Items;
+use crate::graphs::Graphs;
 use crate::state::{Blocks, Open, State};
+use crate::tables::Tables;
 use crate::taking::take;
-use line_words::{FileTag, Line, Lines, ReadFault, Stop, Why};
-use std::alloc::{AllocError, Global};
-
-/// The words of a line.
-fn words_of<'a>(alloc: Global, line: &Line<'a>) -> Result<Vec<&'a str>, AllocError>
-    ensures words { IfOk result (λ found. said found.items ≡ texts (words_in line.now.content)) }
-    ensures plain { All IsWord (texts (words_in line.now.content)) }
-{
-    let mut found = Vec::new(alloc);
-    let mut words = line.words();
-    'each: while let Some(word) = words.next() {
-        found.push(word.text)?;
-    }
-    Ok(found)
-}
+use file_bricks::words_of;
+use line_words::{FileTag, Lines, ReadFault, Stop, Why};
+use std::alloc::Global;
 
 /// What stands before the first line.
 fn start(alloc: Global) -> State
@@ -40,8 +26,8 @@ fn start(alloc: Global) -> State
     State {
         current: Open::Outside,
         blocks: Blocks {
-            graphs: Items::of(Vec::new(alloc)),
-            tables: Items::of(Vec::new(alloc)),
+            graphs: Graphs::none(alloc),
+            tables: Tables::none(alloc),
             tasks: 0,
             arcs: 0,
         },

@@ -1,8 +1,9 @@
 //! What the lines so far state.
 
-use crate::file::{Graph, Table};
-use crate::lists::Items;
+use crate::file::Table;
+use crate::graphs::Graphs;
 use crate::open_graph::OpenGraph;
+use crate::tables::Tables;
 
 /// The block that is open.
 #[derive(Drop)]
@@ -15,8 +16,8 @@ pub enum Open {
 /// The blocks that are closed, and how many tasks and arcs there are, those of an open graph too.
 #[derive(Drop)]
 pub struct Blocks {
-    pub graphs: Items<Graph>,
-    pub tables: Items<Table>,
+    pub graphs: Graphs,
+    pub tables: Tables,
     pub tasks: usize,
     pub arcs: usize,
 }

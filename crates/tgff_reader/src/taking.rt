@@ -1,7 +1,7 @@
 //! Takes a line: what it states is added to what the lines before it state, unless it breaks a rule.
 
 ghost use Rattle.std.specs.Prelude.{◌≡◌, ◌≤◌, length, true, IfOk, Some};
-ghost use Rattle.tgff_reader.specs.Words.{said};
+ghost use Rattle.file_bricks.specs.Words.{said};
 ghost use Rattle.tgff_reader.specs.Lines.{is_opening, is_closing, block_name, block_index};
 ghost use Rattle.tgff_reader.specs.After as states;
 ghost use Rattle.tgff_reader.specs.declared.state.Open.TheVariants as blocks_in;
@@ -11,11 +11,11 @@ use crate::faults::{
 };
 use crate::file::{Row, Table, TgffArc, TgffDeadline, TgffTask};
 use crate::keyword::{Keyword, keyword_of};
-use crate::lists::Items;
 use crate::open_graph::OpenGraph;
 use crate::shapes::{block_index, block_name, is_closing, is_graph_name, is_opening};
 use crate::state::{Blocks, Open, State};
-use crate::words::{decimal_in, first, is_at, text_of, texts_of, whole_in, word_at};
+use crate::words::{first, is_at};
+use file_bricks::{Items, decimal_in, text_of, texts_of, whole_in, word_at};
 use line_words::{Stop, Why};
 use std::alloc::{AllocError, Global};
 
@@ -221,7 +221,7 @@ fn take_in_table(
     ensures { states.Takes (record { current = blocks_in.InTable table; blocks = blocks }) (said words.now) result }
 {
     if is_closing(words) {
-        blocks.tables.push(table)?;
+        blocks.tables.push(alloc, table)?;
         return Ok(State {
             current: Open::Outside,
             blocks,

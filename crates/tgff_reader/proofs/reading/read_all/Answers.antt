@@ -7,11 +7,11 @@ use Rattle.line_words.specs.declared.refusals.Why.TheVariants.{Unclosed}
 use Rattle.line_words.specs.declared.refusals.Stop.TheVariants.{Broken}
 use Rattle.line_words.proofs.Answering.{stopped, refused_as}
 use Rattle.line_words.proofs.Steps.{refused_alone}
-use Rattle.tgff_reader.specs.Words.{said}
+use Rattle.file_bricks.specs.Words.{said}
 use Rattle.tgff_reader.specs.Faults.{tests}
 use Rattle.tgff_reader.specs.Facts.{TgffValue}
 use Rattle.tgff_reader.specs.Tgff.{later, at_end, tgff_rules, stated, as_seen, value_of}
-use Rattle.tgff_reader.proofs.Deciding.{not_false, not_true}
+use Rattle.file_bricks.proofs.Deciding.{not_false, not_true}
 use Rattle.tgff_reader.proofs.Going.{none_done, line_done, line_refused, file_done, file_refused, open_end}
 use Rattle.tgff_reader.proofs.reading.read_all.Goals as goal
 
