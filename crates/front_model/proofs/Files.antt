@@ -15,7 +15,7 @@ use Rattle.proof_words.proofs.Legal.{lines_are}
 use Rattle.spec_model.specs.Spec.{SpecValue}
 use Rattle.spec_model.proofs.Joined.{All-left}
 use Rattle.encode_model.specs.Block.{cover_frame}
-use Rattle.result_text.specs.Lines.{pieces}
+use Rattle.spelled_lines.specs.Lines.{pieces}
 use Rattle.front_model.specs.declared.refusals.ProofWhy.{ProofWhy}
 use Rattle.front_model.specs.declared.refusals.ProofWhy.TheVariants.{BadStep, NoContradiction}
 use Rattle.front_model.specs.declared.refusals.Refused.{Refused}
@@ -24,13 +24,14 @@ use Rattle.front_model.specs.declared.refusals.Verdict.TheVariants as verdicts
 use Rattle.front_model.specs.Fronts.{vectors_of}
 use Rattle.proof_log.specs.Text.{header, proof_text}
 use Rattle.front_model.specs.Proofs.{MayStand, IsClash, Proves}
-use Rattle.front_model.specs.Files.{each_said, line_in, lines_in}
+use Rattle.proof_log.specs.Files.{each_said, line_in, lines_in}
 use Rattle.front_model.specs.Judging.{Stand, judge_piece, judge_header, Progress, begun, refusal_at, judged, take_line, take_lines, verdict_of}
 use Rattle.front_model.specs.Laws.{JudgedExactly, IsPiece, BeginsReached, ReachesOn, RefusalStays, ReachedIsFront}
 use Rattle.front_model.proofs.Exact.{accepted_is_front}
-use Rattle.front_model.proofs.Words.{first_said, said_cons}
-use Rattle.front_model.proofs.Pieces.{Cut, pieces_join, pieces_cut, cut_each}
-use Rattle.front_model.proofs.Reading.{file_cut, texts_join, read_again}
+use Rattle.proof_log.proofs.Words.{first_said, said_cons}
+use Rattle.proof_log.proofs.Pieces.{Cut, pieces_join, pieces_cut}
+use Rattle.front_model.proofs.Pieces.{cut_each}
+use Rattle.proof_log.proofs.Reading.{file_cut, texts_join, read_again}
 use Rattle.front_model.proofs.Lines.{IsJudged, line_of_piece, piece_judged, legal_judged, clash_judged}
 
 -- ---- after the first line

@@ -2,7 +2,6 @@ pub mod Exact
 pub mod Covers
 pub mod Words
 pub mod Pieces
-pub mod Reading
 pub mod Lines
 pub mod Files
 pub mod Known

@@ -19,16 +19,15 @@ use Rattle.proof_words.specs.Words.{op_of, number_of}
 use Rattle.proof_words.specs.Legal.{IsWritableLine}
 use Rattle.spec_model.specs.Spec.{SpecValue}
 use Rattle.encode_model.specs.Block.{cover_frame}
-use Rattle.result_text.specs.Lines.{words_of}
-use Rattle.result_text.specs.Statements.{is_empty}
+use Rattle.spelled_lines.specs.Lines.{words_of, is_empty}
 use Rattle.front_model.specs.Proofs.{MayCover, MayStand, IsClash}
-use Rattle.front_model.specs.Files.{each_said, is_misshapen, line_said, line_in}
+use Rattle.proof_log.specs.Files.{each_said, is_misshapen, line_said, line_in}
 use Rattle.front_model.specs.declared.refusals.ProofWhy.{ProofWhy}
 use Rattle.front_model.specs.declared.refusals.ProofWhy.TheVariants.{BadStep, CoverAboveWeight, CoverNotDominated}
 use Rattle.front_model.specs.Judging.{judge_derivation, first_above, is_at_most, judge_numbers, judge_cover, Stand, is_clash, after_derived, after_cover, judge_line, judge_piece}
 use Rattle.front_model.proofs.Words.{judged_ops, derives}
 use Rattle.front_model.proofs.Covers.{within_of, of_within, below_of_any, any_of_below}
-use Rattle.front_model.proofs.Reading.{SaysLine, says_derived, says_cover, piece_says, line_writable}
+use Rattle.proof_log.proofs.Reading.{SaysLine, says_derived, says_cover, piece_says, line_writable}
 
 -- what is judged of a line
 abbrev pub judge_said : SpecValue → List (List ℕ) → Given → Line → Result Stand ProofWhy

@@ -10,7 +10,7 @@ use Rattle.spec_model.proofs.Rows.{names, priced}
 use Rattle.encode_model.specs.Encoding.{weighted, has_weight, at_least, encoding, on_resource, option_allocates, resource_has_use}
 use Rattle.encode_model.specs.Block.{total_weight, is_below, below_place, block_of}
 use Rattle.encode_model.proofs.Written.{two_resources}
-use Rattle.result_text.specs.Lines.{pieces}
+use Rattle.spelled_lines.specs.Lines.{pieces}
 use Rattle.result_text.specs.Answers.{EntryValue}
 use Rattle.front_model.specs.Fronts.{Rise, AreApart, IsEntry, IsClaim}
 use Rattle.front_model.specs.declared.refusals.ProofWhy.{ProofWhy}

@@ -10,9 +10,9 @@ use Rattle.pb_rules.specs.Frames.{Given, context_of, base_of, with_derived, with
 use Rattle.proof_words.specs.Words.{op_of, number_of}
 use Rattle.spec_model.specs.Spec.{SpecValue, below}
 use Rattle.encode_model.specs.Block.{total_weight, cover_frame}
-use Rattle.result_text.specs.Lines.{words_of}
+use Rattle.spelled_lines.specs.Lines.{words_of}
 use Rattle.proof_log.specs.Text.{header}
-use Rattle.front_model.specs.Files.{each_said, is_misshapen}
+use Rattle.proof_log.specs.Files.{each_said, is_misshapen}
 use Rattle.front_model.specs.declared.refusals.ProofWhy.{ProofWhy}
 use Rattle.front_model.specs.declared.refusals.ProofWhy.TheVariants.{BadStep, UnknownId, ZeroDivisor, TooLarge, CoverAboveWeight, CoverNotDominated, NoContradiction}
 use Rattle.front_model.specs.declared.refusals.Refused.{Refused}

@@ -1,20 +1,14 @@
--- What accepting means, that lines are judged as it says, and that a log's lines are those of its text.
-use Rattle.std.specs.Prelude.{◌≡◌, ℕ, Bool, ◌+◌, ◌<◌, ◌≤◌, true, Some, List, [], ◌∷◌, ◌++◌, length, All, ◌↔◌}
+-- What accepting means, and that lines are judged as it says.
+use Rattle.std.specs.Prelude.{◌≡◌, ℕ, ◌+◌, ◌<◌, ◌≤◌, true, Some, List, [], ◌∷◌, ◌++◌, length, All, ◌↔◌}
 use Rattle.std.specs.List.{position_or_len, list_any, concat}
 use Rattle.line_words.specs.Front.{is_lf}
-use Rattle.pb_rules.specs.Literal.{Literal}
-use Rattle.pb_rules.specs.Frames.{Line, Frame, Given, given_by}
-use Rattle.proof_words.specs.Legal.{IsWritableLine}
-use Rattle.proof_log.specs.HonestLog.{IsHonestLog}
 use Rattle.block_encode.specs.Laws.{variables_to, KnowsBelow}
 use Rattle.spec_model.specs.Spec.{SpecValue}
 use Rattle.spec_model.specs.WellFormed.{IsWellFormed}
-use Rattle.result_text.specs.Lines.{pieces}
+use Rattle.spelled_lines.specs.Lines.{pieces}
 use Rattle.result_text.specs.Fronts.{FrontValue}
 use Rattle.front_model.specs.Fronts.{vectors_of, IsClaim, IsFrontOf}
-use Rattle.proof_log.specs.Text.{proof_text}
 use Rattle.front_model.specs.Proofs.{Proves, Accepts, AcceptsTexts}
-use Rattle.front_model.specs.Files.{lines_in, IsHonestFile, LinesShow, FileShows}
 use Rattle.front_model.specs.Judging.{Progress, begun, take_line, take_lines, verdict_of}
 use Rattle.front_model.specs.declared.refusals.Refused.{Refused}
 use Rattle.front_model.specs.declared.refusals.Verdict.TheVariants as verdicts
@@ -54,28 +48,6 @@ pub record IsEnded (bytes : List ℕ) : Type 0 where
 -- pieces with their LF are the first ones of each text that begins with what they join to
 abbrev pub EndedAreFirst : Type 0
 EndedAreFirst = (ps : List (List ℕ)) (more : List ℕ) → All IsEnded ps → pieces (concat ps ++ more) ≡ ps ++ pieces more
-
--- ---- the lines of a file
-
--- a text has these lines exactly where it is the one text of them, and they can be written
-pub record IsWritten (ls : List Line) (text : List ℕ) : Type 0 where
-  pub is : text ≡ proof_text ls
-  pub writable : All IsWritableLine ls
-
-abbrev pub ReadExactly : Type 0
-ReadExactly = (ls : List Line) (text : List ℕ) → (lines_in text ≡ Some ls) ↔ IsWritten ls text
-
--- so legal lines are those of the file that they become,
-abbrev pub LegalReadBack : Type 0
-LegalReadBack = (f : Frame) (g : Given) (ls : List Line) → given_by f ls ≡ Some g → lines_in (proof_text ls) ≡ Some ls
-
--- which is honest where they are,
-abbrev pub HonestCarries : Type 0
-HonestCarries = (f : Frame) (ls : List Line) → IsHonestLog f ls → IsHonestFile f (proof_text ls)
-
--- and shows what they show
-abbrev pub ShownCarries : Type 0
-ShownCarries = (f : Frame) (g : Given) (ls : List Line) (order : List Literal) (v : ℕ → Bool) → given_by f ls ≡ Some g → LinesShow f order v ls → FileShows f order v (proof_text ls)
 
 -- ---- taken line by line
 

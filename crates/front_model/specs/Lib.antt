@@ -2,5 +2,4 @@ pub mod Fronts
 pub mod Proofs
 pub mod Faults
 pub mod Judging
-pub mod Files
 pub mod Laws

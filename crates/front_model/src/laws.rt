@@ -1,6 +1,6 @@
 //! What the definitions imply, as functions that do nothing.
 
-ghost use Rattle.front_model.specs.Laws.{AcceptedIsFront, AcceptedTextIsFront, JudgedExactly, CutIsPieces, EndedAreFirst, ReadExactly, LegalReadBack, HonestCarries, ShownCarries, ReachedIsFront, ReachesOn, BeginsReached, RefusalStays, BeginsKnown, StaysKnown};
+ghost use Rattle.front_model.specs.Laws.{AcceptedIsFront, AcceptedTextIsFront, JudgedExactly, CutIsPieces, EndedAreFirst, ReachedIsFront, ReachesOn, BeginsReached, RefusalStays, BeginsKnown, StaysKnown};
 
 /// A front that is accepted with a proof holds exactly the vectors of valid designs that no other dominates, each once
 /// and with a valid design.
@@ -15,15 +15,6 @@ pub fn law_of_judging()
     ensures judged { JudgedExactly }
     ensures cut { CutIsPieces }
     ensures ended { EndedAreFirst }
-{}
-
-/// A line has one text, and the text of a legal line is read as that line. So a log's lines are those of the file that
-/// it becomes: the file is honest where the log is, and shows what the log shows.
-pub fn law_of_files()
-    ensures read { ReadExactly }
-    ensures legal { LegalReadBack }
-    ensures honest { HonestCarries }
-    ensures shown { ShownCarries }
 {}
 
 /// How far a proof was taken, by some pieces: so it is at the start and after each further piece, a refusal stays, and

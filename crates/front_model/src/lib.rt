@@ -2,8 +2,7 @@
 //! accepted front is the front of the specification.
 //!
 //! `specs/Fronts.antt` has what a front claims and what the front of a specification is, `specs/Proofs.antt` which texts
-//! are accepted together, `specs/Judging.antt` how a proof file is judged line by line with its first fault, and
-//! `specs/Files.antt` the lines of a file and what they are worth to its reader.
+//! are accepted together, and `specs/Judging.antt` how a proof file is judged line by line with its first fault.
 #![tactic(auto)]
 
 pub mod laws;

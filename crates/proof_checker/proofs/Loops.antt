@@ -9,12 +9,12 @@ use Rattle.line_words.proofs.Collected.{said}
 use Rattle.pb_rules.specs.Linear.{Linear}
 use Rattle.pb_rules.specs.Operations.{Context, Fault, and_then}
 use Rattle.proof_words.specs.Words.{op_of, number_of}
-use Rattle.result_text.specs.Statements.{is_empty}
+use Rattle.spelled_lines.specs.Lines.{is_empty}
 use Rattle.result_text.specs.Answers.{EntryValue, as_seen}
 use Rattle.result_text.specs.declared.entries.Entry.{Entry}
-use Rattle.result_text.proofs.Saying.{any_said}
+use Rattle.spelled_lines.proofs.Saying.{any_said}
 use Rattle.front_model.specs.Fronts.{vector_in}
-use Rattle.front_model.specs.Files.{onto_said, with_said}
+use Rattle.proof_log.specs.Files.{onto_said, with_said}
 use Rattle.front_model.specs.Judging.{judge_op, judge_words, numbers_of, is_at_most}
 use Rattle.spec_model.specs.Spec.{SpecValue}
 use Rattle.proof_checker.specs.Answers.{StepHalts, AllLong}

@@ -7,14 +7,13 @@ use Rattle.spec_model.specs.Spec.{SpecValue}
 use Rattle.spec_model.specs.Vectors.{IsAtMost}
 use Rattle.result_text.specs.Answers.{EntryValue, as_seen}
 use Rattle.result_text.specs.declared.entries.Entry.{Entry}
-use Rattle.result_text.specs.Fronts.{FrontValue}
+use Rattle.result_text.specs.Fronts.{FrontValue, IsShaped}
 use Rattle.front_model.specs.Fronts.{StandsBefore, Rise, IsClaim, vector_in, vectors_of}
 use Rattle.std.proofs.lemmas.List.Elements.{All-map, All-take}
 use Rattle.front_model.specs.declared.refusals.FrontWhy.{FrontWhy}
 use Rattle.front_model.specs.declared.refusals.FrontWhy.TheVariants.{Invalid, VectorDiffers, NotRising, CoveredBy, Open}
 use Rattle.front_model.specs.Faults.{StandsAfter, IsFine, HasFault, IsFaultAt, FaultOf, earlier}
 use Rattle.proof_checker.specs.Answers.{AllLong}
-use Rattle.result_text.specs.Fronts.{IsShaped}
 use Rattle.proof_checker.specs.Checkers.{vectors_in}
 
 -- the vector of an entry

@@ -6,7 +6,7 @@ use Rattle.std.specs.Str.{IsAscii, IsUtf8}
 use Rattle.std.proofs.lemmas.Bool.Decides.{nat_tests}
 use Rattle.std.proofs.lemmas.Str.{IsUtf8-from_ascii}
 use Rattle.line_words.proofs.Whys.{both}
-use Rattle.names.specs.Names.{IsName, is_name_byte}
+use Rattle.spelled_lines.specs.Lines.{IsWord, is_word_byte}
 use Rattle.pb_rules.specs.declared.Op.{Op}
 use Rattle.pb_rules.specs.declared.Op.TheVariants.{Axiom}
 use Rattle.pb_rules.specs.Literal.{Literal}
@@ -16,21 +16,21 @@ use Rattle.pb_rules.specs.Operations.{Fault, unknown, no_step, if_known}
 use Rattle.block_encode.specs.Laws.{KnowsBelow}
 use Rattle.proof_words.specs.Words.{op_text, op_of, number_of}
 use Rattle.proof_words.proofs.Spellings.{says}
-use Rattle.result_text.proofs.Parsing.{decimal_name}
+use Rattle.spelled_lines.proofs.Decimals.{decimal_word}
 use Rattle.front_model.specs.Judging.{judge_op}
-use Rattle.front_model.proofs.Words.{numeral_text}
-use Rattle.front_model.proofs.Reading.{op_named}
+use Rattle.proof_log.proofs.Words.{numeral_text}
+use Rattle.proof_log.proofs.Reading.{op_named}
 use Rattle.proof_checker.specs.Answers.{context_over}
 
-small_byte : (b : ℕ) → is_name_byte b ≡ true → b < 128
+small_byte : (b : ℕ) → is_word_byte b ≡ true → b < 128
 small_byte b h = grind (arith, nat_tests)
 
-name_ascii : (w : List ℕ) → list_all is_name_byte w ≡ true → IsAscii w
+name_ascii : (w : List ℕ) → list_all is_word_byte w ≡ true → IsAscii w
 name_ascii [] h i = omega arith
-name_ascii (b ∷ w) h zero = small_byte b (both (is_name_byte b) (list_all is_name_byte w) h).0
-name_ascii (b ∷ w) h (suc i) = name_ascii w (both (is_name_byte b) (list_all is_name_byte w) h).1 i
+name_ascii (b ∷ w) h zero = small_byte b (both (is_word_byte b) (list_all is_word_byte w) h).0
+name_ascii (b ∷ w) h (suc i) = name_ascii w (both (is_word_byte b) (list_all is_word_byte w) h).1 i
 
-pub name_text : (w : List ℕ) → IsName w → IsUtf8 w
+pub name_text : (w : List ℕ) → IsWord w → IsUtf8 w
 name_text w h = IsUtf8-from_ascii w (name_ascii w h.bytes)
 
 -- a word that says an operation is text
@@ -47,7 +47,7 @@ number_is_text w bad = go (number_of w) refl
   where
     go : (o : Option ℕ) → number_of w ≡ o → o ≡ None
     go None e = refl
-    go (Some n) e = (let t = numeral_text w n e in absurd (bad (subst IsUtf8 (sym t.0) (name_text _ (decimal_name n t.1)))))
+    go (Some n) e = (let t = numeral_text w n e in absurd (bad (subst IsUtf8 (sym t.0) (name_text _ (decimal_word n t.1)))))
 
 -- an axiom of a variable that isn't there
 pub far_unknown : (cs st : List Linear) (known x : ℕ) (is_yes : Bool) (w : List ℕ) → op_of w ≡ Some (Axiom (record { var = x; yes = is_yes })) → KnowsBelow cs known → known ≤ x → judge_op (context_over cs) st (op_of w) ≡ Err (unknown x)

@@ -4,11 +4,10 @@ ghost use Rattle.std.specs.Prelude.{◌≡◌, ◌<◌, ◌+◌, length, IfSome,
 ghost use Rattle.spec_model.specs.Spec.{bits_of, design_variables};
 ghost use Rattle.spec_model.specs.Vectors.{vector_of, IsAtMost};
 ghost use Rattle.result_text.specs.Answers.{as_seen};
-ghost use Rattle.result_text.specs.Fronts.{front_of};
+ghost use Rattle.result_text.specs.Fronts.{front_of, IsShaped};
 ghost use Rattle.front_model.specs.Fronts.{StandsBefore, IsClaim};
 ghost use Rattle.front_model.specs.Faults.{DifferFirst, StandsAfter, CoversFirst, IsFine, HasFault, IsFirstFault};
 ghost use Rattle.proof_checker.specs.Answers.{AllLong};
-ghost use Rattle.result_text.specs.Fronts.{IsShaped};
 ghost use Rattle.proof_checker.specs.Checkers.{AreShaped, IsApart, vectors_in};
 
 use front_model::{FrontRefused, FrontWhy};

@@ -4,14 +4,12 @@ ghost use Rattle.std.specs.Prelude.{◌≡◌, ◌<◌, ◌≤◌, ◌+◌, ◌^
 ghost use Rattle.std.specs.Str.{bytes_eq};
 ghost use Rattle.std.specs.List.{list_any, position_or_len};
 ghost use Rattle.line_words.specs.Front.{is_lf};
-ghost use Rattle.result_text.specs.Lines.{lacks_lf, words_of};
-ghost use Rattle.result_text.specs.Statements.{is_empty};
-ghost use Rattle.block_encode.specs.Laws.{variables_to};
+ghost use Rattle.spelled_lines.specs.Lines.{lacks_lf, words_of, is_empty};
+ghost use Rattle.block_encode.specs.Laws.{variables_to, KnowsBelow};
 ghost use Rattle.result_text.specs.Fronts.{front_of};
 ghost use Rattle.front_model.specs.Fronts.{vectors_of};
-ghost use Rattle.front_model.specs.Files.{is_misshapen};
+ghost use Rattle.proof_log.specs.Files.{is_misshapen};
 ghost use Rattle.front_model.specs.Judging.{is_clash, judge_derivation, after_derived, judge_line, judge_piece, judge_next};
-ghost use Rattle.block_encode.specs.Laws.{KnowsBelow};
 ghost use Rattle.proof_checker.specs.Answers.{AllLong, context_over};
 ghost use Rattle.proof_checker.specs.Takings.{given_of, GivesTaken, GivesBlock};
 
@@ -23,6 +21,7 @@ use front_model::ProofWhy;
 use pb_constraints::Constraint;
 use result_text::Front;
 use spec_graph::Spec;
+use spelled_lines::{body_of, lacks_lf};
 use std::alloc::{AllocError, Global};
 
 /// What a line gives.
@@ -33,20 +32,11 @@ pub(crate) enum Taken {
     Block(Vec<Constraint>),
 }
 
-/// How many bytes stand in front of the first LF.
-fn len_before_lf(bytes: &[u8]) -> usize
-    ensures value { result ≡ position_or_len is_lf bytes.now }
-    ensures within { result ≤ length bytes.now }
-{
-    bytes.iter().take_while(|byte| **byte != b'\n').count()
-}
-
 /// The words of a line, each between two spaces or an end.
 fn words_of(alloc: Global, piece: &[u8]) -> Result<Vec<&[u8]>, AllocError>
     ensures { IfOk result (λ v. map (λ w. w.now) v.items ≡ words_of piece.now) }
 {
-    let body = &piece[..len_before_lf(piece)];
-    body.split(|byte| *byte == b' ').collect(alloc)
+    body_of(piece).split(|byte| *byte == b' ').collect(alloc)
 }
 
 /// Whether a word is one letter.
@@ -150,7 +140,7 @@ fn judge_piece(
     requires known { KnowsBelow given.now (variables_to spec.now covers) }
     ensures { GivesTaken (given_of given.now covers) (judge_piece spec.now (vectors_of (front_of front.now)) (given_of given.now covers) piece.now) result }
 {
-    if len_before_lf(piece) == piece.len() {
+    if lacks_lf(piece) {
         return Err(Halt::Why(ProofWhy::BadStep));
     }
     let words = words_of(alloc, piece)?;

@@ -17,6 +17,7 @@ ghost use Rattle.proof_log.specs.Log.{LogValue, next_id};
 ghost use Rattle.proof_words.specs.Lines.{line_text};
 ghost use Rattle.proof_log.specs.HonestLog.{AreHonestLines};
 ghost use Rattle.proof_log.specs.Text.{line_at, TextBegins, TextGoesOn};
+ghost use Rattle.proof_log.specs.Files.{ReadExactly, LegalReadBack, HonestCarries, ShownCarries};
 
 pub use pb_rules::Op;
 use proof_words::{put_cover, put_derivation};
@@ -70,6 +71,15 @@ pub fn law_of_honest()
 pub fn law_of_text()
     ensures begins { TextBegins }
     ensures goes_on { TextGoesOn }
+{}
+
+/// A line has one text, and the text of a legal line is read as that line. So a log's lines are those of the file that
+/// it becomes: the file is honest where the log is, and shows what the log shows.
+pub fn law_of_files()
+    ensures read { ReadExactly }
+    ensures legal { LegalReadBack }
+    ensures honest { HonestCarries }
+    ensures shown { ShownCarries }
 {}
 
 impl Log {

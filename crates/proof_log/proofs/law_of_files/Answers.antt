@@ -1,5 +1,5 @@
-use Rattle.front_model.proofs.Reading.{read_exactly, legal_read_back, honest_carries, shown_carries}
-use Rattle.front_model.proofs.laws.law_of_files.Goals as goal
+use Rattle.proof_log.proofs.Reading.{read_exactly, legal_read_back, honest_carries, shown_carries}
+use Rattle.proof_log.proofs.law_of_files.Goals as goal
 
 pub returns-clause-read : goal.returns-clause-read
 returns-clause-read c = read_exactly

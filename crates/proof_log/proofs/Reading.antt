@@ -6,27 +6,22 @@ use Rattle.std.specs.Str.{bytes_eq}
 use Rattle.std.proofs.lemmas.List.Elements.{All-head, All-tail}
 use Rattle.std.proofs.lemmas.Slice.Eq.{bytes_eq-Decides}
 use Rattle.line_words.specs.Rules.{Words}
-use Rattle.line_words.specs.declared.refusals.Why.TheVariants as whys
-use Rattle.names.specs.Names.{IsName}
 use Rattle.pb_rules.specs.declared.Op.{Op}
 use Rattle.pb_rules.specs.declared.Op.TheVariants.{Id, Axiom, Add, Times, Divide, Saturate, Weaken}
 use Rattle.pb_rules.specs.Frames.{Line, derived, cover, base_of}
 use Rattle.proof_words.specs.Words.{op_text, op_of, number_of, IsWritable}
-use Rattle.proof_words.specs.Lines.{spelled, line_text, derivation_words, cover_words}
+use Rattle.proof_words.specs.Lines.{line_text, derivation_words, cover_words}
 use Rattle.proof_words.specs.Legal.{IsWritableLine}
 use Rattle.proof_words.proofs.Spellings.{read_back}
 use Rattle.proof_words.proofs.Legal.{lines_are}
-use Rattle.result_text.specs.Lines.{pieces, lacks_lf, words_of, is_bad}
-use Rattle.result_text.specs.Statements.{is_empty}
-use Rattle.result_text.proofs.FirstPiece.{pieces-nil}
-use Rattle.result_text.proofs.Parsing.{decimal_name}
-use Rattle.result_text.proofs.Rewriting.{none_of}
-use Rattle.result_text.proofs.Spelled.{AreNames, none_empty, spelled_is}
+use Rattle.spelled_lines.specs.Lines.{pieces, lacks_lf, words_of, is_empty, spelled, IsWord}
+use Rattle.spelled_lines.proofs.FirstPiece.{pieces-nil}
+use Rattle.spelled_lines.proofs.Decimals.{decimal_word}
+use Rattle.spelled_lines.proofs.Spelled.{AreWords, none_empty, spelled_is}
 use Rattle.proof_log.specs.Text.{header, proof_text}
-use Rattle.front_model.specs.Files.{each_said, line_said, line_in, after_header, lines_in}
-use Rattle.front_model.specs.Laws.{IsWritten, ReadExactly, LegalReadBack, HonestCarries, ShownCarries}
-use Rattle.front_model.proofs.Words.{first_said, said_back, said_each, said_texts, op_text_of, numbers_text, numbers_back}
-use Rattle.front_model.proofs.Pieces.{Cut, pieces_cut, pieces_join, joined_words}
+use Rattle.proof_log.specs.Files.{each_said, line_said, line_in, after_header, lines_in, IsWritten, ReadExactly, LegalReadBack, HonestCarries, ShownCarries}
+use Rattle.proof_log.proofs.Words.{first_said, said_back, said_each, said_texts, op_text_of, numbers_text, numbers_back}
+use Rattle.proof_log.proofs.Pieces.{Cut, pieces_cut, pieces_join, joined_words}
 
 -- ---- what a line says
 
@@ -113,31 +108,29 @@ lines_writable ps ls e = said_each line_in IsWritableLine line_writable ps ls e
 
 -- ---- the text of a line
 
-pub op_named : (op : Op) → IsWritable op → IsName (op_text op)
-op_named (Id i) h = decimal_name i h
+pub op_named : (op : Op) → IsWritable op → IsWord (op_text op)
+op_named (Id i) h = decimal_word i h
 op_named (Axiom l) h = of_sign l.yes
   where
-    of_sign : (b : Bool) → IsName (cond b (codes "x" ++ decimal l.var) (codes "~x" ++ decimal l.var))
-    of_sign true = record { some = omega arith; bytes = (decimal_name l.var h).bytes }
-    of_sign false = record { some = omega arith; bytes = (decimal_name l.var h).bytes }
+    of_sign : (b : Bool) → IsWord (cond b (codes "x" ++ decimal l.var) (codes "~x" ++ decimal l.var))
+    of_sign true = record { some = omega arith; bytes = (decimal_word l.var h).bytes }
+    of_sign false = record { some = omega arith; bytes = (decimal_word l.var h).bytes }
 op_named Add h = record { some = omega arith; bytes = refl }
-op_named (Times n) h = record { some = omega arith; bytes = (decimal_name n h.1).bytes }
-op_named (Divide n) h = record { some = omega arith; bytes = (decimal_name n h).bytes }
+op_named (Times n) h = record { some = omega arith; bytes = (decimal_word n h.1).bytes }
+op_named (Divide n) h = record { some = omega arith; bytes = (decimal_word n h).bytes }
 op_named Saturate h = record { some = omega arith; bytes = refl }
-op_named (Weaken x) h = record { some = omega arith; bytes = (decimal_name x h).bytes }
+op_named (Weaken x) h = record { some = omega arith; bytes = (decimal_word x h).bytes }
 
-each_named : {X : Type 0} (write : X → List ℕ) (P : X → Type 0) → ((x : X) → P x → IsName (write x)) → (xs : List X) → All P xs → AreNames (map write xs)
+each_named : {X : Type 0} (write : X → List ℕ) (P : X → Type 0) → ((x : X) → P x → IsWord (write x)) → (xs : List X) → All P xs → AreWords (map write xs)
 each_named write P one [] h = tt
 each_named write P one (x ∷ xs) h = (one x (All-head P x xs h), each_named write P one xs (All-tail P x xs h))
 
 -- a spelled line says what its words say
-spelled_said : (w : List ℕ) (ws : Words) → AreNames (w ∷ ws) → line_in (spelled (w ∷ ws)) ≡ line_said (w ∷ ws)
+spelled_said : (w : List ℕ) (ws : Words) → AreWords (w ∷ ws) → line_in (spelled (w ∷ ws)) ≡ line_said (w ∷ ws)
 spelled_said w ws h =
     let x = spelled_is w ws h in
     let t : List ℕ = spelled (w ∷ ws) in
-    let a = none_of (whys.BadByte, list_any is_bad t) ((whys.BadStatement, lacks_lf t) ∷ []) x.fine in
-    let b = none_of (whys.BadStatement, lacks_lf t) [] a.1 in
-    ap (λ (m : Bool). cond (m || list_any is_empty (words_of t)) None (line_said (words_of t))) b.0
+    ap (λ (m : Bool). cond (m || list_any is_empty (words_of t)) None (line_said (words_of t))) x.ended
     ∙ (ap (λ (vs : Words). cond (list_any is_empty vs) None (line_said vs)) x.words ∙ ap (λ (m : Bool). cond m None (line_said (w ∷ ws))) (none_empty (w ∷ ws) h))
 
 -- the text of a line that can be written stands first in a text, and says the line
@@ -147,13 +140,13 @@ pub record IsLineText (l : Line) : Type 0 where
 
 pub text_of_line : (l : Line) → IsWritableLine l → IsLineText l
 text_of_line (derived ops) h =
-    let named : AreNames (derivation_words ops) = (record { some = omega arith; bytes = refl }, each_named op_text IsWritable op_named ops h) in
+    let named : AreWords (derivation_words ops) = (record { some = omega arith; bytes = refl }, each_named op_text IsWritable op_named ops h) in
     record {
       first = (spelled_is (codes "p") (map op_text ops) named).first;
       said = spelled_said (codes "p") (map op_text ops) named ∙ ap (option_map derived) (said_back op_text op_of IsWritable read_back ops h);
     }
 text_of_line (cover v) h =
-    let named : AreNames (cover_words v) = (record { some = omega arith; bytes = refl }, each_named decimal (λ n. n < 2 ^ 63) decimal_name v h) in
+    let named : AreWords (cover_words v) = (record { some = omega arith; bytes = refl }, each_named decimal (λ n. n < 2 ^ 63) decimal_word v h) in
     record {
       first = (spelled_is (codes "c") (map decimal v) named).first;
       said = spelled_said (codes "c") (map decimal v) named ∙ ap (option_map cover) (numbers_back v h);

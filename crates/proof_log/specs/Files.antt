@@ -1,16 +1,16 @@
 -- The lines of a proof file, and what is said of them. A line's operations or numbers have one text, so that what a log's lines are worth is what those of the file are worth that it becomes.
-use Rattle.std.specs.Prelude.{◌≡◌, ℕ, Bool, ◌||◌, if◌then◌else◌, List, [], ◌∷◌, ◌++◌, Option, Some, None, option_map, codes}
+use Rattle.std.specs.Prelude.{◌≡◌, ◌↔◌, ℕ, Bool, ◌||◌, if◌then◌else◌, List, [], ◌∷◌, ◌++◌, All, Option, Some, None, option_map, codes}
 use Rattle.std.specs.List.{list_any}
 use Rattle.std.specs.Str.{bytes_eq}
 use Rattle.line_words.specs.Rules.{Words}
+use Rattle.spelled_lines.specs.Lines.{pieces, lacks_lf, words_of, is_empty}
 use Rattle.pb_rules.specs.Literal.{Literal}
 use Rattle.pb_rules.specs.Frames.{Line, derived, cover, Frame, Given, given_by, derived_by}
 use Rattle.pb_rules.specs.Order.{ShowsFirst}
-use Rattle.proof_log.specs.HonestLog.{IsHonestLog}
 use Rattle.proof_words.specs.Words.{op_of, number_of}
-use Rattle.result_text.specs.Lines.{pieces, lacks_lf, words_of}
-use Rattle.result_text.specs.Statements.{is_empty}
-use Rattle.proof_log.specs.Text.{header}
+use Rattle.proof_words.specs.Legal.{IsWritableLine}
+use Rattle.proof_log.specs.HonestLog.{IsHonestLog}
+use Rattle.proof_log.specs.Text.{header, proof_text}
 
 -- something in front of more
 abbrev pub onto_said : {X : Type 0} → X → Option (List X) → Option (List X)
@@ -76,3 +76,25 @@ LinesShow f order v ls = ShowsFirst (f.base ++ derived_by f ls) order v
 -- a file shows that an assignment is the first
 abbrev pub FileShows : Frame → List Literal → (ℕ → Bool) → List ℕ → Type 0
 FileShows f order v text = OfFile (LinesShow f order v) text
+
+-- ---- laws
+
+-- a text has these lines exactly where it is the one text of them, and they can be written
+pub record IsWritten (ls : List Line) (text : List ℕ) : Type 0 where
+  pub is : text ≡ proof_text ls
+  pub writable : All IsWritableLine ls
+
+abbrev pub ReadExactly : Type 0
+ReadExactly = (ls : List Line) (text : List ℕ) → (lines_in text ≡ Some ls) ↔ IsWritten ls text
+
+-- so legal lines are those of the file that they become,
+abbrev pub LegalReadBack : Type 0
+LegalReadBack = (f : Frame) (g : Given) (ls : List Line) → given_by f ls ≡ Some g → lines_in (proof_text ls) ≡ Some ls
+
+-- which is honest where they are,
+abbrev pub HonestCarries : Type 0
+HonestCarries = (f : Frame) (ls : List Line) → IsHonestLog f ls → IsHonestFile f (proof_text ls)
+
+-- and shows what they show
+abbrev pub ShownCarries : Type 0
+ShownCarries = (f : Frame) (g : Given) (ls : List Line) (order : List Literal) (v : ℕ → Bool) → given_by f ls ≡ Some g → LinesShow f order v ls → FileShows f order v (proof_text ls)
