@@ -2,9 +2,10 @@
 use Rattle.std.proofs.Common.{◌≡◌, ℕ, zero, suc, ◌<◌, Bool, true, false, List, [], ◌∷◌, ◌++◌, replicate, refl, ap, arith}
 use Rattle.std.specs.Prelude.{codes, slice_index}
 use Rattle.std.proofs.lemmas.Bool.{false≢true}
+use Rattle.std.proofs.lemmas.List.Elements.{All-cons, All-nil}
 use Rattle.line_words.specs.Numbers.{plain_whole_of, whole_of}
-use Rattle.spec_model.specs.Spec.{SpecValue, empty_spec, all_variables}
-use Rattle.spec_model.specs.Rules.{of_task}
+use Rattle.spec_model.specs.Spec.{SpecValue, Bits, bits_of, empty_spec, all_variables}
+use Rattle.spec_model.specs.Rules.{of_task, IsValid}
 use Rattle.spec_model.specs.Vectors.{vector_at, arc_weight, weights_of, IsAtMost}
 use Rattle.spec_model.proofs.Rows.{names, priced}
 use Rattle.encode_model.specs.Encoding.{weighted, has_weight, at_least, encoding, on_resource, option_allocates, resource_has_use}
@@ -12,7 +13,10 @@ use Rattle.encode_model.specs.Block.{total_weight, is_below, below_place, block_
 use Rattle.encode_model.proofs.Written.{two_resources}
 use Rattle.spelled_lines.specs.Lines.{pieces}
 use Rattle.result_text.specs.Answers.{EntryValue}
+use Rattle.result_text.specs.Fronts.{FrontValue}
 use Rattle.front_model.specs.Fronts.{Rise, AreApart, IsEntry, IsClaim}
+use Rattle.front_model.specs.Proofs.{Accepts}
+use Rattle.front_model.proofs.Files.{judged_exactly}
 use Rattle.front_model.specs.declared.refusals.ProofWhy.{ProofWhy}
 use Rattle.front_model.specs.declared.refusals.ProofWhy.TheVariants.{BadStep, UnknownId, ZeroDivisor, TooLarge, CoverAboveWeight, CoverNotDominated, NoContradiction}
 use Rattle.front_model.specs.declared.refusals.Verdict.{Verdict}
@@ -219,3 +223,47 @@ unfolding of_task
 unbound h =
     let b : 0 ≡ 1 = h.valid.routed.bound_once 0 (omega arith) in
     absurd (omega (arith, b))
+
+-- ---- a front and a proof that are accepted together
+
+-- with nothing to choose the empty design is the only one, and its vector is (0)
+abbrev nothing_chosen : FrontValue
+nothing_chosen = record { entries = entry [] (0 ∷ []) ∷ []; complete = true }
+
+abbrev no_bits : Bits
+no_bits = bits_of []
+
+none_below : {X : Type 0} (n : ℕ) → n < 0 → X
+none_below n l = absurd (omega (arith, l))
+
+valid_costless : IsValid costless no_bits
+valid_costless = record {
+  routed = record {
+    bound_once = λ t l. none_below t l;
+    no_arc_into_sender = λ m a l. none_below m l;
+    one_arc_into = λ m r l. none_below m l;
+    has_walk = λ m a l. none_below m l;
+    no_dangling = λ m a l. none_below m l;
+    resource_use = λ r l. none_below r l;
+    link_use = λ r l. none_below r l;
+  };
+  reached = λ m w r l. none_below m l;
+}
+
+entry_costless : IsEntry costless (entry [] (0 ∷ []))
+unfolding vector_at weights_of arc_weight
+entry_costless = record { valid = valid_costless; stated = refl }
+
+alone : (j : ℕ) → j < 1 → j ≡ 0
+alone j l = omega (arith, l)
+
+claim_costless : IsClaim costless nothing_chosen
+claim_costless = record {
+  entries = All-cons (IsEntry costless) (entry [] (0 ∷ [])) [] entry_costless (All-nil (IsEntry costless));
+  rising = λ i j d l h. absurd (omega (arith, l, alone j h));
+  apart = λ i j d h k n. absurd (n (omega (arith, alone i h, alone j k)));
+  complete = refl;
+}
+
+both_accepted : Accepts costless nothing_chosen (proof (codes "c 0" ∷ codes "p 1 2 +" ∷ []))
+both_accepted = record { claim = claim_costless; proof = (judged_exactly costless zero_front (proof (codes "c 0" ∷ codes "p 1 2 +" ∷ []))).0 cover_and_sum }
