@@ -59,7 +59,7 @@ own_known s b j v l =
     ap (λ (t : Bool). cond t true (any_mentions (map (below_place s b v) (below (length v))) x)) (at_least-mentions x 1 (map (is_below s b) (below (length s.objectives))) has)
 
 -- one block more
-block_known : (s : SpecValue) (b : ℕ) (v : List ℕ) (cs : List Linear) → length v ≡ length s.objectives → KnowsBelow cs (variables_to s b) → KnowsBelow (cs ++ block_of s (b + 1) v) (variables_to s (b + 1))
+pub block_known : (s : SpecValue) (b : ℕ) (v : List ℕ) (cs : List Linear) → length v ≡ length s.objectives → KnowsBelow cs (variables_to s b) → KnowsBelow (cs ++ block_of s (b + 1) v) (variables_to s (b + 1))
 block_known s b v cs long h x = any_mentions-append x cs (block_of s (b + 1) v) ∙ (ap (λ (t : Bool). cond t true (any_mentions (block_of s (b + 1) v) x)) (h x) ∙ at (cases_lt x (variables_to s b)) (cases_lt x (variables_to s (b + 1))))
   where
     at : (x < variables_to s b) ⊎ (variables_to s b ≤ x) → (x < variables_to s (b + 1)) ⊎ (variables_to s (b + 1) ≤ x) → cond (ltb x (variables_to s b)) true (any_mentions (block_of s (b + 1) v) x) ≡ ltb x (variables_to s (b + 1))

@@ -1,2 +1,4 @@
 pub mod Log
 pub mod HonestLog
+pub mod Text
+pub mod Files

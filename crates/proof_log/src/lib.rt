@@ -14,9 +14,13 @@ ghost use Rattle.pb_rules.specs.Operations.{line_gives};
 ghost use Rattle.pb_rules.specs.Honest.{IsUnabsorbed};
 ghost use Rattle.pb_rules.specs.Frames.{Line, derived, cover, derived_count, Frame, IsFrame, FitsFrom, Given, context_of, given_from, given_by, derived_from};
 ghost use Rattle.proof_log.specs.Log.{LogValue, next_id};
+ghost use Rattle.proof_words.specs.Lines.{line_text};
 ghost use Rattle.proof_log.specs.HonestLog.{AreHonestLines};
+ghost use Rattle.proof_log.specs.Text.{line_at, TextBegins, TextGoesOn};
+ghost use Rattle.proof_log.specs.Files.{ReadExactly, LegalReadBack, HonestCarries, ShownCarries};
 
 pub use pb_rules::Op;
+use proof_words::{put_cover, put_derivation};
 use std::alloc::{AllocError, Global};
 use std::marker::Model;
 
@@ -61,6 +65,21 @@ pub fn law_of_honest()
     ensures none { (f : Frame) (g : Given) (base : List Linear) → AreHonestLines f g base [] }
     ensures one_more { (f : Frame) (g h : Given) (base : List Linear) (ls : List Line) (ops : List Op) (c : Linear) → AreHonestLines f g base ls → given_from f g ls ≡ Some h → line_gives (context_of h) ops ≡ Ok c → IsClause c → IsUnabsorbed (base ++ derived_from f g ls) c → AreHonestLines f g base (ls ++ derived ops ∷ []) }
     ensures part { (f : Frame) (g : Given) (cs ds : List Linear) (ls : List Line) → AreAmong cs ds → AreHonestLines f g ds ls → AreHonestLines f g cs ls }
+{}
+
+/// The text of a proof file is its first line and the texts of the log's lines, one after another.
+pub fn law_of_text()
+    ensures begins { TextBegins }
+    ensures goes_on { TextGoesOn }
+{}
+
+/// A line has one text, and the text of a legal line is read as that line. So a log's lines are those of the file that
+/// it becomes: the file is honest where the log is, and shows what the log shows.
+pub fn law_of_files()
+    ensures read { ReadExactly }
+    ensures legal { LegalReadBack }
+    ensures honest { HonestCarries }
+    ensures shown { ShownCarries }
 {}
 
 impl Log {
@@ -130,5 +149,18 @@ impl Log {
         ensures { result ≡ length self.now.lines }
     {
         self.steps.len()
+    }
+
+    /// Appends the text of the line at place `i`, from 0, with its LF. It is refused only for want of memory; then `out` is
+    /// as before.
+    pub fn step_text(&self, alloc: Global, i: usize, out: &mut Vec<u8>) -> Result<(), AllocError>
+        requires { i < length self.now.lines }
+        ensures ok { OnOk result (out.new.items ≡ out.old.items ++ line_text (line_at self.now.lines i)) }
+        ensures err { OnErr result (out.new.items ≡ out.old.items) }
+    {
+        match &self.steps[i] {
+            Step::Derived(ops) => put_derivation(alloc, out, ops),
+            Step::Cover(v) => put_cover(alloc, out, v),
+        }
     }
 }

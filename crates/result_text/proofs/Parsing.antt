@@ -22,18 +22,7 @@ use Rattle.result_text.proofs.ItemWords.{kind_of, item_option, use_is, alloc_is,
 use Rattle.result_text.proofs.Numbering.{number_of_name, known_name, place_of_arc}
 use Rattle.spelled_lines.specs.Lines.{is_word_byte, IsWord}
 use Rattle.spelled_lines.proofs.Spelled.{AreWords}
-
--- ---- numbers as words
-
-digit_word_byte : (b : ℕ) → is_ascii_digit b ≡ true → is_word_byte b ≡ true
-digit_word_byte b h = grind (arith, nat_tests, h)
-
-digit_bytes : (w : List ℕ) → list_all is_ascii_digit w ≡ true → list_all is_word_byte w ≡ true
-digit_bytes [] h = refl
-digit_bytes (b ∷ w) h = let p = both (is_ascii_digit b) (list_all is_ascii_digit w) h in rw (digit_word_byte b p.0) (digit_bytes w p.1)
-
-pub decimal_word : (n : ℕ) → n < 2 ^ 63 → IsWord (decimal n)
-decimal_word n lt = record { some = decimal_nonempty n (omega (arith, lt)); bytes = digit_bytes (decimal n) (digits_decimal own n (omega (arith, lt))) }
+pub use Rattle.spelled_lines.proofs.Decimals.{decimal_word}
 
 -- ---- items
 

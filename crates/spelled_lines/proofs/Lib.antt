@@ -4,3 +4,4 @@ pub mod Spelled
 pub mod Ended
 pub mod Joining
 pub mod Over
+pub mod Decimals

@@ -1,0 +1,60 @@
+//! A derived line.
+
+ghost use Rattle.std.specs.Prelude.{◌≡◌, ◌<◌, ◌≤◌, ◌^◌, [], map};
+ghost use Rattle.pb_rules.specs.Operations.{only_one};
+ghost use Rattle.block_encode.specs.Laws.{KnowsBelow};
+ghost use Rattle.front_model.specs.Judging.{judge_words, judge_derivation};
+ghost use Rattle.proof_checker.specs.Answers.{context_over, StepGives};
+
+use crate::faults::StepFault;
+use crate::operations::take_word;
+use crate::stack::Stack;
+use pb_constraints::Constraint;
+use std::alloc::Global;
+
+/// Carries out words from left to right, over an empty stack.
+fn take_words(
+    alloc: Global,
+    given: &[Constraint],
+    known: u64,
+    words: &[&[u8]],
+) -> Result<Stack, StepFault>
+    requires few { known ≤ 2 ^ 62 }
+    requires known { KnowsBelow given.now known }
+    ensures { StepGives (judge_words (context_over given.now) (map (λ w. w.now) words.now) []) result }
+{
+    let mut stack = Stack::new(alloc);
+    for word in words {
+        take_word(alloc, given, known, &mut stack, word)?;
+    }
+    Ok(stack)
+}
+
+/// The one constraint that is left.
+fn only_one(stack: Stack) -> Result<Constraint, StepFault>
+    ensures { StepGives (only_one stack) result }
+{
+    let mut stack = stack;
+    let Some(constraint) = stack.pop() else {
+        return Err(StepFault::NoStep);
+    };
+    if stack.pop().is_some() {
+        return Err(StepFault::NoStep);
+    }
+    Ok(constraint)
+}
+
+/// The constraint that a line's words derive.
+pub(crate) fn derive(
+    alloc: Global,
+    given: &[Constraint],
+    known: u64,
+    words: &[&[u8]],
+) -> Result<Constraint, StepFault>
+    requires few { known ≤ 2 ^ 62 }
+    requires known { KnowsBelow given.now known }
+    ensures { StepGives (judge_derivation (context_over given.now) (map (λ w. w.now) words.now)) result }
+{
+    let stack = take_words(alloc, given, known, words)?;
+    only_one(stack)
+}
