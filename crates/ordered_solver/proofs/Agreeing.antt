@@ -1,8 +1,8 @@
 -- Frames that agree with a solver: what a search says of them, and how given constraints are numbered.
-use Rattle.std.proofs.Common.{◌≡◌, ℕ, ◌+◌, ◌-◌, ◌<◌, ◌^◌, Bool, true, Some, List, [], ◌∷◌, ◌++◌, length, get_or, take, map, refl, sym, ap, ◌∙◌, subst, arith, zero, suc, append_assoc}
+use Rattle.std.proofs.Common.{◌≡◌, ℕ, ◌+◌, ◌<◌, ◌^◌, Bool, true, Some, List, [], ◌∷◌, ◌++◌, length, get_or, map, refl, sym, ap, ◌∙◌, subst, arith, zero, suc, append_assoc}
 use Rattle.std.specs.Prelude.{All}
 use Rattle.std.specs.List.{list_all}
-use Rattle.std.proofs.lemmas.List.{take_more, map-append, get_or-map, length-map, length-take, length_push}
+use Rattle.std.proofs.lemmas.List.{map-append, get_or-map, length-map, length_push}
 use Rattle.std.proofs.lemmas.List.Elements.{All-push}
 use Rattle.pb_rules.specs.Literal.{Literal}
 use Rattle.pb_rules.specs.Linear.{Linear}
@@ -70,12 +70,10 @@ numbered-push id (d ∷ cs) c =
     ap (λ (xs : List Content). record { constraint = d; proof_id = id } ∷ xs) rest
 
 -- one constraint more under the next id
-pub numbered-more : (cs : List Linear) (i : ℕ) (live : List Live) (x : Live) → i < length cs → x.constraint ≡ get_or cs i x.constraint → x.proof_id ≡ i + 1 → map content live ≡ numbered 1 (take i cs) → map content (live ++ x ∷ []) ≡ numbered 1 (take (i + 1) cs)
-numbered-more cs i live x l read id e =
-    let len = length-take i cs in
-    let t : take (i + 1) cs ≡ take i cs ++ x.constraint ∷ [] = take_more cs i x.constraint l ∙ ap (λ (c : Linear). take i cs ++ c ∷ []) (sym read) in
-    let n : 1 + length (take i cs) ≡ x.proof_id = omega arith in
-    map-append content live (x ∷ []) ∙ ap (λ (xs : List Content). xs ++ content x ∷ []) e ∙ sym (ap (numbered 1) t ∙ numbered-push 1 (take i cs) x.constraint ∙ ap (λ m. numbered 1 (take i cs) ++ record { constraint = x.constraint; proof_id = m } ∷ []) n)
+pub numbered-last : (cs : List Linear) (live : List Live) (x : Live) → x.proof_id ≡ length cs + 1 → map content live ≡ numbered 1 cs → map content (live ++ x ∷ []) ≡ numbered 1 (cs ++ x.constraint ∷ [])
+numbered-last cs live x id e =
+    let n : 1 + length cs ≡ x.proof_id = omega arith in
+    map-append content live (x ∷ []) ∙ ap (λ (xs : List Content). xs ++ content x ∷ []) e ∙ sym (numbered-push 1 cs x.constraint ∙ ap (λ m. numbered 1 cs ++ record { constraint = x.constraint; proof_id = m } ∷ []) n)
 
 -- constraints alone, given by no line
 abbrev only : List Linear → Given

@@ -60,13 +60,13 @@ impl Engine {
     }
 
     /// Adds constraints under the proof's ids 1, 2 and so on.
-    pub fn load(&mut self, constraints: &[Constraint]) -> Result<(), AllocError>
+    pub fn load(&mut self, constraints: Vec<Constraint>) -> Result<(), AllocError>
         requires idle { IsIdle self.old.store self.old.propagator self.old.trail self.old.learned.items }
         requires empty { self.old.store ≡ [] }
-        requires in_range { All (IsBelow self.old.trail.variables) constraints.now }
-        requires few { length constraints.now < 2 ^ 62 }
+        requires in_range { All (IsBelow self.old.trail.variables) constraints.items }
+        requires few { length constraints.items < 2 ^ 62 }
         ensures idle { OnOk result (IsIdle self.new.store self.new.propagator self.new.trail self.new.learned.items) }
-        ensures given { OnOk result (map content self.new.store ≡ numbered 1 constraints.now) }
+        ensures given { OnOk result (map content self.new.store ≡ numbered 1 constraints.items) }
         ensures variables { self.new.trail.variables ≡ self.old.trail.variables }
         ensures log { self.new.log ≡ self.old.log }
     {
@@ -79,12 +79,12 @@ impl Engine {
     }
 
     /// Adds a constraint last and attaches it.
-    pub fn add(&mut self, c: &Constraint, proof_id: u64) -> Result<ConId, AllocError>
+    pub fn add(&mut self, c: Constraint, proof_id: u64) -> Result<ConId, AllocError>
         requires loaded { IsLoaded self.old.store self.old.propagator self.old.trail }
-        requires in_range { VarsBelow self.old.trail.variables c.now.terms }
-        ensures added { IfOk result (λ id. self.new.store ≡ self.old.store ++ record { id = id; constraint = c.now; proof_id = proof_id } ∷ []) }
+        requires in_range { VarsBelow self.old.trail.variables c.terms }
+        ensures added { IfOk result (λ id. self.new.store ≡ self.old.store ++ record { id = id; constraint = c; proof_id = proof_id } ∷ []) }
         ensures fresh { IfOk result (λ id. is_live self.old.store id ≡ false) }
-        ensures attached { IfOk result (λ id. ChangesOnly self.old.propagator.attached self.new.propagator.attached id (Some c.now)) }
+        ensures attached { IfOk result (λ id. ChangesOnly self.old.propagator.attached self.new.propagator.attached id (Some c)) }
         ensures loaded { OnOk result (IsLoaded self.new.store self.new.propagator self.new.trail) }
         ensures trail { self.new.trail ≡ self.old.trail }
         ensures log { self.new.log ≡ self.old.log }

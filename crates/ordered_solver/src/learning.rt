@@ -52,7 +52,7 @@ impl Engine {
         self.trail.jump_back(lesson.back_level);
         self.propagator.back(&self.trail);
         let lit = unassigned_literal(&lesson.clause, &self.trail);
-        let id = self.add(&lesson.clause, lesson.proof_id)?;
+        let id = self.add(lesson.clause, lesson.proof_id)?;
         self.trail.push(lit, id);
         self.learned.push(id)?;
         Ok(id)

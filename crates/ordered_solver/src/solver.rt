@@ -49,12 +49,13 @@ impl Solver {
         ensures ok { IfOk result (λ s. s ≡ record { variables = set.variables; given = numbered 1 set.constraints; log = record { first = length set.constraints + 1; lines = [] }; spent = false }) }
         ensures few { OnOk result (length set.constraints + 1 < 2 ^ 62) }
     {
-        let constraints = set.constraints();
+        let variables = set.variables();
+        let constraints = set.into_constraints();
         let first_id = constraints.len() as u64 + 1;
         if first_id >= 1 << 62 {
             return Err(AllocError);
         }
-        let mut engine = Engine::new(alloc, set.variables(), first_id)?;
+        let mut engine = Engine::new(alloc, variables, first_id)?;
         engine.load(constraints)?;
         Ok(Solver {
             engine,
@@ -78,7 +79,7 @@ impl Solver {
         Ok(())
     }
 
-    /// Adds a constraint that the proof has under an id.
+    /// Adds a copy of a constraint, which the proof has under an id.
     pub fn add_constraint(&mut self, c: &Constraint, proof_id: u64) -> Result<(), AllocError>
         requires in_range { VarsBelow self.old.variables c.now.terms }
         requires given { IsGivenId self.old.log proof_id }
@@ -91,7 +92,8 @@ impl Solver {
             return Err(AllocError);
         }
         self.spent = true;
-        self.engine.add(c, proof_id)?;
+        let copied = c.copy(*self.engine.learned.allocator())?;
+        self.engine.add(copied, proof_id)?;
         self.spent = false;
         Ok(())
     }

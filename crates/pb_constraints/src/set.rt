@@ -62,4 +62,12 @@ impl Set {
     {
         self.constraints.as_slice()
     }
+
+    /// The constraints in order, moved out of the set. It takes no memory.
+    pub fn into_constraints(self) -> Vec<Constraint>
+        ensures value { result.items ≡ self.constraints }
+        ensures below { All (IsBelow self.variables) self.constraints }
+    {
+        self.constraints
+    }
 }

@@ -9,24 +9,25 @@ pub mod laws;
 
 use std::marker::Model;
 
-/// A variable or its opposite. Variables count from 0 and are below 2^62.
+/// A variable or its opposite. Variables count from 0 and are below 2^62. Both stand in one word, so that a term and an
+/// operation take two.
 #[derive(Clone, Copy, Debug, PartialEq, Eq)]
 pub struct Lit {
-    var: u64,
-    yes: bool,
+    /// Twice the variable, and 1 more where the literal is the variable itself.
+    code: u64,
 }
 
 impl Model for Lit {
-    ghost use Rattle.std.specs.Prelude.{◌<◌, ◌^◌};
+    ghost use Rattle.std.specs.Prelude.{◌<◌, ◌^◌, ◌+◌, ◌*◌, ◌/◌, ◌%◌, ◌==◌, if◌then◌else◌};
     ghost use Rattle.pb_rules.specs.Literal.{Literal};
 
     ghost Value = { Literal };
 
-    ghost view = { λ l. record { var = l.var; yes = l.yes } };
+    ghost view = { λ l. record { var = l.code / 2; yes = l.code % 2 == 1 } };
 
-    ghost invariant = { λ l. l.var < 2 ^ 62 };
+    ghost invariant = { λ l. l.code < 2 ^ 63 };
 
-    ghost inverse = { λ v. record { var = v.var; yes = v.yes } };
+    ghost inverse = { λ v. record { code = 2 * v.var + (if v.yes then 1 else 0) } };
 }
 
 impl Lit {
@@ -35,7 +36,7 @@ impl Lit {
         requires { var < 2 ^ 62 }
         ensures { result ≡ record { var = var; yes = true } }
     {
-        Lit { var, yes: true }
+        Lit { code: 2 * var + 1 }
     }
 
     /// The literal that is true where the variable is false.
@@ -43,7 +44,7 @@ impl Lit {
         requires { var < 2 ^ 62 }
         ensures { result ≡ record { var = var; yes = false } }
     {
-        Lit { var, yes: false }
+        Lit { code: 2 * var }
     }
 
     /// The variable.
@@ -51,23 +52,28 @@ impl Lit {
         ensures value { result ≡ self.now.var }
         ensures small { result < 2 ^ 62 }
     {
-        self.var
+        self.code / 2
     }
 
     /// Whether the literal is the variable itself and not its opposite.
     pub fn is_yes(&self) -> bool
         ensures { result ≡ self.now.yes }
     {
-        self.yes
+        self.code % 2 == 1
     }
 
     /// The other literal of the variable.
     pub fn opposite(&self) -> Lit
         ensures { result ≡ opposite_of self.now }
     {
-        Lit {
-            var: self.var,
-            yes: !self.yes,
+        if self.code % 2 == 1 {
+            Lit {
+                code: self.code - 1,
+            }
+        } else {
+            Lit {
+                code: self.code + 1,
+            }
         }
     }
 }

@@ -85,9 +85,9 @@ fn learn_at_level_zero(
 /// What is learned from the last two clauses, once the proof has `x0 >= 1` under an id.
 fn learn_after_x0(alloc: Global, x0_id: u64, log: &mut Log) -> Result<Learned, AllocError> {
     let mut store = Store::new(alloc);
-    let first = store.add(&unit(alloc, Lit::yes(0))?, x0_id)?;
-    let second = store.add(&clause(alloc, Lit::no(0), Lit::yes(1))?, 3)?;
-    let conflict = store.add(&clause(alloc, Lit::no(0), Lit::no(1))?, 4)?;
+    let first = store.add(unit(alloc, Lit::yes(0))?, x0_id)?;
+    let second = store.add(clause(alloc, Lit::no(0), Lit::yes(1))?, 3)?;
+    let conflict = store.add(clause(alloc, Lit::no(0), Lit::no(1))?, 4)?;
     learn_at_level_zero(alloc, &store, first, second, conflict, log)
 }
 
@@ -95,8 +95,8 @@ fn learn_after_x0(alloc: Global, x0_id: u64, log: &mut Log) -> Result<Learned, A
 fn learns_x0_and_then_the_contradiction(rt: HostRuntime) -> Result<(), Fail> {
     let alloc = rt.alloc();
     let mut store = Store::new(alloc);
-    let forcing = store.add(&clause(alloc, Lit::yes(0), Lit::yes(1))?, 1)?;
-    let conflict = store.add(&clause(alloc, Lit::yes(0), Lit::no(1))?, 2)?;
+    let forcing = store.add(clause(alloc, Lit::yes(0), Lit::yes(1))?, 1)?;
+    let conflict = store.add(clause(alloc, Lit::yes(0), Lit::no(1))?, 2)?;
     let mut log = Log::new(alloc, 5);
     let learned = learn_at_level_one(alloc, &store, forcing, conflict, &mut log)?;
     let x0 = Term {

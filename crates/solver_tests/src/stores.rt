@@ -17,9 +17,9 @@ fn asks(alloc: Global, degree: i64) -> Result<Constraint, NormalFault> {
 fn removes_and_compacts(rt: HostRuntime) -> Result<(), Fail> {
     let alloc = rt.alloc();
     let mut store = Store::new(alloc);
-    let first = store.add(&asks(alloc, 1)?, 7)?;
-    let second = store.add(&asks(alloc, 2)?, 8)?;
-    let third = store.add(&asks(alloc, 3)?, 9)?;
+    let first = store.add(asks(alloc, 1)?, 7)?;
+    let second = store.add(asks(alloc, 2)?, 8)?;
+    let third = store.add(asks(alloc, 3)?, 9)?;
     assert!(rt; store.is_live(second));
     store.remove(second);
     assert!(rt; !store.is_live(second));

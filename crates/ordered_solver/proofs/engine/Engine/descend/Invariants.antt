@@ -1,4 +1,4 @@
-use Rattle.std.proofs.Common.{◌≡◌, ◌-◌, ◌<◌, length}
+use Rattle.std.proofs.Common.{◌≡◌, ◌-◌, length}
 use Rattle.ordered_solver.specs.Engines.{IsLoaded}
 use Rattle.ordered_solver.specs.Trails.{IsOrdered, ArePassed, GoesOnFrom}
 use Rattle.ordered_solver.proofs.engine.Engine.descend.Given as goal
