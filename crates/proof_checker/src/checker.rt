@@ -46,14 +46,7 @@ impl<'a> Model for Checker<'a> {
 fn encoding_of(alloc: Global, spec: &Spec) -> Result<Vec<Constraint>, AllocError>
     ensures { IfOk result (λ v. v.items ≡ encoding spec.now) }
 {
-    let set = encode(alloc, spec)?;
-    let mut constraints = Vec::new(alloc);
-    let given = set.constraints();
-    for constraint in given {
-        let copy = constraint.copy(alloc)?;
-        constraints.push(copy)?;
-    }
-    Ok(constraints)
+    Ok(encode(alloc, spec)?.into_constraints())
 }
 
 impl<'a> Checker<'a> {
