@@ -8,7 +8,8 @@ use std::test::Fail;
 
 /// A task with three resources to run on, and two objectives.
 const THREE_OPTIONS: &[u8] =
-    b"arch 1\nobjective cost\nobjective energy\ntask t\nresource a cost=1\nresource b cost=4\nresource c cost=4\nmap t a energy=5\nmap t b energy=2\nmap t c energy=5\n";
+    b"arch 1\nobjective cost\nobjective energy\ntask t\nresource a cost=1\nresource b cost=4\n\
+    resource c cost=4\nmap t a energy=5\nmap t b energy=2\nmap t c energy=5\n";
 
 /// Whether a text is read as a front with so many entries, and printed again.
 fn is_printed_again(
@@ -64,14 +65,14 @@ fn no_objectives(rt: HostRuntime) -> Result<(), Fail> {
 fn two_entries(rt: HostRuntime) -> Result<(), Fail> {
     let alloc = rt.alloc();
     let spec = spec_of(alloc, THREE_OPTIONS)?;
-    let whole =
-        b"front 1\nobjectives cost energy\nentry 1\nbind t a 0\nalloc a\nvector 1 5\nentry 2\nbind t b 1\nalloc b\nvector 4 2\ncomplete\n";
+    let whole = b"front 1\nobjectives cost energy\nentry 1\nbind t a 0\nalloc a\nvector 1 5\n\
+        entry 2\nbind t b 1\nalloc b\nvector 4 2\ncomplete\n";
     assert!(rt; is_printed_again(alloc, &spec, whole, 2, true)?);
-    let open =
-        b"front 1\nobjectives cost energy\nentry 1\nbind t a 0\nalloc a\nvector 1 5\nentry 2\nbind t b 1\nalloc b\nvector 4 2\nopen\n";
+    let open = b"front 1\nobjectives cost energy\nentry 1\nbind t a 0\nalloc a\nvector 1 5\n\
+        entry 2\nbind t b 1\nalloc b\nvector 4 2\nopen\n";
     assert!(rt; is_printed_again(alloc, &spec, open, 2, false)?);
-    let turned =
-        b"front 1\nobjectives cost energy\nentry 1\nbind t b 1\nalloc b\nvector 4 2\nentry 2\nbind t a 0\nalloc a\nvector 1 5\ncomplete\n";
+    let turned = b"front 1\nobjectives cost energy\nentry 1\nbind t b 1\nalloc b\nvector 4 2\n\
+        entry 2\nbind t a 0\nalloc a\nvector 1 5\ncomplete\n";
     assert!(rt; is_printed_again(alloc, &spec, turned, 2, true)?);
     Ok(())
 }
