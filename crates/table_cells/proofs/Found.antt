@@ -6,7 +6,8 @@ use Rattle.std.proofs.lemmas.Bool.{cases_Bool, eqb-true}
 use Rattle.std.proofs.lemmas.Bool.Decides.{Decides-eqb}
 use Rattle.std.proofs.lemmas.Slice.Eq.{bytes_eq-Decides}
 use Rattle.line_words.proofs.Whys.{both}
-use Rattle.tgff_reader.specs.Looking.{table_at, row_at, is_of_kind, IsTableAt, HasNoTable, IsFirstOfKind, HasNoneOfKind}
+use Rattle.tgff_reader.specs.Rows.{is_of_kind}
+use Rattle.tgff_reader.specs.Looking.{table_at, row_at, IsTableAt, HasNoTable, IsFirstOfKind, HasNoneOfKind}
 use Rattle.tgff_reader.specs.declared.file.Table.{Table}
 use Rattle.tgff_reader.specs.declared.file.Row.{Row}
 use Rattle.table_cells.specs.Rows.{is_called, table_called, row_of, first_cell_of, IsFoundTable, IsFoundRow}

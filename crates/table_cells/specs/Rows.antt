@@ -1,7 +1,8 @@
 -- Which table is meant, and which row of it is that of a type of task or message.
 use Rattle.std.specs.Prelude.{◌≡◌, ℕ, ◌<◌, List, [], ◌∷◌, length, drop, Bool, ◌&&◌, ◌==◌, Option, None, Some, find}
 use Rattle.std.specs.Str.{bytes_eq}
-use Rattle.tgff_reader.specs.Looking.{table_at, row_at, is_of_kind}
+use Rattle.tgff_reader.specs.Rows.{is_of_kind}
+use Rattle.tgff_reader.specs.Looking.{table_at, row_at}
 use Rattle.tgff_reader.specs.declared.file.Table.{Table}
 use Rattle.tgff_reader.specs.declared.file.Row.{Row}
 use Rattle.table_cells.specs.Cells.{cell_of}

@@ -1,11 +1,11 @@
 -- What a search for a table or a row has passed, and what it finds.
-use Rattle.std.proofs.Common.{◌≡◌, ℕ, ◌<◌, ◌≤◌, inl, inr, false, List, [], Option, Some, None, map, get_or, sym, ap, ◌∙◌, arith}
+use Rattle.std.proofs.Common.{◌≡◌, ℕ, inl, inr, List, [], Option, Some, None, map, get_or, sym, ap, ◌∙◌, arith}
 use Rattle.std.specs.Prelude.{IfSome, MatchOption}
 use Rattle.std.proofs.lemmas.Bool.{cases_lt}
 use Rattle.std.proofs.lemmas.List.{get_or-map, length-map}
 use Rattle.spec_model.specs.WellFormed.{AreDistinct}
 use Rattle.tgff_reader.specs.Facts.{table_key}
-use Rattle.tgff_reader.specs.Looking.{table_at, row_at, IsTableAt, HasNoTable, is_of_kind}
+use Rattle.tgff_reader.specs.Looking.{table_at, IsTableAt, HasNoTable}
 use Rattle.tgff_reader.specs.declared.file.Table.{Table}
 
 -- ---- tables
@@ -31,9 +31,3 @@ pub only_table : (tables : List Table) (name : List ℕ) (index : ℕ) (found : 
     → IfSome found (λ place. (other : ℕ) → IsTableAt tables name index other → other ≡ place)
 only_table tables name index None d t = tt
 only_table tables name index (Some place) d t = λ other u. one_table tables name index place other d t u
-
--- ---- rows
-
--- none of the rows from a place up to another one is of the kind
-abbrev pub NoneBetween : Table → ℕ → ℕ → ℕ → Type 0
-NoneBetween table from kind n = (i : ℕ) → from ≤ i → i < n → is_of_kind kind (row_at table i) ≡ false

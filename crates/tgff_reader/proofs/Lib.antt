@@ -5,3 +5,4 @@ pub mod Kept
 pub mod Going
 pub mod Places
 pub mod Found
+pub mod RowKinds

@@ -5,5 +5,6 @@ pub mod Faults
 pub mod After
 pub mod Facts
 pub mod Tgff
+pub mod Rows
 pub mod Looking
 pub mod Places

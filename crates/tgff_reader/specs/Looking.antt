@@ -1,9 +1,7 @@
 -- Where a table and a row stand, and which word a cell has.
-use Rattle.std.specs.Prelude.{◌≡◌, ℕ, ◌<◌, ◌≤◌, List, [], length, Bool, true, false, ◌&&◌, ◌==◌, slice_index_or, Result, Ok, Err}
+use Rattle.std.specs.Prelude.{◌≡◌, ℕ, ◌<◌, List, [], length, Bool, ◌&&◌, ◌==◌, slice_index_or}
 use Rattle.std.specs.Str.{bytes_eq}
-use Rattle.line_words.specs.Numbers.{whole_of}
-use Rattle.line_words.specs.declared.numbers.NumberFault.{NumberFault}
-use Rattle.tgff_reader.specs.Words.{first}
+use Rattle.tgff_reader.specs.Rows.{row_in, IsFirstIn, HasNoneIn}
 use Rattle.tgff_reader.specs.declared.file.Graph.{Graph}
 use Rattle.tgff_reader.specs.declared.file.Table.{Table}
 use Rattle.tgff_reader.specs.declared.file.Row.{Row}
@@ -22,7 +20,7 @@ table_at tables i = slice_index_or tables i (record { name = []; index = 0; rows
 
 -- the row at a place
 abbrev pub row_at : Table → ℕ → Row
-row_at table i = slice_index_or table.rows i (record { words = [] })
+row_at table i = row_in table.rows i
 
 -- the table at a place has the name and the index
 pub record IsTableAt (tables : List Table) (name : List ℕ) (index : ℕ) (place : ℕ) : Type 0 where
@@ -34,22 +32,10 @@ pub record IsTableAt (tables : List Table) (name : List ℕ) (index : ℕ) (plac
 abbrev pub HasNoTable : List Table → List ℕ → ℕ → Type 0
 HasNoTable tables name index = (place : ℕ) → IsTableAt tables name index place → ⊥
 
--- a number is the kind
-abbrev pub is_number : ℕ → Result ℕ NumberFault → Bool
-is_number kind (Ok n) = n == kind
-is_number kind (Err fault) = false
-
--- the first word of a row reads as the kind
-abbrev pub is_of_kind : ℕ → Row → Bool
-is_of_kind kind row = is_number kind (whole_of (first row.words))
-
 -- the first row at a place or later whose first word reads as the kind
-pub record IsFirstOfKind (table : Table) (from kind : ℕ) (place : ℕ) : Type 0 where
-  pub later : from ≤ place
-  pub there : place < length table.rows
-  pub kind_is : is_of_kind kind (row_at table place) ≡ true
-  pub others : (i : ℕ) → from ≤ i → i < place → is_of_kind kind (row_at table i) ≡ false
+abbrev pub IsFirstOfKind : Table → ℕ → ℕ → ℕ → Type 0
+IsFirstOfKind table from kind place = IsFirstIn table.rows from kind place
 
 -- no row at a place or later is one
 abbrev pub HasNoneOfKind : Table → ℕ → ℕ → Type 0
-HasNoneOfKind table from kind = (i : ℕ) → from ≤ i → i < length table.rows → is_of_kind kind (row_at table i) ≡ false
+HasNoneOfKind table from kind = HasNoneIn table.rows from kind

@@ -1,12 +1,13 @@
 //! The task graphs and tables of a file that was read.
 
-ghost use Rattle.std.specs.Prelude.{◌≡◌, []};
+ghost use Rattle.std.specs.Prelude.{◌≡◌, [], IfOk};
 ghost use Rattle.tgff_reader.specs.Facts.{IsTgff};
 
 use crate::graphs::Graphs;
+use crate::rows::Rows;
 use crate::tables::Tables;
 use file_bricks::{Items, Text};
-use std::alloc::Global;
+use std::alloc::{AllocError, Global};
 use std::marker::Model;
 
 /// A task of a graph: its name, and its type.
@@ -54,7 +55,7 @@ pub struct Row {
 pub struct Table {
     pub name: Text,
     pub index: u64,
-    pub rows: Items<Row>,
+    pub rows: Rows,
 }
 
 /// The task graphs and the tables of a file, each in the order of the file.
@@ -77,6 +78,17 @@ impl Model for Tgff {
     ghost view = { λ f. record { graphs = f.graphs; tables = f.tables } };
 
     ghost invariant = { λ f. IsTgff (record { graphs = f.graphs; tables = f.tables }) };
+}
+
+impl Table {
+    /// The same table, once its block is closed: a row of a type is found in it without a look at all rows.
+    pub(crate) fn close(self, alloc: Global) -> Result<Table, AllocError>
+        ensures { IfOk result (λ table. table ≡ self) }
+    {
+        let Table { name, index, rows } = self;
+        let rows = rows.close(alloc)?;
+        Ok(Table { name, index, rows })
+    }
 }
 
 impl Tgff {

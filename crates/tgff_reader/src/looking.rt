@@ -2,31 +2,9 @@
 
 ghost use Rattle.std.specs.Prelude.{◌≡◌, ℕ, ◌<◌, length, slice_get, IfNone, IfSome};
 ghost use Rattle.std.specs.Option.{option_map};
-ghost use Rattle.tgff_reader.specs.Words.{first};
-ghost use Rattle.tgff_reader.specs.Looking.{table_at, row_at, is_of_kind, IsTableAt, HasNoTable, IsFirstOfKind, HasNoneOfKind};
+ghost use Rattle.tgff_reader.specs.Looking.{table_at, row_at, IsTableAt, HasNoTable, IsFirstOfKind, HasNoneOfKind};
 
-use crate::file::{Row, Tgff};
-use line_words::whole;
-
-/// The first word of a row.
-fn first_word(row: &Row) -> &str
-    ensures { result.now ≡ first row.now.words }
-{
-    match row.words.list().first() {
-        Some(word) => word.list(),
-        None => "",
-    }
-}
-
-/// Whether the first word of a row reads as a kind.
-fn is_of_kind(row: &Row, kind: u64) -> bool
-    ensures { result ≡ is_of_kind kind row.now }
-{
-    match whole(first_word(row)) {
-        Ok(number) => number == kind,
-        Err(_) => false,
-    }
-}
+use crate::file::Tgff;
 
 impl Tgff {
     /// The table of a name and an index. There is one at most.
@@ -44,15 +22,7 @@ impl Tgff {
         ensures found { IfSome result (IsFirstOfKind (table_at self.now.tables table) from kind) }
         ensures none { IfNone result (HasNoneOfKind (table_at self.now.tables table) from kind) }
     {
-        let rows = self.tables.list()[table].rows.list();
-        let mut place = from;
-        'rows: while place < rows.len() {
-            if is_of_kind(&rows[place], kind) {
-                return Some(place);
-            }
-            place += 1;
-        }
-        None
+        self.tables.list()[table].rows.find(from, kind)
     }
 
     /// The word in a column of a row of a table, where there is one.

@@ -12,10 +12,11 @@ use crate::faults::{
 use crate::file::{Row, Table, TgffArc, TgffDeadline, TgffTask};
 use crate::keyword::{Keyword, keyword_of};
 use crate::open_graph::OpenGraph;
+use crate::rows::Rows;
 use crate::shapes::{block_index, block_name, is_closing, is_graph_name, is_opening};
 use crate::state::{Blocks, Open, State};
 use crate::words::{first, is_at};
-use file_bricks::{Items, decimal_in, text_of, texts_of, whole_in, word_at};
+use file_bricks::{decimal_in, text_of, texts_of, whole_in, word_at};
 use line_words::{Stop, Why};
 use std::alloc::{AllocError, Global};
 
@@ -29,7 +30,7 @@ fn opened(alloc: Global, name: &str, index: u64) -> Result<Open, AllocError>
     Ok(Open::InTable(Table {
         name: text_of(alloc, name)?,
         index,
-        rows: Items::of(Vec::new(alloc)),
+        rows: Rows::none(alloc),
     }))
 }
 
@@ -221,6 +222,7 @@ fn take_in_table(
     ensures { states.Takes (record { current = blocks_in.InTable table; blocks = blocks }) (said words.now) result }
 {
     if is_closing(words) {
+        let table = table.close(alloc)?;
         blocks.tables.push(alloc, table)?;
         return Ok(State {
             current: Open::Outside,
