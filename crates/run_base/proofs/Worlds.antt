@@ -2,7 +2,8 @@
 use Rattle.std.proofs.Common.{◌≡◌, ◌<◌, ◌+◌, ℕ, List, length, replicate, Option, Some, None, IfSome, refl, arith}
 use Rattle.std.proofs.lemmas.List.{length-replicate}
 use Rattle.desk_io.specs.Files.{Files, content}
-use Rattle.run_base.specs.Loading.{IsLoaded, IsLoadedIfNamed, most_bytes}
+use Rattle.line_words.specs.Limits.{most_file_bytes}
+use Rattle.run_base.specs.Loading.{IsLoaded, IsLoadedIfNamed}
 use Rattle.run_base.specs.Worlds.{NamesValue, AreLoaded, AreLoadedFrom, content_if_named, world_of}
 use Rattle.run_base.specs.declared.inputs.Inputs.{Inputs}
 use Rattle.run_base.specs.declared.loading.Loaded.{Loaded}
@@ -13,7 +14,7 @@ longer : (n : ℕ) → (content : List ℕ) × (n < length content)
 longer n = (replicate (n + 1) 0, omega (arith, length-replicate {A = ℕ} (n + 1) 0))
 
 some_content : (loaded : Loaded) → (content : List ℕ) × IsLoaded loaded content
-some_content TooLong = longer most_bytes
+some_content TooLong = longer most_file_bytes
 some_content (Bytes bytes) = (bytes.items, refl)
 
 some_content_if_named : (loaded : Option Loaded) → (content : Option (List ℕ)) × IsLoadedIfNamed loaded content

@@ -1,15 +1,12 @@
 -- What is loaded of a file that is read whole.
 use Rattle.std.specs.Prelude.{◌≡◌, ℕ, ◌<◌, List, length, Option, Some, None}
+use Rattle.line_words.specs.Limits.{most_file_bytes}
 use Rattle.run_base.specs.declared.loading.Loaded.{Loaded}
 use Rattle.run_base.specs.declared.loading.Loaded.TheVariants.{TooLong, Bytes}
 
--- the greatest length of a file, in bytes
-abbrev pub most_bytes : ℕ
-most_bytes = 16777216
-
 -- all bytes of the content were loaded, or none since it is too long
 abbrev pub IsLoaded : Loaded → List ℕ → Type 0
-IsLoaded TooLong content = most_bytes < length content
+IsLoaded TooLong content = most_file_bytes < length content
 IsLoaded (Bytes bytes) content = bytes.items ≡ content
 
 -- the same of a file that may not be named

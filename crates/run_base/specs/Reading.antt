@@ -17,7 +17,7 @@ use Rattle.tgff_reader.specs.Tgff.{tgff_rules, stated as graphs_stated}
 use Rattle.arch_reader.specs.Arch.{ArchValue, arch_rules, stated}
 use Rattle.genotype.specs.Statements.{genotype_rules, genes_of}
 use Rattle.spec_join.specs.Reading.{JoinReads}
-use Rattle.run_base.specs.Loading.{most_bytes}
+use Rattle.line_words.specs.Limits.{most_file_bytes}
 use Rattle.run_base.specs.After.{After}
 
 -- ---- one file of any kind
@@ -28,18 +28,18 @@ refused_as_long file = record { file = file; line = 0; why = Limit FileBytes }
 
 -- a file is too long, and so it isn't read
 pub record IsTooLong (file : FileTag) (bytes : List ℕ) (r : Refusal) : Type 0 where
-  pub long : most_bytes < length bytes
+  pub long : most_file_bytes < length bytes
   pub refused : r ≡ refused_as_long file
 
 -- a file breaks a rule of its own: the first refusal is at the lowest line and for the lowest rule there
 pub record BreaksRule (file : FileTag) (rules : Rules) (bytes : List ℕ) (r : Refusal) : Type 0 where
-  pub short : length bytes ≤ most_bytes
+  pub short : length bytes ≤ most_file_bytes
   pub file_is : r.file ≡ file
   pub least : IsLeast rules (lines bytes) r.line r.why
 
 -- a file that isn't too long and breaks no rule of its own
 pub record IsUnbroken (rules : Rules) (bytes : List ℕ) : Type 0 where
-  pub short : length bytes ≤ most_bytes
+  pub short : length bytes ≤ most_file_bytes
   pub unbroken : HasNoFault rules (lines bytes)
 
 -- such a file, and what its statements say

@@ -11,6 +11,6 @@ mod outcome;
 mod reading;
 
 pub use inputs::{Inputs, Names, load_inputs};
-pub use loading::{Loaded, MAX_BYTES, load};
+pub use loading::{Loaded, load};
 pub use outcome::{Ending, Outcome};
 pub use reading::{read_genes, read_spec};

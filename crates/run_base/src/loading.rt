@@ -6,10 +6,8 @@ ghost use Rattle.desk_io.specs.Causes.{HasCause};
 ghost use Rattle.run_base.specs.Loading.{IsLoaded};
 
 use desk_io::{Desk, DeskError};
+use line_words::MOST_FILE_BYTES;
 use std::alloc::Global;
-
-/// The greatest length of a file, in bytes.
-pub const MAX_BYTES: u64 = 16_777_216;
 
 /// What was loaded of a file.
 #[derive(Debug, Drop)]
@@ -46,7 +44,7 @@ pub fn load<D: Desk>(alloc: Global, desk: &mut D, name: &str) -> Result<Loaded, 
     ensures cause { HasCause (D.faults desk.old) (D.faults desk.new) result }
 {
     let len = desk.length(name)?;
-    if len > MAX_BYTES {
+    if len > MOST_FILE_BYTES {
         return Ok(Loaded::TooLong);
     }
     let bytes = fill_whole(alloc, desk, name, len)?;

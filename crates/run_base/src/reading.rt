@@ -6,16 +6,17 @@
 
 ghost use Rattle.std.specs.Prelude.{◌≡◌, ◌<◌, ◌≤◌, ℕ, List, length, Option, Some, IfOk, OnErr, IfErr};
 ghost use Rattle.spec_model.specs.Spec.{design_variables};
+ghost use Rattle.line_words.specs.Limits.{most_file_bytes};
 ghost use Rattle.line_words.specs.declared.refusals.ReadFault.TheVariants as faults;
 ghost use Rattle.line_words.specs.declared.refusals.FileTag.TheVariants as files;
 ghost use Rattle.genotype.specs.Statements.{genotype_rules, genes_of};
 ghost use Rattle.run_base.specs.Loading.{IsLoaded, IsLoadedIfNamed};
 ghost use Rattle.run_base.specs.Reading.{ReadsFile, ReadsTgff, ReadsArch, ReadsSpec, ReadsGenotype, refused_as_long};
 
-use crate::loading::{Loaded, MAX_BYTES};
+use crate::loading::Loaded;
 use arch_reader::read_arch;
 use genotype::{Genotype, read_genotype};
-use line_words::{FileTag, ReadFault, Refusal, What, Why};
+use line_words::{FileTag, MOST_FILE_BYTES, ReadFault, Refusal, What, Why};
 use spec_graph::Spec;
 use spec_join::join;
 use std::alloc::Global;
@@ -34,15 +35,15 @@ fn too_long(file: FileTag) -> ReadFault
 
 /// The bytes of a file that isn't too long.
 fn short_bytes(loaded: &Loaded, file: FileTag) -> Result<&[u8], ReadFault>
-    ensures short { IfOk result (λ bytes. length bytes.now ≤ 16777216) }
+    ensures short { IfOk result (λ bytes. length bytes.now ≤ most_file_bytes) }
     ensures whole { IfOk result (λ bytes. (content : List ℕ) → IsLoaded loaded.entry.now content → content ≡ bytes.now) }
-    ensures long { OnErr result ((content : List ℕ) → IsLoaded loaded.entry.now content → 16777216 < length content) }
+    ensures long { OnErr result ((content : List ℕ) → IsLoaded loaded.entry.now content → most_file_bytes < length content) }
     ensures refused { IfErr result (λ fault. fault ≡ faults.Refused (refused_as_long file)) }
 {
     match loaded {
         Loaded::TooLong => Err(too_long(file)),
         Loaded::Bytes(bytes) => {
-            if bytes.len() as u64 > MAX_BYTES {
+            if bytes.len() as u64 > MOST_FILE_BYTES {
                 return Err(too_long(file));
             }
             Ok(bytes.as_slice())

@@ -8,12 +8,12 @@ use Rattle.tgff_reader.specs.Facts.{TgffValue}
 use Rattle.arch_reader.specs.Arch.{ArchValue, arch_rules}
 use Rattle.arch_reader.specs.declared.statement.ArchLine.{ArchLine}
 use Rattle.spec_join.specs.Reading.{JoinReads}
-use Rattle.run_base.specs.Loading.{most_bytes}
+use Rattle.line_words.specs.Limits.{most_file_bytes}
 use Rattle.run_base.specs.Reading.{file_of, ReadsArch}
 use Rattle.run_base.proofs.reading.read_joined.Goals as goal
 
 -- what joining answers to a file that isn't too long and breaks no rule of its own
-joins_as : (tgff : TgffValue) (bytes : List ℕ) (reading : Result SpecValue ReadFault) → length bytes ≤ most_bytes → HasNoFault arch_rules (lines bytes) → JoinReads tgff (file_of bytes) reading → ReadsArch bytes tgff reading
+joins_as : (tgff : TgffValue) (bytes : List ℕ) (reading : Result SpecValue ReadFault) → length bytes ≤ most_file_bytes → HasNoFault arch_rules (lines bytes) → JoinReads tgff (file_of bytes) reading → ReadsArch bytes tgff reading
 joins_as tgff bytes (Ok spec) short none h = record { file = record { short = short; unbroken = none }; joined = h }
 joins_as tgff bytes (Err (faults.Refused r)) short none h = inr (inr (record { file = record { short = short; unbroken = none }; refused = h }))
 joins_as tgff bytes (Err faults.NoMemory) short none h = tt
