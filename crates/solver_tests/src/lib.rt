@@ -5,6 +5,8 @@
 #[cfg(test)]
 mod learning;
 #[cfg(test)]
+mod lives;
+#[cfg(test)]
 mod logs;
 #[cfg(test)]
 mod normal_forms;
@@ -12,6 +14,8 @@ mod normal_forms;
 mod propagation;
 #[cfg(test)]
 mod rules;
+#[cfg(test)]
+mod scanning;
 #[cfg(test)]
 mod solving;
 #[cfg(test)]
