@@ -7,7 +7,7 @@ use Rattle.arch_reader.specs.Seen.{objectives_in, resources_in, links_in, clock_
 use Rattle.arch_reader.specs.declared.statement.Statement.{Statement}
 use Rattle.arch_reader.specs.declared.seen.Objective.{Objective}
 use Rattle.arch_reader.specs.declared.seen.Seen.{Seen}
-use Rattle.arch_reader.proofs.Misreading.{or_false, or_or}
+use Rattle.file_bricks.proofs.Deciding.{or_false, or_or}
 
 or_none : (o : Option ℕ) → option_or o None ≡ o
 or_none None = refl

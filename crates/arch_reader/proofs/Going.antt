@@ -1,7 +1,7 @@
 -- The steps of the reader, over what `Lines` gives.
 use Rattle.std.proofs.Common.{◌≡◌, ℕ, ◌+◌, true, false, List, [], ◌∷◌, ◌++◌, length, Option, Some, None, Ok, Err, refl, sym, ap, subst, ◌∙◌, arith, length-append}
 use Rattle.line_words.specs.Text.{words_in}
-use Rattle.line_words.specs.Rules.{Words, Statement as Line, Test, first_broken, texts, after_header, end_after_header}
+use Rattle.line_words.specs.Rules.{Words, Statement as Line, Test, first_broken, texts}
 use Rattle.line_words.specs.Left.{Left, Numbered, Passes, Gives, Refuses}
 use Rattle.line_words.specs.Run.{Reading, run}
 use Rattle.line_words.specs.Reads.{Agrees}
@@ -11,7 +11,9 @@ use Rattle.line_words.specs.declared.refusals.ReadFault.TheVariants as faults
 use Rattle.line_words.specs.declared.refusals.Why.{Why}
 use Rattle.line_words.specs.declared.refusals.Why.TheVariants.{NoHeader}
 use Rattle.line_words.specs.declared.refusals.Refusal1.{Refusal1}
-use Rattle.line_words.proofs.Steps.{goes_on, stops_here, refused_alone, ends_well, ends_broken, header_wrong, header_right}
+use Rattle.line_words.proofs.Steps.{goes_on, stops_here, refused_alone, ends_well, ends_broken}
+use Rattle.file_bricks.specs.Headed.{after_header, end_after_header}
+use Rattle.file_bricks.proofs.Headed.{header_wrong, header_right}
 use Rattle.arch_reader.specs.Shapes.{form_of}
 use Rattle.arch_reader.specs.Seen.{seen}
 use Rattle.arch_reader.specs.Tests.{tests}

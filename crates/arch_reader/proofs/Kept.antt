@@ -3,7 +3,7 @@ use Rattle.std.proofs.Common.{◌≡◌, ℕ, List, [], ◌∷◌, ◌++◌, Opt
 use Rattle.std.specs.List.{All}
 use Rattle.std.proofs.lemmas.List.{append-nil, flat_map_more, map_push}
 use Rattle.line_words.specs.Rules.{Statement as Line, first_broken}
-use Rattle.arch_reader.specs.Words.{IsWord}
+use Rattle.file_bricks.specs.Words.{IsWord}
 use Rattle.arch_reader.specs.Shapes.{plain, form_of}
 use Rattle.arch_reader.specs.Seen.{seen, after}
 use Rattle.arch_reader.specs.Tests.{names_in, tests}
@@ -36,19 +36,18 @@ AllPass-push before (x ∷ ls) l a p =
 abbrev at_line : ℕ → Statement → ArchLine
 at_line n s = record { line = n; statement = s }
 
-pub one_taken : (old new : Taken) (done : List Line) (line : Line) (form : Option Form) → IsTaken old done → Takes old new line.number form → All IsWord line.words
-    → form ≡ form_of line.words → first_broken (tests old.seen form) ≡ None → IsTaken new (done ++ line ∷ [])
-one_taken old new done line form i t words e fine =
+pub one_taken : (old new : Taken) (done : List Line) (line : Line) → IsTaken old done → Takes old new line.number line.words → All IsWord line.words → IsTaken new (done ++ line ∷ [])
+one_taken old new done line i t words =
     let s = t.statement in
-    let one : line_of line ≡ at_line line.number s ∷ [] = ap (line_with line.number) (sym e ∙ t.form_is) in
+    let one : line_of line ≡ at_line line.number s ∷ [] = ap (line_with line.number) t.form_is in
     let lines : lines_of done ++ at_line line.number s ∷ [] ≡ lines_of (done ++ line ∷ [])
     = ap (λ (ls : List ArchLine). lines_of done ++ ls) (sym one) ∙ flat_map_more line_of [] done line in
-    let lines_are : new.lines ≡ lines_of done ++ at_line line.number s ∷ [] = t.lines_are ∙ ap (λ (ls : List ArchLine). ls ++ at_line line.number s ∷ []) i.lines_are in
-    let seen_is : new.seen ≡ seen (statements_in (lines_of done) ++ s ∷ []) = t.seen_is ∙ ap (λ (x : Seen). after x s) i.seen_is ∙ sym (seen-push (statements_in (lines_of done)) s) in
+    let lines_are : new.lines ≡ lines_of done ++ at_line line.number s ∷ [] = t.keeps.lines_are ∙ ap (λ (ls : List ArchLine). ls ++ at_line line.number s ∷ []) i.lines_are in
+    let seen_is : new.seen ≡ seen (statements_in (lines_of done) ++ s ∷ []) = t.keeps.seen_is ∙ ap (λ (x : Seen). after x s) i.seen_is ∙ sym (seen-push (statements_in (lines_of done)) s) in
     let statements : statements_in (lines_of done) ++ s ∷ [] ≡ statements_in (lines_of done ++ at_line line.number s ∷ []) = sym (map_push statement_of (lines_of done) (at_line line.number s)) in
     let tried : first_broken (tests (seen (statements_in (lines_of done))) (Some (plain s))) ≡ None
-    = ap (λ (x : Seen). first_broken (tests x (Some (plain s)))) (sym i.seen_is) ∙ ap (λ (f : Option Form). first_broken (tests old.seen f)) (sym t.form_is) ∙ fine in
-    let named : All IsWord (names_in s) = names_all_words line.words s words (sym e ∙ t.form_is) in
+    = ap (λ (x : Seen). first_broken (tests x (Some (plain s)))) (sym i.seen_is) ∙ ap (λ (f : Option Form). first_broken (tests old.seen f)) (sym t.form_is) ∙ t.fine in
+    let named : All IsWord (names_in s) = names_all_words line.words s words t.form_is in
     let pass : AllPass [] (lines_of done ++ at_line line.number s ∷ [])
     = AllPass-push [] (lines_of done) (at_line line.number s) (subst (AllPass []) i.lines_are i.pass) (passes (statements_in (lines_of done)) s named tried) in
     record {

@@ -2,18 +2,11 @@
 use Rattle.std.proofs.Common.{◌≡◌, ℕ, ◌+◌, ◌<◌, Bool, true, false, ◌||◌, List, [], ◌∷◌, ◌++◌, length, map, take, get_or, refl, sym, ap, ◌∙◌, Bor}
 use Rattle.std.proofs.lemmas.List.{map_push}
 use Rattle.line_words.specs.Rules.{Words}
-use Rattle.arch_reader.specs.Words.{said}
+use Rattle.file_bricks.specs.Words.{said}
+use Rattle.file_bricks.proofs.Deciding.{or_false, or_or}
 use Rattle.arch_reader.specs.Numbers.{fine, both, all_misread}
 use Rattle.arch_reader.specs.declared.numbers.Misread.{Misread}
-use Rattle.arch_reader.proofs.Cutting.{said-more}
-
-pub or_false : (b : Bool) → (b || false) ≡ b
-or_false true = refl
-or_false false = refl
-
-pub or_or : (a b c : Bool) → (a || (b || c)) ≡ ((a || b) || c)
-or_or true b c = refl
-or_or false b c = refl
+use Rattle.file_bricks.proofs.Said.{said-more}
 
 abbrev made : Bool → Bool → Misread
 made bad big = record { bad = bad; big = big }

@@ -1,13 +1,13 @@
 -- The names of a statement are words of its line.
-use Rattle.std.proofs.Common.{◌≡◌, ℕ, ◌<◌, ◌≤◌, ◌+◌, Bool, true, false, cond, inl, inr, codes, List, [], ◌∷◌, length, Option, Some, None, sym, ap, subst, arith, length-take, length-drop}
+use Rattle.std.proofs.Common.{◌≡◌, ℕ, Bool, true, false, cond, inl, inr, codes, List, [], ◌∷◌, Option, Some, None, subst}
 use Rattle.std.specs.Str.{bytes_eq}
-use Rattle.std.specs.List.{All, AllByRecursion, slice_range}
+use Rattle.std.specs.List.{All, AllByRecursion}
 use Rattle.std.specs.Option.{IfSome, option_map}
 use Rattle.std.proofs.lemmas.Bool.{cases_Bool}
 use Rattle.std.proofs.lemmas.List.Elements.{All-from_recursion, recursion_from_All}
-use Rattle.line_words.specs.Text.{Piece, AreSpans, ArePlain, words_in}
-use Rattle.line_words.specs.Rules.{Words, texts}
-use Rattle.arch_reader.specs.Words.{IsWord, are_keyed, are_placed}
+use Rattle.line_words.specs.Rules.{Words}
+use Rattle.file_bricks.specs.Words.{IsWord}
+use Rattle.arch_reader.specs.Words.{are_keyed, are_placed}
 use Rattle.arch_reader.specs.Numbers.{amounts}
 use Rattle.arch_reader.specs.Shapes.{plain, settings_of, objective_with, clock_with, link_with, is_two_way, objective_form, clock_form, resource_form, link_form, traffic_form, task_form, message_form, merge_form, map_form, table_form, after_keys, quantity_form, quantity_table, quantity_table_rows, rows_key, hops_form, delay_form, deadline_form, form_with, keyword_of, form_of}
 use Rattle.arch_reader.specs.Tests.{declared_name, names_in}
@@ -23,20 +23,6 @@ use Rattle.arch_reader.specs.declared.shapes.Settings.{Settings}
 -- words, one by one
 abbrev pub AreWords : Words → Type 0
 AreWords ws = AllByRecursion IsWord ws
-
--- a span with a byte has a text with one
-span_some : (source text : List ℕ) (start end : ℕ) → start < end → end ≤ length source → text ≡ slice_range source start end → 0 < length text
-span_some source text start end some within is =
-    let l = ap length is in
-    omega (arith, l, length-take {A = ℕ}, length-drop {A = ℕ})
-
-texts_are_words : (source : List ℕ) (place : ℕ) (ws : List Piece) → AreSpans source place ws → ArePlain ws → AreWords (texts ws)
-texts_are_words source place [] s p = tt
-texts_are_words source place (w ∷ ws) s p =
-    (record { some = span_some source w.text w.start w.end s.0.some s.0.within s.0.text_is; bytes = p.0 }, texts_are_words source (w.end + 1) ws s.1 p.1)
-
-pub all_words : (source : List ℕ) (ws : Words) → AreSpans source 0 (words_in source) → ArePlain (words_in source) → ws ≡ texts (words_in source) → All IsWord ws
-all_words source ws s p e = subst (All IsWord) (sym e) (All-from_recursion IsWord (texts (words_in source)) (texts_are_words source 0 (words_in source) s p))
 
 -- ---- the names of a form
 
@@ -56,17 +42,21 @@ made f None n = tt
 made f (Some x) n = n x
 
 objective_named : (ws : Words) → AreWords ws → Named (objective_form ws)
+unfolding objective_form
 objective_named [] h = tt
 objective_named (name ∷ ws) h = made (objective_with name) (settings_of ws) (λ (s : Settings). (h.0, tt))
 
 clock_named : (ws : Words) → Named (clock_form ws)
+unfolding clock_form
 clock_named ws = made clock_with (settings_of ws) (λ (s : Settings). tt)
 
 resource_named : (ws : Words) → AreWords ws → Named (resource_form ws)
+unfolding resource_form
 resource_named [] h = tt
 resource_named (name ∷ ws) h = when (are_keyed ws) (Some (record { statement = statements.Resource name (amounts ws).items; misread = (amounts ws).misread })) (h.0, tt)
 
 link_named : (ws : Words) → AreWords ws → Named (link_form ws)
+unfolding link_form
 link_named [] h = tt
 link_named (name ∷ []) h = tt
 link_named (name ∷ a ∷ []) h = tt
@@ -76,16 +66,19 @@ link_named (name ∷ a ∷ way ∷ b ∷ ws) h =
     (made (link_with name a b ws) (is_two_way way) (λ (t : Bool). (h.0, (h.1.0, (h.1.1.1.0, tt)))))
 
 traffic_named : (ws : Words) → AreWords ws → Named (traffic_form ws)
+unfolding traffic_form
 traffic_named [] h = tt
 traffic_named (link ∷ []) h = tt
 traffic_named (link ∷ w ∷ ws) h = when (are_keyed (w ∷ ws)) (Some (record { statement = statements.Traffic link (amounts (w ∷ ws)).items; misread = (amounts (w ∷ ws)).misread })) (h.0, tt)
 
 task_named : (ws : Words) → AreWords ws → Named (task_form ws)
+unfolding task_form
 task_named [] h = tt
 task_named (name ∷ []) h = (h.0, tt)
 task_named (name ∷ w ∷ more) h = tt
 
 message_named : (ws : Words) → AreWords ws → Named (message_form ws)
+unfolding message_form
 message_named [] h = tt
 message_named (name ∷ []) h = tt
 message_named (name ∷ sender ∷ []) h = tt
@@ -93,22 +86,26 @@ message_named (name ∷ sender ∷ way ∷ []) h = tt
 message_named (name ∷ sender ∷ way ∷ r ∷ rs) h = when (bytes_eq way (codes "->")) (Some (plain (statements.Message name sender (r ∷ rs)))) (h.0, (h.1.0, h.1.1.1))
 
 merge_named : (ws : Words) → AreWords ws → Named (merge_form ws)
+unfolding merge_form
 merge_named [] h = tt
 merge_named (name ∷ []) h = tt
 merge_named (name ∷ m ∷ ms) h = h
 
 map_named : (ws : Words) → AreWords ws → Named (map_form ws)
+unfolding map_form
 map_named [] h = tt
 map_named (task ∷ []) h = tt
 map_named (task ∷ resource ∷ ws) h = elim (cases_Bool (are_keyed ws)) [ inl t ↦ rw t (h.0, (h.1.0, tt)) | inr f ↦ rw f tt ]
 
 table_named : (ws : Words) → AreWords ws → Named (table_form ws)
+unfolding table_form
 table_named [] h = tt
 table_named (name ∷ []) h = tt
 table_named (name ∷ index ∷ []) h = tt
 table_named (name ∷ index ∷ resource ∷ ws) h = elim (cases_Bool (are_placed (after_keys ws))) [ inl t ↦ rw t (h.0, (h.1.1.0, tt)) | inr f ↦ rw f tt ]
 
 quantity_named : (ws : Words) → AreWords ws → Named (quantity_form ws)
+unfolding quantity_form quantity_table quantity_table_rows
 quantity_named [] h = tt
 quantity_named (message ∷ []) h = tt
 quantity_named (message ∷ amount ∷ []) h = (h.0, tt)
@@ -119,18 +116,21 @@ quantity_named (t ∷ name ∷ index ∷ column ∷ rows ∷ []) h =
 quantity_named (t ∷ name ∷ index ∷ column ∷ rows ∷ w ∷ more) h = tt
 
 hops_named : (ws : Words) → AreWords ws → Named (hops_form ws)
+unfolding hops_form
 hops_named [] h = tt
 hops_named (n ∷ []) h = tt
 hops_named (message ∷ n ∷ []) h = (h.0, tt)
 hops_named (message ∷ n ∷ w ∷ more) h = tt
 
 delay_named : (ws : Words) → AreWords ws → Named (delay_form ws)
+unfolding delay_form
 delay_named [] h = tt
 delay_named (d ∷ []) h = tt
 delay_named (message ∷ d ∷ []) h = (h.0, tt)
 delay_named (message ∷ d ∷ w ∷ more) h = tt
 
 deadline_named : (ws : Words) → AreWords ws → Named (deadline_form ws)
+unfolding deadline_form
 deadline_named [] h = tt
 deadline_named (task ∷ []) h = tt
 deadline_named (task ∷ d ∷ []) h = (h.0, tt)
@@ -155,6 +155,7 @@ form_named (Some keywords.Deadline) ws h = deadline_named ws h
 
 -- the names of a statement are words where all words of its line are
 names_are_words : (ws : Words) → AreWords ws → Named (form_of ws)
+unfolding form_of
 names_are_words [] h = tt
 names_are_words (w ∷ ws) h = form_named (keyword_of w) ws h.1
 

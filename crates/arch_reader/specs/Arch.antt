@@ -1,10 +1,10 @@
 -- The architecture file: its rules, what its lines state, and what is kept of a file that was read.
-use Rattle.std.specs.Prelude.{◌≡◌, ℕ, List, [], ◌∷◌, ◌++◌, map, Bool, false, ◌&&◌, Option, Some, None, codes}
+use Rattle.std.specs.Prelude.{◌≡◌, ℕ, List, [], ◌∷◌, ◌++◌, map, Bool, false, Option, Some, None, codes}
 use Rattle.std.specs.List.{flat_map, All}
 use Rattle.std.specs.Option.{IfSome}
-use Rattle.std.specs.Str.{bytes_eq}
-use Rattle.line_words.specs.Rules.{Test, Words, Rules, Statement as Line, headed_rules, without_header}
-use Rattle.arch_reader.specs.Words.{IsWord}
+use Rattle.line_words.specs.Rules.{Test, Words, Rules, Statement as Line, without_header}
+use Rattle.file_bricks.specs.Headed.{headed_rules}
+use Rattle.file_bricks.specs.Words.{IsWord, is_headed}
 use Rattle.arch_reader.specs.Shapes.{form_of}
 use Rattle.arch_reader.specs.Seen.{seen}
 use Rattle.arch_reader.specs.Tests.{declared_name, names_in, has_arrow_name, has_reserved_name, is_late_clock, has_negative_weight, has_negative_time, has_negative_quantity, has_unknown_weight, has_unknown_key, has_unknown_place, has_unknown_resource, has_unknown_link, is_declared_again, is_second_clock, has_repeated_weight, has_repeated_key, has_repeated_place, is_self_link, has_fraction, has_big_scale, has_big_weight, has_big_time, has_big_quantity, has_long_name, is_past_resources, is_past_links, is_past_objectives, tests}
@@ -14,10 +14,7 @@ use Rattle.arch_reader.specs.declared.form.Form.{Form}
 
 -- `arch 1`
 abbrev pub is_header : Words → Bool
-is_header [] = false
-is_header (k ∷ []) = false
-is_header (k ∷ version ∷ []) = bytes_eq k (codes "arch") && bytes_eq version (codes "1")
-is_header (k ∷ version ∷ w ∷ more) = false
+is_header ws = is_headed (codes "arch") (codes "1") ws
 
 -- the statement of a form, at its line
 abbrev pub line_with : ℕ → Option Form → List ArchLine
@@ -39,13 +36,13 @@ statement_of l = l.statement
 abbrev pub statements_in : List ArchLine → List Statement
 statements_in ls = map statement_of ls
 
--- a statement is tried after the statements before it
-abbrev pub later : List Line → Words → List Test
-later before ws = tests (seen (statements_in (lines_of before))) (form_of ws)
+-- a statement is tried after the statements before it, whatever the header's words
+abbrev pub later : Words → List Line → Words → List Test
+later header before ws = tests (seen (statements_in (lines_of before))) (form_of ws)
 
 -- the end is tried by nothing more
-abbrev pub at_end : List Line → List Test
-at_end before = []
+abbrev pub at_end : Words → List Line → List Test
+at_end header before = []
 
 -- the rules of the architecture file
 abbrev pub arch_rules : Rules

@@ -5,6 +5,7 @@ use Rattle.line_words.specs.Decimal.{decimal_of}
 use Rattle.line_words.specs.Rules.{Words}
 use Rattle.line_words.specs.declared.numbers.NumberFault.{NumberFault}
 use Rattle.line_words.specs.declared.numbers.NumberFault.TheVariants.{BadNumber, TooBig}
+use Rattle.file_bricks.specs.Numbers.{whole_in, decimal_in}
 use Rattle.arch_reader.specs.Words.{key_of, value_of, equals}
 use Rattle.arch_reader.specs.declared.numbers.Misread.{Misread}
 use Rattle.arch_reader.specs.declared.numbers.Amounts.{Amounts}
@@ -30,24 +31,11 @@ abbrev pub misread : {A : Type 0} → Result A NumberFault → Misread
 misread (Ok v) = fine
 misread (Err fault) = misread_for fault
 
--- the number that was read, or another one
-abbrev pub read_or : {A : Type 0} → A → Result A NumberFault → A
-read_or other (Ok v) = v
-read_or other (Err fault) = other
-
--- a word as a whole number
-abbrev pub whole_in : List ℕ → ℕ
-whole_in word = read_or 0 (whole_of word)
-
--- whether it is one
+-- whether a word is a whole number
 abbrev pub whole_misread : List ℕ → Misread
 whole_misread word = misread (whole_of word)
 
--- a word as a decimal, in units of 10 ^ -12
-abbrev pub decimal_in : List ℕ → ℤ
-decimal_in word = read_or (pos 0) (decimal_of word)
-
--- whether it is one
+-- whether a word is a decimal
 abbrev pub decimal_misread : List ℕ → Misread
 decimal_misread word = misread (decimal_of word)
 
@@ -65,7 +53,7 @@ abbrev pub amount_misread : List ℕ → Misread
 amount_misread word = decimal_misread (value_of equals word)
 
 -- words `OBJ=D`
-abbrev pub amounts : Words → Amounts
+unfoldable pub amounts : Words → Amounts
 amounts ws = record { items = map key_amount ws; misread = all_misread amount_misread ws }
 
 -- a word `KEY=N` or `OBJ@N`, by its mark
@@ -77,7 +65,7 @@ abbrev pub column_misread : ℕ → List ℕ → Misread
 column_misread mark word = whole_misread (value_of mark word)
 
 -- words `KEY=N`, or words `OBJ@N`
-abbrev pub columns : ℕ → Words → Columns
+unfoldable pub columns : ℕ → Words → Columns
 columns mark ws = record { items = map (key_column mark) ws; misread = all_misread (column_misread mark) ws }
 
 -- an amount that is below zero, which is asked before it is cut

@@ -5,7 +5,9 @@ use Rattle.std.specs.Option.{option_map}
 use Rattle.std.specs.Str.{bytes_eq}
 use Rattle.line_words.specs.Rules.{Words}
 use Rattle.arch_reader.specs.Words.{equals, at_sign, key_of, value_of, is_keyed, are_keyed, are_placed, is_time}
-use Rattle.arch_reader.specs.Numbers.{fine, both, whole_in, whole_misread, decimal_in, decimal_misread, amounts, columns}
+use Rattle.file_bricks.specs.Words.{keyword_in}
+use Rattle.file_bricks.specs.Numbers.{whole_in, decimal_in}
+use Rattle.arch_reader.specs.Numbers.{fine, both, whole_misread, decimal_misread, amounts, columns}
 use Rattle.arch_reader.specs.declared.numbers.Misread.{Misread}
 use Rattle.arch_reader.specs.declared.statement.Statement.{Statement}
 use Rattle.arch_reader.specs.declared.statement.Statement.TheVariants.{Objective, Clock, Resource, Link, Traffic, Task, Message, Merge, Map, Table, Quantity, QuantityTable, Hops, Delay, Deadline}
@@ -14,30 +16,34 @@ use Rattle.arch_reader.specs.declared.keyword.Keyword.TheVariants as keywords
 use Rattle.arch_reader.specs.declared.form.Form.{Form}
 use Rattle.arch_reader.specs.declared.shapes.Settings.{Settings}
 
+-- the keywords
+abbrev pub keyword_table : List (List ℕ × Keyword)
+keyword_table = (codes "objective", keywords.Objective)
+    ∷ (codes "clock", keywords.Clock)
+    ∷ (codes "resource", keywords.Resource)
+    ∷ (codes "link", keywords.Link)
+    ∷ (codes "traffic", keywords.Traffic)
+    ∷ (codes "task", keywords.Task)
+    ∷ (codes "message", keywords.Message)
+    ∷ (codes "merge", keywords.Merge)
+    ∷ (codes "map", keywords.Map)
+    ∷ (codes "table", keywords.Table)
+    ∷ (codes "quantity", keywords.Quantity)
+    ∷ (codes "hops", keywords.Hops)
+    ∷ (codes "delay", keywords.Delay)
+    ∷ (codes "deadline", keywords.Deadline)
+    ∷ []
+
 -- what the first word of a statement says it is
-abbrev pub keyword_of : List ℕ → Option Keyword
-keyword_of word = if bytes_eq word (codes "objective") then Some keywords.Objective
-    else if bytes_eq word (codes "clock") then Some keywords.Clock
-    else if bytes_eq word (codes "resource") then Some keywords.Resource
-    else if bytes_eq word (codes "link") then Some keywords.Link
-    else if bytes_eq word (codes "traffic") then Some keywords.Traffic
-    else if bytes_eq word (codes "task") then Some keywords.Task
-    else if bytes_eq word (codes "message") then Some keywords.Message
-    else if bytes_eq word (codes "merge") then Some keywords.Merge
-    else if bytes_eq word (codes "map") then Some keywords.Map
-    else if bytes_eq word (codes "table") then Some keywords.Table
-    else if bytes_eq word (codes "quantity") then Some keywords.Quantity
-    else if bytes_eq word (codes "hops") then Some keywords.Hops
-    else if bytes_eq word (codes "delay") then Some keywords.Delay
-    else if bytes_eq word (codes "deadline") then Some keywords.Deadline
-    else None
+unfoldable pub keyword_of : List ℕ → Option Keyword
+keyword_of word = keyword_in keyword_table word
 
 -- a statement whose words are all numbers where they have to be
 abbrev pub plain : Statement → Form
 plain s = record { statement = s; misread = fine }
 
 -- `[scale N] [floor]`
-abbrev pub settings_of : Words → Option Settings
+unfoldable pub settings_of : Words → Option Settings
 settings_of [] = Some (record { scale = None; floor = false; misread = fine })
 settings_of (w ∷ []) = if bytes_eq w (codes "floor") then Some (record { scale = None; floor = true; misread = fine }) else None
 settings_of (w ∷ n ∷ []) = if bytes_eq w (codes "scale") then Some (record { scale = Some (whole_in n); floor = false; misread = whole_misread n }) else None
@@ -48,7 +54,7 @@ settings_of (w ∷ n ∷ f ∷ g ∷ more) = None
 abbrev pub objective_with : List ℕ → Settings → Form
 objective_with name s = record { statement = Objective name s.scale s.floor; misread = s.misread }
 
-abbrev pub objective_form : Words → Option Form
+unfoldable pub objective_form : Words → Option Form
 objective_form [] = None
 objective_form (name ∷ ws) = option_map (objective_with name) (settings_of ws)
 
@@ -56,11 +62,11 @@ objective_form (name ∷ ws) = option_map (objective_with name) (settings_of ws)
 abbrev pub clock_with : Settings → Form
 clock_with s = record { statement = Clock s.scale s.floor; misread = s.misread }
 
-abbrev pub clock_form : Words → Option Form
+unfoldable pub clock_form : Words → Option Form
 clock_form ws = option_map clock_with (settings_of ws)
 
 -- `resource NAME [OBJ=D]..`
-abbrev pub resource_form : Words → Option Form
+unfoldable pub resource_form : Words → Option Form
 resource_form [] = None
 resource_form (name ∷ ws) = if are_keyed ws then Some (record { statement = Resource name (amounts ws).items; misread = (amounts ws).misread }) else None
 
@@ -72,7 +78,7 @@ is_two_way word = if bytes_eq word (codes "--") then Some true else if bytes_eq 
 abbrev pub link_with : List ℕ → List ℕ → List ℕ → Words → Bool → Form
 link_with name a b ws two_way = record { statement = Link name a b two_way (amounts ws).items; misread = (amounts ws).misread }
 
-abbrev pub link_form : Words → Option Form
+unfoldable pub link_form : Words → Option Form
 link_form [] = None
 link_form (name ∷ []) = None
 link_form (name ∷ a ∷ []) = None
@@ -80,19 +86,19 @@ link_form (name ∷ a ∷ way ∷ []) = None
 link_form (name ∷ a ∷ way ∷ b ∷ ws) = if are_keyed ws then option_map (link_with name a b ws) (is_two_way way) else None
 
 -- `traffic LINK OBJ=D..`
-abbrev pub traffic_form : Words → Option Form
+unfoldable pub traffic_form : Words → Option Form
 traffic_form [] = None
 traffic_form (link ∷ []) = None
 traffic_form (link ∷ w ∷ ws) = if are_keyed (w ∷ ws) then Some (record { statement = Traffic link (amounts (w ∷ ws)).items; misread = (amounts (w ∷ ws)).misread }) else None
 
 -- `task NAME`
-abbrev pub task_form : Words → Option Form
+unfoldable pub task_form : Words → Option Form
 task_form [] = None
 task_form (name ∷ []) = Some (plain (Task name))
 task_form (name ∷ w ∷ more) = None
 
 -- `message NAME SENDER -> RECEIVER..`
-abbrev pub message_form : Words → Option Form
+unfoldable pub message_form : Words → Option Form
 message_form [] = None
 message_form (name ∷ []) = None
 message_form (name ∷ sender ∷ []) = None
@@ -100,7 +106,7 @@ message_form (name ∷ sender ∷ way ∷ []) = None
 message_form (name ∷ sender ∷ way ∷ r ∷ rs) = if bytes_eq way (codes "->") then Some (plain (Message name sender (r ∷ rs))) else None
 
 -- `merge NAME MESSAGE..`
-abbrev pub merge_form : Words → Option Form
+unfoldable pub merge_form : Words → Option Form
 merge_form [] = None
 merge_form (name ∷ []) = None
 merge_form (name ∷ m ∷ ms) = Some (plain (Merge name (m ∷ ms)))
@@ -119,7 +125,7 @@ after_time [] = []
 after_time (w ∷ ws) = if is_time w then ws else w ∷ ws
 
 -- `map TASK RESOURCE [time=D] [OBJ=D]..`
-abbrev pub map_form : Words → Option Form
+unfoldable pub map_form : Words → Option Form
 map_form [] = None
 map_form (task ∷ []) = None
 map_form (task ∷ resource ∷ ws) = if are_keyed ws then Some (record { statement = Map task resource (time_in ws) (amounts (after_time ws)).items; misread = both (time_misread ws) (amounts (after_time ws)).misread }) else None
@@ -132,7 +138,7 @@ abbrev pub after_keys : Words → Words
 after_keys ws = drop (prefix_len is_keyed ws) ws
 
 -- `table NAME INDEX RESOURCE [KEY=N].. [OBJ@N]..`
-abbrev pub table_form : Words → Option Form
+unfoldable pub table_form : Words → Option Form
 table_form [] = None
 table_form (name ∷ []) = None
 table_form (name ∷ index ∷ []) = None
@@ -147,10 +153,10 @@ table_form (name ∷ index ∷ resource ∷ ws) = if are_placed (after_keys ws)
 abbrev pub rows_key : List ℕ → Bool
 rows_key word = is_keyed word && bytes_eq (key_of equals word) (codes "rows")
 
-abbrev pub quantity_table : List ℕ → List ℕ → List ℕ → Option Form
+unfoldable pub quantity_table : List ℕ → List ℕ → List ℕ → Option Form
 quantity_table name index column = Some (record { statement = QuantityTable name (whole_in index) (whole_in column) None; misread = both (whole_misread index) (whole_misread column) })
 
-abbrev pub quantity_table_rows : List ℕ → List ℕ → List ℕ → List ℕ → Option Form
+unfoldable pub quantity_table_rows : List ℕ → List ℕ → List ℕ → List ℕ → Option Form
 quantity_table_rows name index column rows = if rows_key rows
     then Some (record {
       statement = QuantityTable name (whole_in index) (whole_in column) (Some (whole_in (value_of equals rows)));
@@ -159,7 +165,7 @@ quantity_table_rows name index column rows = if rows_key rows
     else None
 
 -- `quantity MESSAGE D`, or the statement with a table
-abbrev pub quantity_form : Words → Option Form
+unfoldable pub quantity_form : Words → Option Form
 quantity_form [] = None
 quantity_form (message ∷ []) = None
 quantity_form (message ∷ amount ∷ []) = Some (record { statement = Quantity message (decimal_in amount); misread = decimal_misread amount })
@@ -169,21 +175,21 @@ quantity_form (t ∷ name ∷ index ∷ column ∷ rows ∷ []) = if bytes_eq t 
 quantity_form (t ∷ name ∷ index ∷ column ∷ rows ∷ w ∷ more) = None
 
 -- `hops N`, `hops MESSAGE N`
-abbrev pub hops_form : Words → Option Form
+unfoldable pub hops_form : Words → Option Form
 hops_form [] = None
 hops_form (n ∷ []) = Some (record { statement = Hops None (whole_in n); misread = whole_misread n })
 hops_form (message ∷ n ∷ []) = Some (record { statement = Hops (Some message) (whole_in n); misread = whole_misread n })
 hops_form (message ∷ n ∷ w ∷ more) = None
 
 -- `delay D`, `delay MESSAGE D`
-abbrev pub delay_form : Words → Option Form
+unfoldable pub delay_form : Words → Option Form
 delay_form [] = None
 delay_form (d ∷ []) = Some (record { statement = Delay None (decimal_in d); misread = decimal_misread d })
 delay_form (message ∷ d ∷ []) = Some (record { statement = Delay (Some message) (decimal_in d); misread = decimal_misread d })
 delay_form (message ∷ d ∷ w ∷ more) = None
 
 -- `deadline TASK D`
-abbrev pub deadline_form : Words → Option Form
+unfoldable pub deadline_form : Words → Option Form
 deadline_form [] = None
 deadline_form (task ∷ []) = None
 deadline_form (task ∷ d ∷ []) = Some (record { statement = Deadline task (decimal_in d); misread = decimal_misread d })
@@ -208,6 +214,6 @@ form_with (Some keywords.Delay) ws = delay_form ws
 form_with (Some keywords.Deadline) ws = deadline_form ws
 
 -- what a statement's words say
-abbrev pub form_of : Words → Option Form
+unfoldable pub form_of : Words → Option Form
 form_of [] = None
 form_of (word ∷ ws) = form_with (keyword_of word) ws

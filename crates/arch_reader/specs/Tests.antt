@@ -262,49 +262,41 @@ abbrev pub is_past_objectives : Seen → Statement → Bool
 is_past_objectives seen (Objective name scale floor) = nat_le 8 (length seen.objectives)
 is_past_objectives seen s = false
 
--- ---- all tests, in the order of the refusals' numbers
+-- ---- all tests, one for each refusal, in the order of their numbers
 
-abbrev pub shape_tests : Seen → Form → List Test
-shape_tests seen f =
-    (BadStatement, has_arrow_name f.statement)
-    ∷ (BadStatement, has_reserved_name f.statement)
-    ∷ (BadStatement, is_late_clock seen f.statement)
-    ∷ (BadNumber, f.misread.bad)
-    ∷ (BadNumber, has_negative_weight f.statement)
-    ∷ (BadNumber, has_negative_time f.statement)
-    ∷ (BadNumber, has_negative_quantity f.statement)
-    ∷ []
+-- the shape of a statement isn't allowed
+unfoldable pub has_bad_shape : Seen → Statement → Bool
+has_bad_shape seen s = has_arrow_name s || has_reserved_name s || is_late_clock seen s
 
-abbrev pub name_tests : Seen → Form → List Test
-name_tests seen f =
-    (UnknownName, has_unknown_weight seen f.statement)
-    ∷ (UnknownName, has_unknown_key seen f.statement)
-    ∷ (UnknownName, has_unknown_place seen f.statement)
-    ∷ (UnknownName, has_unknown_resource seen f.statement)
-    ∷ (UnknownName, has_unknown_link seen f.statement)
-    ∷ (RepeatedName, is_declared_again seen f.statement)
-    ∷ (RepeatedName, is_second_clock seen f.statement)
-    ∷ (RepeatedName, has_repeated_weight f.statement)
-    ∷ (RepeatedName, has_repeated_key f.statement)
-    ∷ (RepeatedName, has_repeated_place f.statement)
+-- a word is no number, or a number is below zero
+unfoldable pub has_bad_number : Form → Bool
+has_bad_number f = f.misread.bad || has_negative_weight f.statement || has_negative_time f.statement || has_negative_quantity f.statement
+
+-- an objective, a resource or a link isn't declared
+unfoldable pub has_unknown_name : Seen → Statement → Bool
+has_unknown_name seen s = has_unknown_weight seen s || has_unknown_key seen s || has_unknown_place seen s || has_unknown_resource seen s || has_unknown_link seen s
+
+-- something is declared or written a second time
+unfoldable pub has_repeated_name : Seen → Statement → Bool
+has_repeated_name seen s = is_declared_again seen s || is_second_clock seen s || has_repeated_weight s || has_repeated_key s || has_repeated_place s
+
+-- a number is too big
+unfoldable pub has_big_number : Seen → Form → Bool
+has_big_number seen f = f.misread.big || has_big_scale f.statement || has_big_weight seen f.statement || has_big_time seen f.statement || has_big_quantity f.statement
+
+-- a line of no form is refused; one that has a form is tried
+unfoldable pub tests : Seen → Option Form → List Test
+tests seen None = (BadStatement, true) ∷ []
+tests seen (Some f) =
+    (BadStatement, has_bad_shape seen f.statement)
+    ∷ (BadNumber, has_bad_number f)
+    ∷ (UnknownName, has_unknown_name seen f.statement)
+    ∷ (RepeatedName, has_repeated_name seen f.statement)
     ∷ (SelfLink, is_self_link f.statement)
-    ∷ []
-
-abbrev pub value_tests : Seen → Form → List Test
-value_tests seen f =
-    (NotWhole, has_fraction seen f.statement)
-    ∷ (TooBig, f.misread.big)
-    ∷ (TooBig, has_big_scale f.statement)
-    ∷ (TooBig, has_big_weight seen f.statement)
-    ∷ (TooBig, has_big_time seen f.statement)
-    ∷ (TooBig, has_big_quantity f.statement)
+    ∷ (NotWhole, has_fraction seen f.statement)
+    ∷ (TooBig, has_big_number seen f)
     ∷ (Limit NameBytes, has_long_name f.statement)
     ∷ (Limit Resources, is_past_resources seen f.statement)
     ∷ (Limit Links, is_past_links seen f.statement)
     ∷ (Limit Objectives, is_past_objectives seen f.statement)
     ∷ []
-
--- a line of no form is refused; one that has a form is tried
-abbrev pub tests : Seen → Option Form → List Test
-tests seen None = (BadStatement, true) ∷ []
-tests seen (Some f) = shape_tests seen f ++ (name_tests seen f ++ value_tests seen f)

@@ -1,19 +1,8 @@
 -- Words that are cut in two, and names that may not be declared.
-use Rattle.std.specs.Prelude.{◌≡◌, ℕ, ◌<◌, List, length, map, Bool, true, ◌||◌, ◌&&◌, not, ◌==◌, codes}
+use Rattle.std.specs.Prelude.{ℕ, List, Bool, ◌||◌, ◌&&◌, not, ◌==◌, codes}
 use Rattle.std.specs.List.{list_any, list_all, before_first, after_first}
 use Rattle.std.specs.Str.{bytes_eq}
-use Rattle.std.specs.Borrow.{Bor}
-use Rattle.line_words.specs.Text.{is_word_byte}
 use Rattle.line_words.specs.Rules.{Words}
-
--- what words lent from a line say
-abbrev pub said : List (Bor (List ℕ)) → Words
-said ws = map (λ w. w.now) ws
-
--- a name is a word: at least one byte, each from 33 to 126 and no `#`
-pub record IsWord (name : List ℕ) : Type 0 where
-  pub some : 0 < length name
-  pub bytes : list_all is_word_byte name ≡ true
 
 -- `=`
 abbrev pub equals : ℕ

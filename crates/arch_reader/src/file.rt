@@ -3,8 +3,8 @@
 ghost use Rattle.arch_reader.specs.Arch.{AllPass};
 ghost use Rattle.std.specs.Prelude.{[]};
 
-use crate::lists::Items;
 use crate::statement::ArchLine;
+use file_bricks::Items;
 use std::marker::Model;
 
 /// The statements after the header in their order, and the number past the last line.

@@ -3,6 +3,8 @@
 ghost use Rattle.std.specs.Prelude.{◌≡◌};
 ghost use Rattle.arch_reader.specs.Shapes.{keyword_of};
 
+use file_bricks::keyword_in;
+
 /// What a statement is, by its first word.
 #[derive(Clone, Copy, Debug)]
 pub enum Keyword {
@@ -23,38 +25,25 @@ pub enum Keyword {
 }
 
 /// The keyword that a word is.
+#[tactic(auto, unfolding(crate::specs::Shapes::keyword_of))]
 pub(crate) fn keyword_of(word: &str) -> Option<Keyword>
     ensures { result ≡ keyword_of word.now }
 {
-    if word == "objective" {
-        Some(Keyword::Objective)
-    } else if word == "clock" {
-        Some(Keyword::Clock)
-    } else if word == "resource" {
-        Some(Keyword::Resource)
-    } else if word == "link" {
-        Some(Keyword::Link)
-    } else if word == "traffic" {
-        Some(Keyword::Traffic)
-    } else if word == "task" {
-        Some(Keyword::Task)
-    } else if word == "message" {
-        Some(Keyword::Message)
-    } else if word == "merge" {
-        Some(Keyword::Merge)
-    } else if word == "map" {
-        Some(Keyword::Map)
-    } else if word == "table" {
-        Some(Keyword::Table)
-    } else if word == "quantity" {
-        Some(Keyword::Quantity)
-    } else if word == "hops" {
-        Some(Keyword::Hops)
-    } else if word == "delay" {
-        Some(Keyword::Delay)
-    } else if word == "deadline" {
-        Some(Keyword::Deadline)
-    } else {
-        None
-    }
+    let table = [
+        ("objective", Keyword::Objective),
+        ("clock", Keyword::Clock),
+        ("resource", Keyword::Resource),
+        ("link", Keyword::Link),
+        ("traffic", Keyword::Traffic),
+        ("task", Keyword::Task),
+        ("message", Keyword::Message),
+        ("merge", Keyword::Merge),
+        ("map", Keyword::Map),
+        ("table", Keyword::Table),
+        ("quantity", Keyword::Quantity),
+        ("hops", Keyword::Hops),
+        ("delay", Keyword::Delay),
+        ("deadline", Keyword::Deadline),
+    ];
+    keyword_in(&table, word)
 }

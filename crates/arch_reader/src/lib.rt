@@ -10,7 +10,6 @@
 mod file;
 mod form;
 mod keyword;
-mod lists;
 mod numbers;
 mod parts;
 mod reading;
@@ -21,7 +20,6 @@ mod statement;
 mod words;
 
 pub use file::ArchFile;
-pub use lists::{Items, Name};
 pub use numbers::{at_scale, has_fraction_at};
 pub use reading::read_arch;
 pub use seen::{Objective, Seen, scale_or_0};

@@ -1,12 +1,13 @@
 //! The numbers of a line. A word that is no number counts as 0, and that it is none is kept beside.
 
 ghost use Rattle.std.specs.Prelude.{◌≡◌, ◌<◌, nat_lt, IfOk};
-ghost use Rattle.arch_reader.specs.Words.{said};
-ghost use Rattle.arch_reader.specs.Numbers.{fine, both, misread_for, whole_in, whole_misread, decimal_in, decimal_misread, key_amount, amount_misread, amounts, key_column, column_misread, columns, is_negative, units_in, unit_at, at_scale, fraction_at};
+ghost use Rattle.file_bricks.specs.Numbers.{whole_in, decimal_in};
+ghost use Rattle.file_bricks.specs.Words.{said};
+ghost use Rattle.arch_reader.specs.Numbers.{fine, both, misread_for, whole_misread, decimal_misread, key_amount, amount_misread, amounts, key_column, column_misread, columns, is_negative, units_in, unit_at, at_scale, fraction_at};
 
-use crate::lists::{Items, Name};
 use crate::statement::{KeyAmount, KeyColumn};
 use crate::words::cut;
+use file_bricks::{Items, text_of};
 use line_words::{NumberFault, decimal, whole};
 use std::alloc::{AllocError, Global};
 
@@ -77,24 +78,6 @@ pub(crate) fn read_decimal(word: &str) -> (i128, Misread)
     }
 }
 
-/// A word as a name.
-pub(crate) fn name_of(alloc: Global, word: &str) -> Result<Name, AllocError>
-    ensures { IfOk result (λ name. name ≡ word.now) }
-{
-    Ok(Name::of(String::from_str(alloc, word)?))
-}
-
-/// Words as names.
-pub(crate) fn names_of(alloc: Global, words: &[&str]) -> Result<Items<Name>, AllocError>
-    ensures { IfOk result (λ names. names ≡ said words.now) }
-{
-    let mut names = Vec::new(alloc);
-    for word in words {
-        names.push(name_of(alloc, word)?)?;
-    }
-    Ok(Items::of(names))
-}
-
 /// Reads a word `OBJ=D`.
 fn read_amount(alloc: Global, word: &str) -> Result<(KeyAmount, Misread), AllocError>
     ensures item { IfOk result (λ one. one.0 ≡ key_amount word.now) }
@@ -102,7 +85,7 @@ fn read_amount(alloc: Global, word: &str) -> Result<(KeyAmount, Misread), AllocE
 {
     let (key, value) = cut(word, '=');
     let (amount, misread) = read_decimal(value);
-    let key = name_of(alloc, key)?;
+    let key = text_of(alloc, key)?;
     Ok((KeyAmount { key, amount }, misread))
 }
 
@@ -114,6 +97,7 @@ pub struct Amounts {
 }
 
 /// Reads words that are all cut at `=` as objectives and amounts.
+#[tactic(auto, unfolding(crate::specs::Numbers::amounts))]
 pub(crate) fn read_amounts(alloc: Global, words: &[&str]) -> Result<Amounts, AllocError>
     ensures { IfOk result (λ read. read ≡ amounts (said words.now)) }
 {
@@ -138,7 +122,7 @@ fn read_column(alloc: Global, mark: char, word: &str) -> Result<(KeyColumn, Misr
 {
     let (key, value) = cut(word, mark);
     let (column, misread) = read_whole(value);
-    let key = name_of(alloc, key)?;
+    let key = text_of(alloc, key)?;
     Ok((KeyColumn { key, column }, misread))
 }
 
@@ -150,6 +134,7 @@ pub struct Columns {
 }
 
 /// Reads words that are all cut at a mark as keys and columns.
+#[tactic(auto, unfolding(crate::specs::Numbers::columns))]
 pub(crate) fn read_columns(alloc: Global, mark: char, words: &[&str]) -> Result<Columns, AllocError>
     requires { mark < 128 }
     ensures { IfOk result (λ read. read ≡ columns mark (said words.now)) }

@@ -1,6 +1,6 @@
 //! What a statement is refused for, after what the statements before it declare.
 //!
-//! There is one test for each cause, and `fault` tries them in the order of the refusals' numbers.
+//! There is one function for each cause, and `fault` tries one test for each refusal, in the order of their numbers.
 
 ghost use Rattle.std.specs.Prelude.{◌≡◌, Some};
 ghost use Rattle.std.specs.List.{list_any};
@@ -9,7 +9,6 @@ ghost use Rattle.line_words.specs.Rules.{first_broken};
 ghost use Rattle.arch_reader.specs.Tests as tests;
 
 use crate::form::Form;
-use crate::lists::Name;
 use crate::numbers::{at_scale, has_fraction_at, is_negative};
 use crate::parts::{
     declared_name, keys_of, quantity_of, scale_of, time_of, weights_at_of, weights_of,
@@ -17,6 +16,7 @@ use crate::parts::{
 use crate::seen::{Objective, Seen, scale_or_0};
 use crate::statement::{KeyAmount, KeyColumn, Statement};
 use crate::words::{is_arrow, is_reserved, is_table_key};
+use file_bricks::{Text, first_broken};
 use line_words::{What, Why};
 
 fn has_arrow_name(statement: &Statement) -> bool
@@ -73,7 +73,7 @@ fn has_negative_quantity(statement: &Statement) -> bool
 }
 
 /// Whether a name is among those that are declared.
-fn is_declared(names: &[Name], name: &str) -> bool
+fn is_declared(names: &[Text], name: &str) -> bool
     ensures { result ≡ tests.is_declared names.now name.now }
 {
     names.iter().any(|declared| declared.list() == name)
@@ -338,65 +338,72 @@ fn is_past_objectives(seen: &Seen, statement: &Statement) -> bool
     }
 }
 
-/// The first rule that is broken.
-fn first_broken(tests: &[(Why, bool)]) -> Option<Why>
-    ensures { result ≡ first_broken tests.now }
+#[tactic(auto, unfolding(crate::specs::Tests::has_bad_shape))]
+fn has_bad_shape(seen: &Seen, statement: &Statement) -> bool
+    ensures { result ≡ tests.has_bad_shape seen.now statement.now }
 {
-    let mut left = tests;
-    'tests: while let [(why, broken), more @ ..] = left {
-        if *broken {
-            return Some(*why);
-        }
-        left = more;
-    }
-    None
+    has_arrow_name(statement) || has_reserved_name(statement) || is_late_clock(seen, statement)
 }
 
-fn shape_fault(seen: &Seen, form: &Form) -> Option<Why>
-    ensures { result ≡ first_broken (tests.shape_tests seen.now form.now) }
+#[tactic(auto, unfolding(crate::specs::Tests::has_bad_number))]
+fn has_bad_number(form: &Form) -> bool
+    ensures { result ≡ tests.has_bad_number form.now }
+{
+    let statement = &form.statement;
+    form.misread.bad
+        || has_negative_weight(statement)
+        || has_negative_time(statement)
+        || has_negative_quantity(statement)
+}
+
+#[tactic(auto, unfolding(crate::specs::Tests::has_unknown_name))]
+fn has_unknown_name(seen: &Seen, statement: &Statement) -> bool
+    ensures { result ≡ tests.has_unknown_name seen.now statement.now }
+{
+    has_unknown_weight(seen, statement)
+        || has_unknown_key(seen, statement)
+        || has_unknown_place(seen, statement)
+        || has_unknown_resource(seen, statement)
+        || has_unknown_link(seen, statement)
+}
+
+#[tactic(auto, unfolding(crate::specs::Tests::has_repeated_name))]
+fn has_repeated_name(seen: &Seen, statement: &Statement) -> bool
+    ensures { result ≡ tests.has_repeated_name seen.now statement.now }
+{
+    is_declared_again(seen, statement)
+        || is_second_clock(seen, statement)
+        || has_repeated_weight(statement)
+        || has_repeated_key(statement)
+        || has_repeated_place(statement)
+}
+
+#[tactic(auto, unfolding(crate::specs::Tests::has_big_number))]
+fn has_big_number(seen: &Seen, form: &Form) -> bool
+    ensures { result ≡ tests.has_big_number seen.now form.now }
+{
+    let statement = &form.statement;
+    form.misread.big
+        || has_big_scale(statement)
+        || has_big_weight(seen, statement)
+        || has_big_time(seen, statement)
+        || has_big_quantity(statement)
+}
+
+/// What a statement is refused for, after what the statements before it declare.
+#[tactic(auto, unfolding(crate::specs::Tests::tests))]
+pub(crate) fn fault(seen: &Seen, form: &Form) -> Option<Why>
+    ensures { result ≡ first_broken (tests.tests seen.now (Some form.now)) }
 {
     let statement = &form.statement;
     first_broken(&[
-        (Why::BadStatement, has_arrow_name(statement)),
-        (Why::BadStatement, has_reserved_name(statement)),
-        (Why::BadStatement, is_late_clock(seen, statement)),
-        (Why::BadNumber, form.misread.bad),
-        (Why::BadNumber, has_negative_weight(statement)),
-        (Why::BadNumber, has_negative_time(statement)),
-        (Why::BadNumber, has_negative_quantity(statement)),
-    ])
-}
-
-fn name_fault(seen: &Seen, form: &Form) -> Option<Why>
-    ensures { result ≡ first_broken (tests.name_tests seen.now form.now) }
-{
-    let statement = &form.statement;
-    first_broken(&[
-        (Why::UnknownName, has_unknown_weight(seen, statement)),
-        (Why::UnknownName, has_unknown_key(seen, statement)),
-        (Why::UnknownName, has_unknown_place(seen, statement)),
-        (Why::UnknownName, has_unknown_resource(seen, statement)),
-        (Why::UnknownName, has_unknown_link(seen, statement)),
-        (Why::RepeatedName, is_declared_again(seen, statement)),
-        (Why::RepeatedName, is_second_clock(seen, statement)),
-        (Why::RepeatedName, has_repeated_weight(statement)),
-        (Why::RepeatedName, has_repeated_key(statement)),
-        (Why::RepeatedName, has_repeated_place(statement)),
+        (Why::BadStatement, has_bad_shape(seen, statement)),
+        (Why::BadNumber, has_bad_number(form)),
+        (Why::UnknownName, has_unknown_name(seen, statement)),
+        (Why::RepeatedName, has_repeated_name(seen, statement)),
         (Why::SelfLink, is_self_link(statement)),
-    ])
-}
-
-fn value_fault(seen: &Seen, form: &Form) -> Option<Why>
-    ensures { result ≡ first_broken (tests.value_tests seen.now form.now) }
-{
-    let statement = &form.statement;
-    first_broken(&[
         (Why::NotWhole, has_fraction(seen, statement)),
-        (Why::TooBig, form.misread.big),
-        (Why::TooBig, has_big_scale(statement)),
-        (Why::TooBig, has_big_weight(seen, statement)),
-        (Why::TooBig, has_big_time(seen, statement)),
-        (Why::TooBig, has_big_quantity(statement)),
+        (Why::TooBig, has_big_number(seen, form)),
         (Why::Limit(What::NameBytes), has_long_name(statement)),
         (
             Why::Limit(What::Resources),
@@ -408,15 +415,4 @@ fn value_fault(seen: &Seen, form: &Form) -> Option<Why>
             is_past_objectives(seen, statement),
         ),
     ])
-}
-
-/// What a statement is refused for, after what the statements before it declare.
-pub(crate) fn fault(seen: &Seen, form: &Form) -> Option<Why>
-    ensures { result ≡ first_broken (tests.tests seen.now (Some form.now)) }
-{
-    let shape = shape_fault(seen, form);
-    let name = name_fault(seen, form);
-    let value = value_fault(seen, form);
-    let later = name.or(value);
-    shape.or(later)
 }

@@ -5,16 +5,15 @@ ghost use Rattle.std.specs.Option.{option_map};
 ghost use Rattle.arch_reader.specs.Seen.{scale_or_0, seen, after};
 ghost use Rattle.arch_reader.specs.Tests.{objective_called};
 
-use crate::lists::{Items, Name};
-use crate::numbers::name_of;
 use crate::rules::objective_called;
 use crate::statement::Statement;
+use file_bricks::{Items, Text, text_of};
 use std::alloc::{AllocError, Global};
 
 /// An objective: its scale, and whether the fractions of its weights are cut off.
 #[derive(Debug, Drop)]
 pub struct Objective {
-    pub name: Name,
+    pub name: Text,
     pub scale: u64,
     pub floor: bool,
 }
@@ -24,8 +23,8 @@ pub struct Objective {
 #[derive(Debug, Drop)]
 pub struct Seen {
     pub objectives: Items<Objective>,
-    pub resources: Items<Name>,
-    pub links: Items<Name>,
+    pub resources: Items<Text>,
+    pub links: Items<Text>,
     pub clock: Option<u64>,
     pub is_timed: bool,
 }
@@ -61,14 +60,14 @@ impl Seen {
         match statement {
             Statement::Objective { name, scale, floor } => {
                 let objective = Objective {
-                    name: name_of(alloc, name.list())?,
+                    name: text_of(alloc, name.list())?,
                     scale: scale_or_0(*scale),
                     floor: *floor,
                 };
                 self.objectives.push(objective)
             }
-            Statement::Resource { name, .. } => self.resources.push(name_of(alloc, name.list())?),
-            Statement::Link { name, .. } => self.links.push(name_of(alloc, name.list())?),
+            Statement::Resource { name, .. } => self.resources.push(text_of(alloc, name.list())?),
+            Statement::Link { name, .. } => self.links.push(text_of(alloc, name.list())?),
             Statement::Clock { scale, .. } => {
                 if self.clock.is_none() {
                     self.clock = Some(scale_or_0(*scale));
@@ -85,6 +84,7 @@ impl Seen {
             _ => Ok(()),
         }
     }
+
     /// The objective with a name.
     pub fn objective(&self, name: &str) -> Option<&Objective>
         ensures { option_map (λ o. o.now) result ≡ objective_called self.now.objectives name.now }

@@ -4,17 +4,17 @@
 //! no number counts as 0, and the form says beside it that it was misread.
 
 ghost use Rattle.std.specs.Prelude.{◌≡◌, [], ◌∷◌, Some, IfOk};
-ghost use Rattle.arch_reader.specs.Words.{said};
-ghost use Rattle.arch_reader.specs.Numbers.{whole_in, whole_misread};
+ghost use Rattle.file_bricks.specs.Numbers.{whole_in};
+ghost use Rattle.file_bricks.specs.Words.{said};
+ghost use Rattle.arch_reader.specs.Numbers.{whole_misread};
 ghost use Rattle.arch_reader.specs.Shapes.{plain, settings_of, objective_form, clock_form, resource_form, is_two_way, link_form, traffic_form, task_form, message_form, merge_form, time_in, time_misread, after_time, map_form, keys_in, after_keys, table_form, rows_key, quantity_form, quantity_table, quantity_table_rows, hops_form, delay_form, deadline_form, form_with, form_of};
 
 use crate::form::Form;
 use crate::keyword::{Keyword, keyword_of};
-use crate::numbers::{
-    Misread, name_of, names_of, read_amounts, read_columns, read_decimal, read_whole,
-};
+use crate::numbers::{Misread, read_amounts, read_columns, read_decimal, read_whole};
 use crate::statement::Statement;
 use crate::words::{are_keyed, are_placed, cut, is_keyed, is_time, keyed_len};
+use file_bricks::{text_of, texts_of};
 use std::alloc::{AllocError, Global};
 
 /// A statement whose words are all numbers where they have to be.
@@ -47,6 +47,7 @@ fn scaled(scale: &str, floor: bool) -> Settings
     }
 }
 
+#[tactic(auto, unfolding(crate::specs::Shapes::settings_of))]
 fn floor_alone(word: &str) -> Option<Settings>
     ensures { result ≡ settings_of (word.now ∷ []) }
 {
@@ -61,6 +62,7 @@ fn floor_alone(word: &str) -> Option<Settings>
     }
 }
 
+#[tactic(auto, unfolding(crate::specs::Shapes::settings_of))]
 fn scale_alone(word: &str, scale: &str) -> Option<Settings>
     ensures { result ≡ settings_of (word.now ∷ scale.now ∷ []) }
 {
@@ -71,6 +73,7 @@ fn scale_alone(word: &str, scale: &str) -> Option<Settings>
     }
 }
 
+#[tactic(auto, unfolding(crate::specs::Shapes::settings_of))]
 fn scale_and_floor(word: &str, scale: &str, floor: &str) -> Option<Settings>
     ensures { result ≡ settings_of (word.now ∷ scale.now ∷ floor.now ∷ []) }
 {
@@ -84,6 +87,7 @@ fn scale_and_floor(word: &str, scale: &str, floor: &str) -> Option<Settings>
     }
 }
 
+#[tactic(auto, unfolding(crate::specs::Shapes::settings_of))]
 fn settings_of(words: &[&str]) -> Option<Settings>
     ensures { result ≡ settings_of (said words.now) }
 {
@@ -100,6 +104,7 @@ fn settings_of(words: &[&str]) -> Option<Settings>
     }
 }
 
+#[tactic(auto, unfolding(crate::specs::Shapes::objective_form))]
 fn objective_form(alloc: Global, words: &[&str]) -> Result<Option<Form>, AllocError>
     ensures { IfOk result (λ form. form ≡ objective_form (said words.now)) }
 {
@@ -110,7 +115,7 @@ fn objective_form(alloc: Global, words: &[&str]) -> Result<Option<Form>, AllocEr
         return Ok(None);
     };
     let statement = Statement::Objective {
-        name: name_of(alloc, name)?,
+        name: text_of(alloc, name)?,
         scale: settings.scale,
         floor: settings.floor,
     };
@@ -120,6 +125,7 @@ fn objective_form(alloc: Global, words: &[&str]) -> Result<Option<Form>, AllocEr
     }))
 }
 
+#[tactic(auto, unfolding(crate::specs::Shapes::clock_form))]
 fn clock_form(words: &[&str]) -> Option<Form>
     ensures { result ≡ clock_form (said words.now) }
 {
@@ -135,6 +141,7 @@ fn clock_form(words: &[&str]) -> Option<Form>
     })
 }
 
+#[tactic(auto, unfolding(crate::specs::Shapes::resource_form))]
 fn resource_form(alloc: Global, words: &[&str]) -> Result<Option<Form>, AllocError>
     ensures { IfOk result (λ form. form ≡ resource_form (said words.now)) }
 {
@@ -147,7 +154,7 @@ fn resource_form(alloc: Global, words: &[&str]) -> Result<Option<Form>, AllocErr
     let weights = read_amounts(alloc, weights)?;
     Ok(Some(Form {
         statement: Statement::Resource {
-            name: name_of(alloc, name)?,
+            name: text_of(alloc, name)?,
             weights: weights.items,
         },
         misread: weights.misread,
@@ -167,6 +174,7 @@ fn is_two_way(word: &str) -> Option<bool>
     }
 }
 
+#[tactic(auto, unfolding(crate::specs::Shapes::link_form))]
 fn link_form(alloc: Global, words: &[&str]) -> Result<Option<Form>, AllocError>
     ensures { IfOk result (λ form. form ≡ link_form (said words.now)) }
 {
@@ -181,9 +189,9 @@ fn link_form(alloc: Global, words: &[&str]) -> Result<Option<Form>, AllocError>
     };
     let weights = read_amounts(alloc, weights)?;
     let statement = Statement::Link {
-        name: name_of(alloc, name)?,
-        a: name_of(alloc, a)?,
-        b: name_of(alloc, b)?,
+        name: text_of(alloc, name)?,
+        a: text_of(alloc, a)?,
+        b: text_of(alloc, b)?,
         two_way,
         weights: weights.items,
     };
@@ -193,6 +201,7 @@ fn link_form(alloc: Global, words: &[&str]) -> Result<Option<Form>, AllocError>
     }))
 }
 
+#[tactic(auto, unfolding(crate::specs::Shapes::traffic_form))]
 fn traffic_form(alloc: Global, words: &[&str]) -> Result<Option<Form>, AllocError>
     ensures { IfOk result (λ form. form ≡ traffic_form (said words.now)) }
 {
@@ -208,23 +217,25 @@ fn traffic_form(alloc: Global, words: &[&str]) -> Result<Option<Form>, AllocErro
     let weights = read_amounts(alloc, weights)?;
     Ok(Some(Form {
         statement: Statement::Traffic {
-            link: name_of(alloc, link)?,
+            link: text_of(alloc, link)?,
             weights: weights.items,
         },
         misread: weights.misread,
     }))
 }
 
+#[tactic(auto, unfolding(crate::specs::Shapes::task_form))]
 fn task_form(alloc: Global, words: &[&str]) -> Result<Option<Form>, AllocError>
     ensures { IfOk result (λ form. form ≡ task_form (said words.now)) }
 {
     let [name] = words else {
         return Ok(None);
     };
-    let name = name_of(alloc, name)?;
+    let name = text_of(alloc, name)?;
     Ok(Some(plain(Statement::Task { name })))
 }
 
+#[tactic(auto, unfolding(crate::specs::Shapes::message_form))]
 fn message_form(alloc: Global, words: &[&str]) -> Result<Option<Form>, AllocError>
     ensures { IfOk result (λ form. form ≡ message_form (said words.now)) }
 {
@@ -238,13 +249,14 @@ fn message_form(alloc: Global, words: &[&str]) -> Result<Option<Form>, AllocErro
         return Ok(None);
     }
     let statement = Statement::Message {
-        name: name_of(alloc, name)?,
-        sender: name_of(alloc, sender)?,
-        receivers: names_of(alloc, receivers)?,
+        name: text_of(alloc, name)?,
+        sender: text_of(alloc, sender)?,
+        receivers: texts_of(alloc, receivers)?,
     };
     Ok(Some(plain(statement)))
 }
 
+#[tactic(auto, unfolding(crate::specs::Shapes::merge_form))]
 fn merge_form(alloc: Global, words: &[&str]) -> Result<Option<Form>, AllocError>
     ensures { IfOk result (λ form. form ≡ merge_form (said words.now)) }
 {
@@ -255,8 +267,8 @@ fn merge_form(alloc: Global, words: &[&str]) -> Result<Option<Form>, AllocError>
         return Ok(None);
     }
     let statement = Statement::Merge {
-        name: name_of(alloc, name)?,
-        messages: names_of(alloc, messages)?,
+        name: text_of(alloc, name)?,
+        messages: texts_of(alloc, messages)?,
     };
     Ok(Some(plain(statement)))
 }
@@ -292,6 +304,7 @@ fn time_word<'a>(words: &'a [&'a str]) -> TimeWord<'a>
     }
 }
 
+#[tactic(auto, unfolding(crate::specs::Shapes::map_form))]
 fn map_form(alloc: Global, words: &[&str]) -> Result<Option<Form>, AllocError>
     ensures { IfOk result (λ form. form ≡ map_form (said words.now)) }
 {
@@ -304,8 +317,8 @@ fn map_form(alloc: Global, words: &[&str]) -> Result<Option<Form>, AllocError>
     let time = time_word(more);
     let weights = read_amounts(alloc, time.rest)?;
     let statement = Statement::Map {
-        task: name_of(alloc, task)?,
-        resource: name_of(alloc, resource)?,
+        task: text_of(alloc, task)?,
+        resource: text_of(alloc, resource)?,
         time: time.time,
         weights: weights.items,
     };
@@ -323,6 +336,7 @@ fn split_keys<'a>(words: &'a [&'a str]) -> (&'a [&'a str], &'a [&'a str])
     words.split_at(keyed_len(words))
 }
 
+#[tactic(auto, unfolding(crate::specs::Shapes::table_form))]
 fn table_form(alloc: Global, words: &[&str]) -> Result<Option<Form>, AllocError>
     ensures { IfOk result (λ form. form ≡ table_form (said words.now)) }
 {
@@ -337,9 +351,9 @@ fn table_form(alloc: Global, words: &[&str]) -> Result<Option<Form>, AllocError>
     let keys = read_columns(alloc, '=', keys)?;
     let places = read_columns(alloc, '@', places)?;
     let statement = Statement::Table {
-        name: name_of(alloc, name)?,
+        name: text_of(alloc, name)?,
         index,
-        resource: name_of(alloc, resource)?,
+        resource: text_of(alloc, resource)?,
         keys: keys.items,
         weights_at: places.items,
     };
@@ -357,6 +371,7 @@ fn is_rows(word: &str) -> bool
     is_keyed(word) && key == "rows"
 }
 
+#[tactic(auto, unfolding(crate::specs::Shapes::quantity_table))]
 fn quantity_table(
     alloc: Global,
     name: &str,
@@ -368,7 +383,7 @@ fn quantity_table(
     let (index, misread_index) = read_whole(index);
     let (column, misread_column) = read_whole(column);
     let statement = Statement::QuantityTable {
-        name: name_of(alloc, name)?,
+        name: text_of(alloc, name)?,
         index,
         column,
         rows: None,
@@ -379,6 +394,7 @@ fn quantity_table(
     }))
 }
 
+#[tactic(auto, unfolding(crate::specs::Shapes::quantity_table_rows))]
 fn quantity_table_rows(
     alloc: Global,
     name: &str,
@@ -396,7 +412,7 @@ fn quantity_table_rows(
     let (column, misread_column) = read_whole(column);
     let (rows, misread_rows) = read_whole(value);
     let statement = Statement::QuantityTable {
-        name: name_of(alloc, name)?,
+        name: text_of(alloc, name)?,
         index,
         column,
         rows: Some(rows),
@@ -407,12 +423,13 @@ fn quantity_table_rows(
     }))
 }
 
+#[tactic(auto, unfolding(crate::specs::Shapes::quantity_form))]
 fn quantity_form(alloc: Global, words: &[&str]) -> Result<Option<Form>, AllocError>
     ensures { IfOk result (λ form. form ≡ quantity_form (said words.now)) }
 {
     match words {
         [message, amount] => {
-            let message = name_of(alloc, message)?;
+            let message = text_of(alloc, message)?;
             let (amount, misread) = read_decimal(amount);
             Ok(Some(Form {
                 statement: Statement::Quantity { message, amount },
@@ -435,6 +452,7 @@ fn quantity_form(alloc: Global, words: &[&str]) -> Result<Option<Form>, AllocErr
     }
 }
 
+#[tactic(auto, unfolding(crate::specs::Shapes::hops_form))]
 fn hops_form(alloc: Global, words: &[&str]) -> Result<Option<Form>, AllocError>
     ensures { IfOk result (λ form. form ≡ hops_form (said words.now)) }
 {
@@ -448,7 +466,7 @@ fn hops_form(alloc: Global, words: &[&str]) -> Result<Option<Form>, AllocError>
             Ok(Some(Form { statement, misread }))
         }
         [message, limit] => {
-            let message = Some(name_of(alloc, message)?);
+            let message = Some(text_of(alloc, message)?);
             let (limit, misread) = read_whole(limit);
             let statement = Statement::Hops { message, limit };
             Ok(Some(Form { statement, misread }))
@@ -457,6 +475,7 @@ fn hops_form(alloc: Global, words: &[&str]) -> Result<Option<Form>, AllocError>
     }
 }
 
+#[tactic(auto, unfolding(crate::specs::Shapes::delay_form))]
 fn delay_form(alloc: Global, words: &[&str]) -> Result<Option<Form>, AllocError>
     ensures { IfOk result (λ form. form ≡ delay_form (said words.now)) }
 {
@@ -470,7 +489,7 @@ fn delay_form(alloc: Global, words: &[&str]) -> Result<Option<Form>, AllocError>
             Ok(Some(Form { statement, misread }))
         }
         [message, amount] => {
-            let message = Some(name_of(alloc, message)?);
+            let message = Some(text_of(alloc, message)?);
             let (amount, misread) = read_decimal(amount);
             let statement = Statement::Delay { message, amount };
             Ok(Some(Form { statement, misread }))
@@ -479,13 +498,14 @@ fn delay_form(alloc: Global, words: &[&str]) -> Result<Option<Form>, AllocError>
     }
 }
 
+#[tactic(auto, unfolding(crate::specs::Shapes::deadline_form))]
 fn deadline_form(alloc: Global, words: &[&str]) -> Result<Option<Form>, AllocError>
     ensures { IfOk result (λ form. form ≡ deadline_form (said words.now)) }
 {
     let [task, at] = words else {
         return Ok(None);
     };
-    let task = name_of(alloc, task)?;
+    let task = text_of(alloc, task)?;
     let (at, misread) = read_decimal(at);
     Ok(Some(Form {
         statement: Statement::Deadline { task, at },
@@ -516,6 +536,7 @@ fn form_with(alloc: Global, keyword: Keyword, words: &[&str]) -> Result<Option<F
 }
 
 /// The form of a statement's words.
+#[tactic(auto, unfolding(crate::specs::Shapes::form_of))]
 pub(crate) fn form_of(alloc: Global, words: &[&str]) -> Result<Option<Form>, AllocError>
     ensures { IfOk result (λ form. form ≡ form_of (said words.now)) }
 {

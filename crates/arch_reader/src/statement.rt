@@ -1,18 +1,18 @@
 //! The statements of an architecture file.
 
-use crate::lists::{Items, Name};
+use file_bricks::{Items, Text};
 
 /// A word `OBJ=D`: an objective's name, and a decimal in units of 10 ^ -12.
 #[derive(Debug, Drop)]
 pub struct KeyAmount {
-    pub key: Name,
+    pub key: Text,
     pub amount: i128,
 }
 
 /// A word `KEY=N` or `OBJ@N` of a `table` line: a key, and a column or row from 0.
 #[derive(Debug, Drop)]
 pub struct KeyColumn {
-    pub key: Name,
+    pub key: Text,
     pub column: u64,
 }
 
@@ -21,7 +21,7 @@ pub struct KeyColumn {
 pub enum Statement {
     /// `objective NAME [scale N] [floor]`
     Objective {
-        name: Name,
+        name: Text,
         scale: Option<u64>,
         floor: bool,
     },
@@ -32,77 +32,77 @@ pub enum Statement {
     },
     /// `resource NAME [OBJ=D]..`
     Resource {
-        name: Name,
+        name: Text,
         weights: Items<KeyAmount>,
     },
     /// `link NAME A -- B [OBJ=D]..`, or `->` for a one-way link
     Link {
-        name: Name,
-        a: Name,
-        b: Name,
+        name: Text,
+        a: Text,
+        b: Text,
         two_way: bool,
         weights: Items<KeyAmount>,
     },
     /// `traffic LINK OBJ=D..`
     Traffic {
-        link: Name,
+        link: Text,
         weights: Items<KeyAmount>,
     },
     /// `task NAME`
     Task {
-        name: Name,
+        name: Text,
     },
     /// `message NAME SENDER -> RECEIVER..`
     Message {
-        name: Name,
-        sender: Name,
-        receivers: Items<Name>,
+        name: Text,
+        sender: Text,
+        receivers: Items<Text>,
     },
     /// `merge NAME MESSAGE..`
     Merge {
-        name: Name,
-        messages: Items<Name>,
+        name: Text,
+        messages: Items<Text>,
     },
     /// `map TASK RESOURCE [time=D] [OBJ=D]..`
     Map {
-        task: Name,
-        resource: Name,
+        task: Text,
+        resource: Text,
         time: Option<i128>,
         weights: Items<KeyAmount>,
     },
     /// `table NAME INDEX RESOURCE [KEY=N].. [OBJ@N]..`
     Table {
-        name: Name,
+        name: Text,
         index: u64,
-        resource: Name,
+        resource: Text,
         keys: Items<KeyColumn>,
         weights_at: Items<KeyColumn>,
     },
     /// `quantity MESSAGE D`
     Quantity {
-        message: Name,
+        message: Text,
         amount: i128,
     },
     /// `quantity table NAME INDEX COLUMN [rows=N]`
     QuantityTable {
-        name: Name,
+        name: Text,
         index: u64,
         column: u64,
         rows: Option<u64>,
     },
     /// `hops N` for all messages, or `hops MESSAGE N`
     Hops {
-        message: Option<Name>,
+        message: Option<Text>,
         limit: u64,
     },
     /// `delay D` for all messages, or `delay MESSAGE D`
     Delay {
-        message: Option<Name>,
+        message: Option<Text>,
         amount: i128,
     },
     /// `deadline TASK D`
     Deadline {
-        task: Name,
+        task: Text,
         at: i128,
     },
 }

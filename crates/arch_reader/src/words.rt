@@ -2,7 +2,8 @@
 
 ghost use Rattle.std.specs.Prelude.{◌≡◌, ◌<◌, ◌≤◌, length};
 ghost use Rattle.std.specs.List.{list_all, prefix_len};
-ghost use Rattle.arch_reader.specs.Words.{said, is_cut, key_of, value_of, is_keyed, is_placed, are_keyed, are_placed, is_time, is_arrow, is_table_key, is_reserved};
+ghost use Rattle.file_bricks.specs.Words.{said};
+ghost use Rattle.arch_reader.specs.Words.{is_cut, key_of, value_of, is_keyed, is_placed, are_keyed, are_placed, is_time, is_arrow, is_table_key, is_reserved};
 
 /// Whether a word has a mark, at which it is cut.
 pub(crate) fn is_cut(word: &str, mark: u8) -> bool

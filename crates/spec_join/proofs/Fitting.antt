@@ -10,7 +10,7 @@ use Rattle.std.proofs.lemmas.List.{length-map, take-map, map-append}
 use Rattle.names.specs.Names.{IsName, is_name_byte}
 use Rattle.spec_model.specs.Spec.{Name}
 use Rattle.line_words.specs.Text.{is_word_byte}
-use Rattle.arch_reader.specs.Words.{IsWord}
+use Rattle.file_bricks.specs.Words.{IsWord}
 use Rattle.arch_reader.specs.Numbers.{at_scale}
 use Rattle.std.specs.Option.{option_or}
 use Rattle.arch_reader.specs.Seen.{scale_or_0, seen, objectives_in, clock_in, after as seen_after}

@@ -16,7 +16,8 @@ use Rattle.line_words.specs.declared.numbers.NumberFault.{NumberFault}
 use Rattle.line_words.specs.declared.refusals.Why.{Why}
 use Rattle.line_words.specs.declared.refusals.Why.TheVariants.{RepeatedName, TooBig, NoRow, Limit}
 use Rattle.line_words.specs.declared.refusals.What.TheVariants.{Options}
-use Rattle.arch_reader.specs.Numbers.{at_scale, read_or}
+use Rattle.file_bricks.specs.Numbers.{read_or}
+use Rattle.arch_reader.specs.Numbers.{at_scale}
 use Rattle.arch_reader.specs.Words.{is_table_key}
 use Rattle.arch_reader.specs.declared.statement.KeyColumn.{KeyColumn}
 use Rattle.tgff_reader.specs.Looking.{table_at}

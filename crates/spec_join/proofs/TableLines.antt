@@ -8,7 +8,8 @@ use Rattle.line_words.specs.declared.refusals.Why.{Why}
 use Rattle.line_words.specs.declared.refusals.Why.TheVariants.{NoRow, TooBig}
 use Rattle.spec_model.specs.Spec.{Name}
 use Rattle.spec_graph.specs.Refusals.{IsMapped}
-use Rattle.arch_reader.specs.Numbers.{at_scale, read_or}
+use Rattle.file_bricks.specs.Numbers.{read_or}
+use Rattle.arch_reader.specs.Numbers.{at_scale}
 use Rattle.arch_reader.specs.declared.statement.KeyColumn.{KeyColumn}
 use Rattle.tgff_reader.specs.declared.file.Row.{Row}
 use Rattle.tgff_reader.specs.declared.file.Table.{Table}

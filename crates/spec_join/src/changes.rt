@@ -9,7 +9,8 @@ ghost use Rattle.spec_graph.specs.Changes.{IsSmallChange};
 ghost use Rattle.arch_reader.specs.declared.statement.Statement.{Statement};
 
 use crate::joiner::Joiner;
-use arch_reader::{KeyAmount, Name, at_scale};
+use arch_reader::{KeyAmount, at_scale};
+use file_bricks::Text;
 use line_words::{Stop, Why};
 use spec_graph::Change;
 
@@ -42,7 +43,7 @@ impl Joiner<'_> {
 
     /// `hops N` for all messages, now and later, or `hops MESSAGE N`
     #[tactic(auto, using(crate::proofs::Unknown::hops_refused, crate::proofs::Unknown::hops_accepted))]
-    pub(crate) fn hops(&mut self, message: &Option<Name>, limit: u64) -> Result<(), Stop>
+    pub(crate) fn hops(&mut self, message: &Option<Text>, limit: u64) -> Result<(), Stop>
         ensures done { OnOk result (self.new ≡ effect self.old (Statement.Hops message.now limit)) }
         ensures accepted { OnOk result (IsAccepted self.old (Statement.Hops message.now limit)) }
         ensures refused { IfErr result (Refuses self.old (Statement.Hops message.now limit)) }
@@ -59,7 +60,7 @@ impl Joiner<'_> {
 
     /// `delay D` for all messages, now and later, or `delay MESSAGE D`
     #[tactic(auto, using(crate::proofs::Unknown::delay_refused, crate::proofs::Unknown::delay_accepted))]
-    pub(crate) fn delay(&mut self, message: &Option<Name>, amount: i128) -> Result<(), Stop>
+    pub(crate) fn delay(&mut self, message: &Option<Text>, amount: i128) -> Result<(), Stop>
         requires { IsFit self.old (Statement.Delay message.now amount) }
         ensures done { OnOk result (self.new ≡ effect self.old (Statement.Delay message.now amount)) }
         ensures accepted { OnOk result (IsAccepted self.old (Statement.Delay message.now amount)) }

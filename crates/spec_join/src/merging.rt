@@ -13,7 +13,7 @@ ghost use Rattle.arch_reader.specs.declared.statement.Statement.{Statement};
 
 use crate::faults::stop_for;
 use crate::joiner::Joiner;
-use arch_reader::Name;
+use file_bricks::Text;
 use line_words::{Stop, Why};
 use spec_graph::{MsgNo, TaskNo};
 use std::alloc::AllocError;
@@ -34,7 +34,7 @@ fn is_unlisted(listed: &[MsgNo], m: usize) -> bool
 
 impl Joiner<'_> {
     /// The messages of names, in their order.
-    fn messages_of(&self, names: &[Name]) -> Result<Vec<MsgNo>, Stop>
+    fn messages_of(&self, names: &[Text]) -> Result<Vec<MsgNo>, Stop>
         ensures numbers { IfOk result (λ messages. map message_number messages.items ≡ map (number_of self.now.plan.message_names) names.now) }
         ensures many { IfOk result (λ messages. length messages.items ≡ length names.now) }
         ensures there { IfOk result (λ messages. All (λ m. m.0 < length self.now.plan.messages) messages.items) }
@@ -52,7 +52,7 @@ impl Joiner<'_> {
     }
 
     /// Whether two of the names are those of messages that are there and that other tasks send.
-    fn differ_in_sender(&self, names: &[Name]) -> bool
+    fn differ_in_sender(&self, names: &[Text]) -> bool
         ensures { IsTrue result ↔ DifferInSender self.now.plan names.now }
     {
         let mut sender: Option<TaskNo> = None;
@@ -89,7 +89,7 @@ impl Joiner<'_> {
     }
 
     /// `merge NAME MESSAGE..`
-    pub(crate) fn merge(&mut self, name: &str, names: &[Name]) -> Result<(), Stop>
+    pub(crate) fn merge(&mut self, name: &str, names: &[Text]) -> Result<(), Stop>
         requires { IsFit self.old (Statement.Merge name.now names.now) }
         ensures done { OnOk result (self.new ≡ effect self.old (Statement.Merge name.now names.now)) }
         ensures accepted { OnOk result (IsAccepted self.old (Statement.Merge name.now names.now)) }

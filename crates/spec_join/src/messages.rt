@@ -11,13 +11,13 @@ ghost use Rattle.arch_reader.specs.declared.statement.Statement.{Statement};
 
 use crate::faults::stop_for;
 use crate::joiner::Joiner;
-use arch_reader::Name;
+use file_bricks::Text;
 use line_words::{Stop, Why};
 use spec_graph::TaskNo;
 
 impl Joiner<'_> {
     /// The tasks of names, in their order.
-    fn tasks_of(&self, names: &[Name]) -> Result<Vec<TaskNo>, Stop>
+    fn tasks_of(&self, names: &[Text]) -> Result<Vec<TaskNo>, Stop>
         ensures numbers { IfOk result (λ tasks. map task_number tasks.items ≡ map (number_of self.now.plan.tasks) names.now) }
         ensures many { IfOk result (λ tasks. length tasks.items ≡ length names.now) }
         ensures there { IfOk result (λ tasks. All (λ t. t.0 < length self.now.plan.tasks) tasks.items) }
@@ -39,7 +39,7 @@ impl Joiner<'_> {
         &mut self,
         name: &str,
         sender: &str,
-        receivers: &[Name],
+        receivers: &[Text],
     ) -> Result<(), Stop>
         requires { IsFit self.old (Statement.Message name.now sender.now receivers.now) }
         ensures done { OnOk result (self.new ≡ effect self.old (Statement.Message name.now sender.now receivers.now)) }

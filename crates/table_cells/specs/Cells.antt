@@ -6,7 +6,8 @@ use Rattle.line_words.specs.declared.numbers.NumberFault.TheVariants as numbers
 use Rattle.line_words.specs.declared.refusals.Why.{Why}
 use Rattle.line_words.specs.declared.refusals.Why.TheVariants.{BadNumber, NoRow, NotWhole, TooBig}
 use Rattle.spec_model.specs.Limits.{most_number}
-use Rattle.arch_reader.specs.Numbers.{decimal_in, is_negative, at_scale, fraction_at}
+use Rattle.file_bricks.specs.Numbers.{decimal_in}
+use Rattle.arch_reader.specs.Numbers.{is_negative, at_scale, fraction_at}
 use Rattle.tgff_reader.specs.declared.file.Row.{Row}
 use Rattle.table_cells.specs.declared.cells.Taking.{Taking}
 
