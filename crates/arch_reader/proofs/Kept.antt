@@ -4,7 +4,7 @@ use Rattle.std.specs.List.{All}
 use Rattle.std.proofs.lemmas.List.{append-nil, flat_map_more, map_push}
 use Rattle.line_words.specs.Rules.{Statement as Line, first_broken}
 use Rattle.file_bricks.specs.Words.{IsWord}
-use Rattle.arch_reader.specs.Shapes.{plain, form_of}
+use Rattle.arch_reader.specs.Shapes.{plain}
 use Rattle.arch_reader.specs.Seen.{seen, after}
 use Rattle.arch_reader.specs.Tests.{names_in, tests}
 use Rattle.arch_reader.specs.Arch.{line_with, line_of, lines_of, statement_of, statements_in, Passes, AllPass}

@@ -1,5 +1,5 @@
 -- The numbers of several words, read one by one.
-use Rattle.std.proofs.Common.{◌≡◌, ℕ, ◌+◌, ◌<◌, Bool, true, false, ◌||◌, List, [], ◌∷◌, ◌++◌, length, map, take, get_or, refl, sym, ap, ◌∙◌, Bor}
+use Rattle.std.proofs.Common.{◌≡◌, ℕ, ◌+◌, ◌<◌, Bool, false, ◌||◌, List, [], ◌∷◌, ◌++◌, length, map, take, get_or, refl, sym, ap, ◌∙◌, Bor}
 use Rattle.std.proofs.lemmas.List.{map_push}
 use Rattle.line_words.specs.Rules.{Words}
 use Rattle.file_bricks.specs.Words.{said}

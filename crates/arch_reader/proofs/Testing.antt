@@ -10,7 +10,6 @@ use Rattle.line_words.proofs.Steps.{ranked}
 use Rattle.file_bricks.specs.Words.{IsWord}
 use Rattle.file_bricks.proofs.Deciding.{fine_for}
 use Rattle.file_bricks.proofs.Headed.{in_order_headed}
-use Rattle.arch_reader.specs.Numbers.{fine}
 use Rattle.arch_reader.specs.Shapes.{plain, form_of}
 use Rattle.arch_reader.specs.Seen.{seen}
 use Rattle.arch_reader.specs.Tests.{names_in, tests, has_bad_shape, has_bad_number, has_unknown_name, has_repeated_name, has_big_number}

@@ -18,7 +18,6 @@ use Rattle.arch_reader.specs.Arch.{ArchValue, AllPass, arch_rules, lines_in, sta
 use Rattle.arch_reader.specs.declared.seen.Seen.{Seen}
 use Rattle.arch_reader.specs.declared.statement.Statement.{Statement}
 use Rattle.arch_reader.specs.declared.statement.ArchLine.{ArchLine}
-use Rattle.arch_reader.specs.declared.form.Form.{Form}
 use Rattle.arch_reader.specs.declared.reading.Taken.{Taken}
 
 -- the first rule that a statement's words break, after what was seen

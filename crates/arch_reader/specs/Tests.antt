@@ -1,5 +1,5 @@
 -- What a statement is refused for, after what the statements before it declare: one test for each cause.
-use Rattle.std.specs.Prelude.{ℕ, ℤ, List, [], ◌∷◌, ◌++◌, length, Bool, true, false, ◌||◌, ◌&&◌, not, nat_lt, nat_le, Option, Some, None, is_some, find, is_none}
+use Rattle.std.specs.Prelude.{ℕ, ℤ, List, [], ◌∷◌, length, Bool, true, false, ◌||◌, ◌&&◌, not, nat_lt, nat_le, Option, Some, None, is_some, find, is_none}
 use Rattle.std.specs.List.{list_any}
 use Rattle.std.specs.Option.{option_map_or}
 use Rattle.std.specs.Str.{bytes_eq}

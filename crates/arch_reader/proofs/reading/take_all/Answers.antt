@@ -1,4 +1,4 @@
-use Rattle.std.proofs.Common.{◌≡◌, ◌++◌, ◌∷◌, [], refl, ◌∙◌}
+use Rattle.std.proofs.Common.{◌++◌, ◌∷◌, [], refl, ◌∙◌}
 use Rattle.line_words.specs.Text.{words_in}
 use Rattle.line_words.specs.Rules.{Words, Statement as Line, texts}
 use Rattle.line_words.specs.Run.{Reading}
