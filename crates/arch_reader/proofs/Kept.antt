@@ -6,7 +6,7 @@ use Rattle.line_words.specs.Rules.{Statement as Line, first_broken}
 use Rattle.file_bricks.specs.Words.{IsWord}
 use Rattle.arch_reader.specs.Shapes.{plain}
 use Rattle.arch_reader.specs.Seen.{seen, after}
-use Rattle.arch_reader.specs.Tests.{names_in, tests}
+use Rattle.arch_reader.specs.Tests.{tests}
 use Rattle.arch_reader.specs.Arch.{line_with, line_of, lines_of, statement_of, statements_in, Passes, AllPass}
 use Rattle.arch_reader.specs.Taking.{Takes}
 use Rattle.arch_reader.specs.declared.statement.Statement.{Statement}
@@ -15,7 +15,7 @@ use Rattle.arch_reader.specs.declared.form.Form.{Form}
 use Rattle.arch_reader.specs.declared.seen.Seen.{Seen}
 use Rattle.arch_reader.specs.declared.reading.Taken.{Taken}
 use Rattle.arch_reader.proofs.Declared.{seen-push}
-use Rattle.arch_reader.proofs.Naming.{names_all_words}
+use Rattle.arch_reader.proofs.Naming.{IsSaid, said_of}
 use Rattle.arch_reader.proofs.Testing.{passes}
 
 -- the statements of these lines were taken
@@ -47,9 +47,9 @@ one_taken old new done line i t words =
     let statements : statements_in (lines_of done) ++ s ∷ [] ≡ statements_in (lines_of done ++ at_line line.number s ∷ []) = sym (map_push statement_of (lines_of done) (at_line line.number s)) in
     let tried : first_broken (tests (seen (statements_in (lines_of done))) (Some (plain s))) ≡ None
     = ap (λ (x : Seen). first_broken (tests x (Some (plain s)))) (sym i.seen_is) ∙ ap (λ (f : Option Form). first_broken (tests old.seen f)) (sym t.form_is) ∙ t.fine in
-    let named : All IsWord (names_in s) = names_all_words line.words s words t.form_is in
+    let said : IsSaid s = said_of line.words s words t.form_is in
     let pass : AllPass [] (lines_of done ++ at_line line.number s ∷ [])
-    = AllPass-push [] (lines_of done) (at_line line.number s) (subst (AllPass []) i.lines_are i.pass) (passes (statements_in (lines_of done)) s named tried) in
+    = AllPass-push [] (lines_of done) (at_line line.number s) (subst (AllPass []) i.lines_are i.pass) (passes (statements_in (lines_of done)) s said tried) in
     record {
       seen_is = seen_is ∙ ap seen statements ∙ ap (λ (ls : List ArchLine). seen (statements_in ls)) lines;
       lines_are = lines_are ∙ lines;

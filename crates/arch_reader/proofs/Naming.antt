@@ -1,5 +1,5 @@
--- The names of a statement are words of its line.
-use Rattle.std.proofs.Common.{◌≡◌, Bool, true, false, cond, inl, inr, codes, [], ◌∷◌, Option, Some, None, subst}
+-- What the form of a statement makes sure of: its names are words of its line, and it is one that its form allows.
+use Rattle.std.proofs.Common.{◌≡◌, ℕ, ◌<◌, Bool, true, false, cond, inl, inr, codes, List, [], ◌∷◌, length, map, Option, Some, None, subst, arith}
 use Rattle.std.specs.Str.{bytes_eq}
 use Rattle.std.specs.List.{All, AllByRecursion}
 use Rattle.std.specs.Option.{IfSome, option_map}
@@ -7,9 +7,14 @@ use Rattle.std.proofs.lemmas.Bool.{cases_Bool}
 use Rattle.std.proofs.lemmas.List.Elements.{All-from_recursion, recursion_from_All}
 use Rattle.line_words.specs.Rules.{Words}
 use Rattle.file_bricks.specs.Words.{IsWord}
-use Rattle.arch_reader.specs.Words.{are_keyed, are_placed}
-use Rattle.arch_reader.specs.Numbers.{amounts}
-use Rattle.arch_reader.specs.Shapes.{plain, settings_of, objective_with, clock_with, link_with, is_two_way, objective_form, clock_form, resource_form, link_form, traffic_form, task_form, message_form, merge_form, map_form, table_form, after_keys, quantity_form, quantity_table, quantity_table_rows, rows_key, hops_form, delay_form, deadline_form, form_with, keyword_of, form_of}
+use Rattle.file_bricks.specs.Numbers.{whole_in, decimal_in}
+use Rattle.file_bricks.specs.Bounds.{IsAmount}
+use Rattle.file_bricks.proofs.Numbered.{whole_small}
+use Rattle.file_bricks.proofs.Bounded.{decimal_small}
+use Rattle.arch_reader.specs.Words.{equals, at_sign, value_of, is_time, are_keyed, are_placed}
+use Rattle.arch_reader.specs.Numbers.{key_amount, amounts, key_column, columns}
+use Rattle.arch_reader.specs.Formed.{IsFormed, HasAmount, HasColumn}
+use Rattle.arch_reader.specs.Shapes.{plain, settings_of, objective_with, clock_with, link_with, is_two_way, objective_form, clock_form, resource_form, link_form, traffic_form, task_form, message_form, merge_form, map_form, time_in, after_time, table_form, keys_in, after_keys, quantity_form, quantity_table, quantity_table_rows, rows_key, hops_form, delay_form, deadline_form, form_with, keyword_of, form_of}
 use Rattle.arch_reader.specs.Tests.{declared_name, names_in}
 use Rattle.arch_reader.specs.declared.statement.Statement.{Statement}
 use Rattle.arch_reader.specs.declared.statement.Statement.TheVariants as statements
@@ -24,12 +29,46 @@ use Rattle.arch_reader.specs.declared.shapes.Settings.{Settings}
 abbrev pub AreWords : Words → Type 0
 AreWords ws = AllByRecursion IsWord ws
 
--- ---- the names of a form
+-- ---- its numbers
 
--- the names of a form are words, if there is one
+whole_keyed : (mark : ℕ) (ws : Words) → AllByRecursion HasColumn (map (key_column mark) ws)
+whole_keyed mark [] = tt
+whole_keyed mark (w ∷ ws) = (whole_small (value_of mark w), whole_keyed mark ws)
+
+columns_whole : (mark : ℕ) (ws : Words) → All HasColumn (columns mark ws).items
+unfolding columns
+columns_whole mark ws = All-from_recursion HasColumn (map (key_column mark) ws) (whole_keyed mark ws)
+
+small_keyed : (ws : Words) → AllByRecursion HasAmount (map key_amount ws)
+small_keyed [] = tt
+small_keyed (w ∷ ws) = (decimal_small (value_of equals w), small_keyed ws)
+
+amounts_small : (ws : Words) → All HasAmount (amounts ws).items
+unfolding amounts
+amounts_small ws = All-from_recursion HasAmount (map key_amount ws) (small_keyed ws)
+
+amounts_some : (w : List ℕ) (ws : Words) → 0 < length (amounts (w ∷ ws)).items
+unfolding amounts
+amounts_some w ws = omega arith
+
+time_small : (ws : Words) → IfSome (time_in ws) IsAmount
+time_small [] = tt
+time_small (w ∷ ws) = elim (cases_Bool (is_time w)) [ inl t ↦ rw t (decimal_small (value_of equals w)) | inr f ↦ rw f tt ]
+
+-- ---- the names and the numbers of a form
+
+-- what is kept of a statement's words
+pub record IsSaid (s : Statement) : Type 0 where
+  pub named : AreWords (names_in s)
+  pub formed : IsFormed s
+
+said : (s : Statement) → AreWords (names_in s) → IsFormed s → IsSaid s
+said s n f = record { named = n; formed = f }
+
+-- the same of a form, if there is one
 abbrev Named : Option Form → Type 0
 Named None = Unit {0}
-Named (Some f) = AreWords (names_in f.statement)
+Named (Some f) = IsSaid f.statement
 
 -- a form that is there under a condition
 when : (b : Bool) (f : Option Form) → Named f → Named (cond b f None)
@@ -37,23 +76,23 @@ when true f n = n
 when false f n = tt
 
 -- a form that is made of something that may be there
-made : {X : Type 0} (f : X → Form) (o : Option X) → ((x : X) → AreWords (names_in (f x).statement)) → Named (option_map f o)
+made : {X : Type 0} (f : X → Form) (o : Option X) → ((x : X) → IsSaid (f x).statement) → Named (option_map f o)
 made f None n = tt
 made f (Some x) n = n x
 
 objective_named : (ws : Words) → AreWords ws → Named (objective_form ws)
 unfolding objective_form
 objective_named [] h = tt
-objective_named (name ∷ ws) h = made (objective_with name) (settings_of ws) (λ (s : Settings). (h.0, tt))
+objective_named (name ∷ ws) h = made (objective_with name) (settings_of ws) (λ (s : Settings). said (objective_with name s).statement (h.0, tt) tt)
 
 clock_named : (ws : Words) → Named (clock_form ws)
 unfolding clock_form
-clock_named ws = made clock_with (settings_of ws) (λ (s : Settings). tt)
+clock_named ws = made clock_with (settings_of ws) (λ (s : Settings). said (clock_with s).statement tt tt)
 
 resource_named : (ws : Words) → AreWords ws → Named (resource_form ws)
 unfolding resource_form
 resource_named [] h = tt
-resource_named (name ∷ ws) h = when (are_keyed ws) (Some (record { statement = statements.Resource name (amounts ws).items; misread = (amounts ws).misread })) (h.0, tt)
+resource_named (name ∷ ws) h = when (are_keyed ws) (Some (record { statement = statements.Resource name (amounts ws).items; misread = (amounts ws).misread })) (said (statements.Resource name (amounts ws).items) (h.0, tt) (amounts_small ws))
 
 link_named : (ws : Words) → AreWords ws → Named (link_form ws)
 unfolding link_form
@@ -63,18 +102,18 @@ link_named (name ∷ a ∷ []) h = tt
 link_named (name ∷ a ∷ way ∷ []) h = tt
 link_named (name ∷ a ∷ way ∷ b ∷ ws) h =
     when (are_keyed ws) (option_map (link_with name a b ws) (is_two_way way))
-    (made (link_with name a b ws) (is_two_way way) (λ (t : Bool). (h.0, (h.1.0, (h.1.1.1.0, tt)))))
+    (made (link_with name a b ws) (is_two_way way) (λ (t : Bool). said (link_with name a b ws t).statement (h.0, (h.1.0, (h.1.1.1.0, tt))) (amounts_small ws)))
 
 traffic_named : (ws : Words) → AreWords ws → Named (traffic_form ws)
 unfolding traffic_form
 traffic_named [] h = tt
 traffic_named (link ∷ []) h = tt
-traffic_named (link ∷ w ∷ ws) h = when (are_keyed (w ∷ ws)) (Some (record { statement = statements.Traffic link (amounts (w ∷ ws)).items; misread = (amounts (w ∷ ws)).misread })) (h.0, tt)
+traffic_named (link ∷ w ∷ ws) h = when (are_keyed (w ∷ ws)) (Some (record { statement = statements.Traffic link (amounts (w ∷ ws)).items; misread = (amounts (w ∷ ws)).misread })) (said (statements.Traffic link (amounts (w ∷ ws)).items) (h.0, tt) (amounts_some w ws, amounts_small (w ∷ ws)))
 
 task_named : (ws : Words) → AreWords ws → Named (task_form ws)
 unfolding task_form
 task_named [] h = tt
-task_named (name ∷ []) h = (h.0, tt)
+task_named (name ∷ []) h = said (statements.Task name) (h.0, tt) tt
 task_named (name ∷ w ∷ more) h = tt
 
 message_named : (ws : Words) → AreWords ws → Named (message_form ws)
@@ -83,57 +122,69 @@ message_named [] h = tt
 message_named (name ∷ []) h = tt
 message_named (name ∷ sender ∷ []) h = tt
 message_named (name ∷ sender ∷ way ∷ []) h = tt
-message_named (name ∷ sender ∷ way ∷ r ∷ rs) h = when (bytes_eq way (codes "->")) (Some (plain (statements.Message name sender (r ∷ rs)))) (h.0, (h.1.0, h.1.1.1))
+message_named (name ∷ sender ∷ way ∷ r ∷ rs) h = when (bytes_eq way (codes "->")) (Some (plain (statements.Message name sender (r ∷ rs)))) (said (statements.Message name sender (r ∷ rs)) (h.0, (h.1.0, h.1.1.1)) (omega arith))
 
 merge_named : (ws : Words) → AreWords ws → Named (merge_form ws)
 unfolding merge_form
 merge_named [] h = tt
 merge_named (name ∷ []) h = tt
-merge_named (name ∷ m ∷ ms) h = h
+merge_named (name ∷ m ∷ ms) h = said (statements.Merge name (m ∷ ms)) h (omega arith)
 
 map_named : (ws : Words) → AreWords ws → Named (map_form ws)
 unfolding map_form
 map_named [] h = tt
 map_named (task ∷ []) h = tt
-map_named (task ∷ resource ∷ ws) h = elim (cases_Bool (are_keyed ws)) [ inl t ↦ rw t (h.0, (h.1.0, tt)) | inr f ↦ rw f tt ]
+map_named (task ∷ resource ∷ ws) h = elim (cases_Bool (are_keyed ws)) [ inl t ↦ rw t (said (statements.Map task resource (time_in ws) (amounts (after_time ws)).items) (h.0, (h.1.0, tt)) (time_small ws, amounts_small (after_time ws))) | inr f ↦ rw f tt ]
+
+said_table : (name index resource : List ℕ) (ws : Words) → AreWords (name ∷ resource ∷ []) → IsSaid (statements.Table name (whole_in index) resource (columns equals (keys_in ws)).items (columns at_sign (after_keys ws)).items)
+said_table name index resource ws n = record {
+  named = n;
+  formed = record { index_is_whole = whole_small index; keys_are_whole = columns_whole equals (keys_in ws); places_are_whole = columns_whole at_sign (after_keys ws) };
+}
 
 table_named : (ws : Words) → AreWords ws → Named (table_form ws)
 unfolding table_form
 table_named [] h = tt
 table_named (name ∷ []) h = tt
 table_named (name ∷ index ∷ []) h = tt
-table_named (name ∷ index ∷ resource ∷ ws) h = elim (cases_Bool (are_placed (after_keys ws))) [ inl t ↦ rw t (h.0, (h.1.1.0, tt)) | inr f ↦ rw f tt ]
+table_named (name ∷ index ∷ resource ∷ ws) h = elim (cases_Bool (are_placed (after_keys ws))) [ inl t ↦ rw t (said_table name index resource ws (h.0, (h.1.1.0, tt))) | inr f ↦ rw f tt ]
+
+said_rows : (name index column rows : List ℕ) → AreWords (name ∷ []) → IsSaid (statements.QuantityTable name (whole_in index) (whole_in column) (Some (whole_in (value_of equals rows))))
+said_rows name index column rows n = record {
+  named = n;
+  formed = record { index_is_whole = whole_small index; column_is_whole = whole_small column; rows_are_whole = whole_small (value_of equals rows) };
+}
 
 quantity_named : (ws : Words) → AreWords ws → Named (quantity_form ws)
 unfolding quantity_form quantity_table quantity_table_rows
 quantity_named [] h = tt
 quantity_named (message ∷ []) h = tt
-quantity_named (message ∷ amount ∷ []) h = (h.0, tt)
+quantity_named (message ∷ amount ∷ []) h = said (statements.Quantity message (decimal_in amount)) (h.0, tt) (decimal_small amount)
 quantity_named (t ∷ name ∷ index ∷ []) h = tt
-quantity_named (t ∷ name ∷ index ∷ column ∷ []) h = when (bytes_eq t (codes "table")) (quantity_table name index column) (h.1.0, tt)
+quantity_named (t ∷ name ∷ index ∷ column ∷ []) h = when (bytes_eq t (codes "table")) (quantity_table name index column) (said (statements.QuantityTable name (whole_in index) (whole_in column) None) (h.1.0, tt) (record { index_is_whole = whole_small index; column_is_whole = whole_small column; rows_are_whole = tt }))
 quantity_named (t ∷ name ∷ index ∷ column ∷ rows ∷ []) h =
-    when (bytes_eq t (codes "table")) (quantity_table_rows name index column rows) (elim (cases_Bool (rows_key rows)) [ inl k ↦ rw k (h.1.0, tt) | inr k ↦ rw k tt ])
+    when (bytes_eq t (codes "table")) (quantity_table_rows name index column rows) (elim (cases_Bool (rows_key rows)) [ inl k ↦ rw k (said_rows name index column rows (h.1.0, tt)) | inr k ↦ rw k tt ])
 quantity_named (t ∷ name ∷ index ∷ column ∷ rows ∷ w ∷ more) h = tt
 
 hops_named : (ws : Words) → AreWords ws → Named (hops_form ws)
 unfolding hops_form
 hops_named [] h = tt
-hops_named (n ∷ []) h = tt
-hops_named (message ∷ n ∷ []) h = (h.0, tt)
+hops_named (n ∷ []) h = said (statements.Hops None (whole_in n)) tt (whole_small n)
+hops_named (message ∷ n ∷ []) h = said (statements.Hops (Some message) (whole_in n)) (h.0, tt) (whole_small n)
 hops_named (message ∷ n ∷ w ∷ more) h = tt
 
 delay_named : (ws : Words) → AreWords ws → Named (delay_form ws)
 unfolding delay_form
 delay_named [] h = tt
-delay_named (d ∷ []) h = tt
-delay_named (message ∷ d ∷ []) h = (h.0, tt)
+delay_named (d ∷ []) h = said (statements.Delay None (decimal_in d)) tt (decimal_small d)
+delay_named (message ∷ d ∷ []) h = said (statements.Delay (Some message) (decimal_in d)) (h.0, tt) (decimal_small d)
 delay_named (message ∷ d ∷ w ∷ more) h = tt
 
 deadline_named : (ws : Words) → AreWords ws → Named (deadline_form ws)
 unfolding deadline_form
 deadline_named [] h = tt
 deadline_named (task ∷ []) h = tt
-deadline_named (task ∷ d ∷ []) h = (h.0, tt)
+deadline_named (task ∷ d ∷ []) h = said (statements.Deadline task (decimal_in d)) (h.0, tt) (decimal_small d)
 deadline_named (task ∷ d ∷ w ∷ more) h = tt
 
 form_named : (k : Option Keyword) (ws : Words) → AreWords ws → Named (form_with k ws)
@@ -153,14 +204,17 @@ form_named (Some keywords.Hops) ws h = hops_named ws h
 form_named (Some keywords.Delay) ws h = delay_named ws h
 form_named (Some keywords.Deadline) ws h = deadline_named ws h
 
--- the names of a statement are words where all words of its line are
-names_are_words : (ws : Words) → AreWords ws → Named (form_of ws)
+-- what the words of a line say
+said_by : (ws : Words) → AreWords ws → Named (form_of ws)
 unfolding form_of
-names_are_words [] h = tt
-names_are_words (w ∷ ws) h = form_named (keyword_of w) ws h.1
+said_by [] h = tt
+said_by (w ∷ ws) h = form_named (keyword_of w) ws h.1
 
-pub names_all_words : (ws : Words) (s : Statement) → All IsWord ws → form_of ws ≡ Some (plain s) → All IsWord (names_in s)
-names_all_words ws s h e = All-from_recursion IsWord (names_in s) (subst Named e (names_are_words ws (recursion_from_All IsWord ws h)))
+pub said_of : (ws : Words) (s : Statement) → All IsWord ws → form_of ws ≡ Some (plain s) → IsSaid s
+said_of ws s h e = subst Named e (said_by ws (recursion_from_All IsWord ws h))
+
+pub names_said : (s : Statement) → IsSaid s → All IsWord (names_in s)
+names_said s h = All-from_recursion IsWord (names_in s) h.named
 
 -- the declared name is the first one
 pub declared_is_word : (s : Statement) → All IsWord (names_in s) → IfSome (declared_name s) IsWord

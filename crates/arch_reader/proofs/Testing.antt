@@ -1,25 +1,23 @@
 -- The rules stand in their order; a statement that is accepted breaks none of them.
 use Rattle.std.proofs.Common.{◌≡◌, Bool, true, false, ◌||◌, List, Option, Some, None, refl, sym, ap}
 use Rattle.std.proofs.lemmas.Bool.{false≢true}
-use Rattle.std.specs.List.{All}
 use Rattle.line_words.specs.Refused.{rank}
 use Rattle.line_words.specs.Rules.{IsRanked, AreInOrder, first_broken}
 use Rattle.line_words.specs.declared.refusals.Why.TheVariants.{NoHeader, BadStatement, BadNumber, UnknownName, RepeatedName, SelfLink, NotWhole, TooBig, Limit}
 use Rattle.line_words.specs.declared.refusals.What.TheVariants.{NameBytes, Resources, Links, Objectives}
 use Rattle.line_words.proofs.Steps.{ranked}
-use Rattle.file_bricks.specs.Words.{IsWord}
 use Rattle.file_bricks.proofs.Deciding.{fine_for}
 use Rattle.file_bricks.proofs.Headed.{in_order_headed}
 use Rattle.arch_reader.specs.Shapes.{plain, form_of}
 use Rattle.arch_reader.specs.Seen.{seen}
-use Rattle.arch_reader.specs.Tests.{names_in, tests, has_bad_shape, has_bad_number, has_unknown_name, has_repeated_name, has_big_number}
+use Rattle.arch_reader.specs.Tests.{tests, has_bad_shape, has_bad_number, has_unknown_name, has_repeated_name, has_big_number}
 use Rattle.arch_reader.specs.Arch.{is_header, later, at_end, arch_rules, statements_in, lines_of, Passes}
 use Rattle.arch_reader.specs.declared.statement.Statement.{Statement}
 use Rattle.arch_reader.specs.declared.numbers.Misread.{Misread}
 use Rattle.arch_reader.specs.declared.form.Form.{Form}
 use Rattle.arch_reader.specs.declared.seen.Seen.{Seen}
 use Rattle.arch_reader.proofs.Misreading.{none_misread}
-use Rattle.arch_reader.proofs.Naming.{declared_is_word}
+use Rattle.arch_reader.proofs.Naming.{IsSaid, names_said, declared_is_word}
 
 -- ---- their order
 
@@ -64,16 +62,18 @@ pub accepted_plain : (s : Seen) (f : Form) → first_broken (tests s (Some f)) �
 accepted_plain s f e = ap (λ (x : Misread). with_misread f.statement x) (none_misread f.misread (no_bad s f e) (no_big s f e))
 
 -- the tests by name
-pub passes : (before : List Statement) (s : Statement) → All IsWord (names_in s) → first_broken (tests (seen before) (Some (plain s))) ≡ None → Passes before s
+pub passes : (before : List Statement) (s : Statement) → IsSaid s → first_broken (tests (seen before) (Some (plain s))) ≡ None → Passes before s
 unfolding tests has_bad_shape has_bad_number has_unknown_name has_repeated_name has_big_number
-passes before s words e =
+passes before s said e =
     let ts = tests (seen before) (Some (plain s)) in
+    let words = names_said s said in
     let shape = fine_for BadStatement ts e in
     let number = fine_for BadNumber ts e in
     let unknown = fine_for UnknownName ts e in
     let repeated = fine_for RepeatedName ts e in
     let big = fine_for TooBig ts e in
     record {
+      is_formed = said.formed;
       name_is_word = declared_is_word s words;
       names_are_words = words;
       name_is_no_arrow = left _ _ (left _ _ shape);

@@ -7,6 +7,7 @@ use Rattle.file_bricks.specs.Headed.{headed_rules}
 use Rattle.file_bricks.specs.Words.{IsWord, is_headed}
 use Rattle.arch_reader.specs.Shapes.{form_of}
 use Rattle.arch_reader.specs.Seen.{seen}
+use Rattle.arch_reader.specs.Formed.{IsFormed}
 use Rattle.arch_reader.specs.Tests.{declared_name, names_in, has_arrow_name, has_reserved_name, is_late_clock, has_negative_weight, has_negative_time, has_negative_quantity, has_unknown_weight, has_unknown_key, has_unknown_place, has_unknown_resource, has_unknown_link, is_declared_again, is_second_clock, has_repeated_weight, has_repeated_key, has_repeated_place, is_self_link, has_fraction, has_big_scale, has_big_weight, has_big_time, has_big_quantity, has_long_name, is_past_resources, is_past_links, is_past_objectives, tests}
 use Rattle.arch_reader.specs.declared.statement.Statement.{Statement}
 use Rattle.arch_reader.specs.declared.statement.ArchLine.{ArchLine}
@@ -52,9 +53,10 @@ arch_rules = headed_rules is_header later at_end
 abbrev pub stated : List Line → List ArchLine
 stated ls = lines_of (without_header ls)
 
--- A statement breaks no rule after the statements before it: each test by name. A statement that was read has numbers
--- in their places, so no test of that stands here. Its names are words of its line.
+-- A statement breaks no rule after the statements before it: it is one that its form allows, its names are words of its
+-- line, and each test by name. A statement that was read has numbers in their places, so no test of that stands here.
 pub record Passes (before : List Statement) (s : Statement) : Type 0 where
+  pub is_formed : IsFormed s
   pub name_is_word : IfSome (declared_name s) IsWord
   pub names_are_words : All IsWord (names_in s)
   pub name_is_no_arrow : has_arrow_name s ≡ false

@@ -3,5 +3,6 @@ pub mod Numbers
 pub mod Shapes
 pub mod Seen
 pub mod Tests
+pub mod Formed
 pub mod Arch
 pub mod Taking
