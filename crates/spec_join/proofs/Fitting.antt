@@ -61,7 +61,7 @@ bytes_of (b ∷ bs) h = both_true (is_name_byte b) (list_all is_name_byte bs)
 
 -- a word is a name
 pub named_of : (name : Name) → IsWord name → IsName name
-named_of name h = record { some = h.some; bytes = bytes_of name h.bytes }
+named_of name h = record { some = h.some; bytes = bytes_of name h.plain }
 
 there : (was now : List Name) (name : Name) → now ≡ was → not (is_declared was name) ≡ false → Contains now name
 there was now name e h = subst (λ (ns : List Name). Contains ns name) (sym e) (declared_of was name (not_false (is_declared was name) h))
@@ -109,8 +109,8 @@ fits before s (Traffic link ws) t p = record {
   weighable = weighable_of before s (Traffic link ws) t p;
 }
 fits before s (Task name) t p = named_of name p.name_is_word
-fits before s (Message name sender receivers) t p = named_of name p.name_is_word
-fits before s (Merge name messages) t p = named_of name p.name_is_word
+fits before s (Message name sender receivers) t p = record { named = named_of name p.name_is_word; some = p.is_formed }
+fits before s (Merge name messages) t p = record { named = named_of name p.name_is_word; some = p.is_formed }
 fits before s (Map task resource time ws) t p = record {
   there = there (seen before).resources s.plan.resources resource t.resources p.resources_are_known;
   weighable = weighable_of before s (Map task resource time ws) t p;

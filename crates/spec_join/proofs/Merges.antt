@@ -13,13 +13,12 @@ use Rattle.spec_graph.specs.declared.faults.BuildFault.{BuildFault}
 use Rattle.spec_graph.specs.declared.faults.BuildFault.TheVariants.{Repeated, SelfLink, Cyclic, TooBig, Limit, NoMemory}
 use Rattle.arch_reader.specs.declared.statement.Statement.TheVariants.{Merge}
 use Rattle.spec_join.specs.Joining.{Joining, sender_of}
-use Rattle.spec_join.specs.Refusals.{IsBad, IsRepeated, IsOfOther, DifferInSender}
+use Rattle.spec_join.specs.Refusals.{IsRepeated, IsOfOther, DifferInSender}
 use Rattle.spec_join.specs.Stops.{stop_for, Refuses, IsAccepted}
 use Rattle.spec_join.proofs.Listing.{number_there, same_name, twice_of, twice_by, none_missing, one_number}
 
 -- what the code has found of a merge before the builder tries it
 pub record IsGathered (p : SpecValue) (names : List Name) (listed : List ℕ) : Type 0 where
-  pub some : 0 < length names
   pub agree : DifferInSender p names → ⊥
   pub known : All (Contains p.message_names) names
   pub is : listed ≡ map (number_of p.message_names) names
@@ -88,10 +87,6 @@ other_by p name names known h =
       same = n.same;
     }
 
-good_of : (s : Joining) (name : Name) (names : List Name) (listed : List ℕ) → IsGathered s.plan names listed → IsBad s (Merge name names) → ⊥
-good_of s name names listed g (inl e) = omega (arith, e, g.some)
-good_of s name names listed g (inr d) = g.agree d
-
 repeated_of : (s : Joining) (name : Name) (names : List Name) → AreDistinct s.plan.message_names → All (Contains s.plan.message_names) names → IsMergeRepeated s.plan name (map (number_of s.plan.message_names) names) → IsRepeated s (Merge name names)
 repeated_of s name names distinct known (inl h) = inl (twice_of s.plan.message_names names known h)
 repeated_of s name names distinct known (inr h) = inr (other_of s.plan name names distinct h)
@@ -102,7 +97,7 @@ repeated_by s name names known (inr h) = inr (other_by s.plan name names known h
 
 pub merge_refused : (s : Joining) (name : Name) (names : List Name) (listed : List ℕ) (fault : BuildFault) → AreDistinct s.plan.message_names → IsGathered s.plan names listed → IsMergeRefused s.plan name listed fault → Refuses s (Merge name names) (stop_for fault)
 merge_refused s name names listed Repeated d g h =
-    (good_of s name names listed g, none_missing s.plan.message_names names g.known, repeated_of s name names d g.known (subst (IsMergeRepeated s.plan name) g.is h))
+    (g.agree, none_missing s.plan.message_names names g.known, repeated_of s name names d g.known (subst (IsMergeRepeated s.plan name) g.is h))
 merge_refused s name names listed NoMemory d g h = tt
 merge_refused s name names listed SelfLink d g h = absurd h
 merge_refused s name names listed Cyclic d g h = absurd h
@@ -111,7 +106,7 @@ merge_refused s name names listed (Limit what) d g h = absurd h
 
 pub merge_accepted : (s : Joining) (name : Name) (names : List Name) (listed : List ℕ) → IsGathered s.plan names listed → (IsMergeRepeated s.plan name listed → ⊥) → IsAccepted s (Merge name names)
 merge_accepted s name names listed g h = record {
-  good = good_of s name names listed g;
+  good = g.agree;
   known = none_missing s.plan.message_names names g.known;
   once = λ r. h (subst (IsMergeRepeated s.plan name) (sym g.is) (repeated_by s name names g.known r));
   free = λ x. x;

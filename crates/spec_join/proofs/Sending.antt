@@ -23,16 +23,14 @@ made sender receivers hops delay = record { sender = sender; receivers = receive
 
 -- what the code has found of a message before the builder tries it
 pub record IsResolved (s : Joining) (sender : Name) (receivers : List Name) (m : MessageValue) : Type 0 where
-  pub some : 0 < length receivers
   pub from : Contains s.plan.tasks sender
   pub to : All (Contains s.plan.tasks) receivers
   pub small : s.delay ≤ 2 ^ 40
   pub is : m ≡ message_between s sender receivers
 
-pub resolved : (j s : Joining) (sender : Name) (receivers : List Name) (from : TaskNo) (items passed : List TaskNo) → j ≡ s → passed ≡ items → 0 < length receivers → IsNumberOf s.plan.tasks sender from.0 → All (Contains s.plan.tasks) receivers
+pub resolved : (j s : Joining) (sender : Name) (receivers : List Name) (from : TaskNo) (items passed : List TaskNo) → j ≡ s → passed ≡ items → IsNumberOf s.plan.tasks sender from.0 → All (Contains s.plan.tasks) receivers
     → map task_number items ≡ map (number_of s.plan.tasks) receivers → j.delay ≤ 2 ^ 40 → IsResolved s sender receivers (message_of from passed j.hops j.delay 1)
-resolved j s sender receivers from items passed e p some n known numbers small = record {
-  some = some;
+resolved j s sender receivers from items passed e p n known numbers small = record {
   from = there_of s.plan.tasks sender from.0 n;
   to = known;
   small = omega (arith, small, ap (λ (x : Joining). x.delay) e);
@@ -59,10 +57,10 @@ small_of s sender receivers l (inl h) = omega (arith, l, h)
 small_of s sender receivers l (inr h) = omega (arith, h)
 
 refused_at : (s : Joining) (name sender : Name) (receivers : List Name) (m : MessageValue) (fault : BuildFault) → IsResolved s sender receivers m → IsMessageRefused s.plan name (message_between s sender receivers) fault → Refuses s (Message name sender receivers) (stop_for fault)
-refused_at s name sender receivers m Repeated r h = (λ e. omega (arith, e, r.some), known_of s name sender receivers r.from r.to, repeated_of s name sender receivers r.to h)
+refused_at s name sender receivers m Repeated r h = (λ x. x, known_of s name sender receivers r.from r.to, repeated_of s name sender receivers r.to h)
 refused_at s name sender receivers m TooBig r h = absurd (small_of s sender receivers r.small h.1)
-refused_at s name sender receivers m Cyclic r h = (λ e. omega (arith, e, r.some), known_of s name sender receivers r.from r.to, λ x. h.0 (repeated_by s name sender receivers x), h.2)
-refused_at s name sender receivers m (Limit what) r h = (λ e. omega (arith, e, r.some), known_of s name sender receivers r.from r.to, λ x. h.1 (repeated_by s name sender receivers x), h.3, (h.0, h.4))
+refused_at s name sender receivers m Cyclic r h = (λ x. x, known_of s name sender receivers r.from r.to, λ x. h.0 (repeated_by s name sender receivers x), h.2)
+refused_at s name sender receivers m (Limit what) r h = (λ x. x, known_of s name sender receivers r.from r.to, λ x. h.1 (repeated_by s name sender receivers x), h.3, (h.0, h.4))
 refused_at s name sender receivers m NoMemory r h = tt
 refused_at s name sender receivers m SelfLink r h = absurd h
 
@@ -73,7 +71,7 @@ pub message_accepted : (s : Joining) (name sender : Name) (receivers : List Name
 message_accepted s name sender receivers m r h =
     let a : IsMessageAccepted s.plan name (message_between s sender receivers) = subst (IsMessageAccepted s.plan name) r.is h in
     record {
-      good = λ e. omega (arith, e, r.some);
+      good = λ x. x;
       known = known_of s name sender receivers r.from r.to;
       once = λ x. a.once (repeated_by s name sender receivers x);
       free = a.free;
@@ -81,9 +79,9 @@ message_accepted s name sender receivers m r h =
     }
 
 -- a name that isn't there stops a message
-pub sender_missing : (s : Joining) (name sender : Name) (receivers : List Name) → 0 < length receivers → IsMissing s.plan.tasks sender → Refuses s (Message name sender receivers) (stops.Broken UnknownName)
-sender_missing s name sender receivers some h = (λ e. omega (arith, e, some), inl h)
+pub sender_missing : (s : Joining) (name sender : Name) (receivers : List Name) → IsMissing s.plan.tasks sender → Refuses s (Message name sender receivers) (stops.Broken UnknownName)
+sender_missing s name sender receivers h = (λ x. x, inl h)
 
-pub receiver_missing : (s : Joining) (name sender : Name) (receivers : List Name) (stop : Stop) → 0 < length receivers → IsUnknownStop (HasMissing s.plan.tasks receivers) stop → Refuses s (Message name sender receivers) stop
-receiver_missing s name sender receivers (stops.Broken why) some h = subst (λ (w : Why). IsFirst s (Message name sender receivers) w) (sym h.0) (λ e. omega (arith, e, some), inr h.1)
-receiver_missing s name sender receivers stops.NoMemory some h = tt
+pub receiver_missing : (s : Joining) (name sender : Name) (receivers : List Name) (stop : Stop) → IsUnknownStop (HasMissing s.plan.tasks receivers) stop → Refuses s (Message name sender receivers) stop
+receiver_missing s name sender receivers (stops.Broken why) h = subst (λ (w : Why). IsFirst s (Message name sender receivers) w) (sym h.0) (λ x. x, inr h.1)
+receiver_missing s name sender receivers stops.NoMemory h = tt

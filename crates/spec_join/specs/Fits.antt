@@ -7,7 +7,7 @@ use Rattle.arch_reader.specs.Words.{is_table_key}
 use Rattle.arch_reader.specs.declared.statement.KeyAmount.{KeyAmount}
 use Rattle.arch_reader.specs.declared.statement.KeyColumn.{KeyColumn}
 use Rattle.arch_reader.specs.declared.statement.Statement.{Statement}
-use Rattle.arch_reader.specs.declared.statement.Statement.TheVariants.{Objective, Resource, Link, Traffic, Task, Message, Merge, Map, Table, Quantity, Delay, Deadline}
+use Rattle.arch_reader.specs.declared.statement.Statement.TheVariants.{Objective, Resource, Link, Traffic, Task, Message, Merge, Map, Table, Quantity, QuantityTable, Hops, Delay, Deadline}
 use Rattle.spec_join.specs.Joining.{Joining, SettingsValue, weight_of, time_at, time_or_0}
 
 -- a word `OBJ=D` names an objective, and its weight isn't too big
@@ -54,20 +54,40 @@ pub record IsFitTable (s : Joining) (resource : Name) (keys places : List KeyCol
   pub keys_known : All (IsKnownKey s.plan.objectives) keys
   pub places_known : All (IsKnownPlace s.plan.objectives) places
 
+-- a name, and names that are listed, of which there is one at least
+pub record IsFitList (name : Name) (listed : List Name) : Type 0 where
+  pub named : IsName name
+  pub some : 0 < length listed
+
 -- what the reader of the file tested of a statement
 abbrev pub IsFit : Joining → Statement → Type 0
 IsFit s (Resource name weights) = IsFitResource s name weights
 IsFit s (Link name a b two_way weights) = IsFitLink s name a b weights
 IsFit s (Traffic link weights) = IsFitTraffic s link weights
 IsFit s (Task name) = IsName name
-IsFit s (Message name sender receivers) = IsName name
-IsFit s (Merge name messages) = IsName name
+IsFit s (Message name sender receivers) = IsFitList name receivers
+IsFit s (Merge name messages) = IsFitList name messages
 IsFit s (Map task resource time weights) = IsFitMap s resource time weights
 IsFit s (Table name index resource keys weights_at) = IsFitTable s resource keys weights_at
 IsFit s (Quantity message amount) = at_scale 0 amount ≤ 2 ^ 40
 IsFit s (Delay message amount) = time_at s amount ≤ 2 ^ 40
 IsFit s (Deadline task at) = time_at s at ≤ 2 ^ 40
 IsFit s _ = Unit {0}
+
+-- a statement is about messages
+abbrev pub IsOfMessages : Statement → Type 0
+IsOfMessages (Message name sender receivers) = Unit {0}
+IsOfMessages (Merge name messages) = Unit {0}
+IsOfMessages (Quantity message amount) = Unit {0}
+IsOfMessages (Hops message limit) = Unit {0}
+IsOfMessages (Delay message amount) = Unit {0}
+IsOfMessages st = ⊥
+
+-- a statement uses a table
+abbrev pub IsOfTables : Statement → Type 0
+IsOfTables (Table name index resource keys weights_at) = Unit {0}
+IsOfTables (QuantityTable name index column rows) = Unit {0}
+IsOfTables st = ⊥
 
 -- an objective may be declared: nothing with weights stands yet
 pub record IsFitObjective (s : SettingsValue) (name : Name) : Type 0 where

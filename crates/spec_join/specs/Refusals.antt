@@ -48,10 +48,9 @@ pub record IsOfOther (p : SpecValue) (name : Name) (listed : List Name) : Type 0
   pub there : Contains p.message_names name
   pub unlisted : ¬ Contains listed name
 
--- BadStatement: a list without a name, or a merge of messages of different senders
+-- BadStatement: a merge of messages of different senders
 abbrev pub IsBad : Joining → Statement → Type 0
-IsBad s (Message name sender receivers) = length receivers ≡ 0
-IsBad s (Merge name messages) = (length messages ≡ 0) ⊎ DifferInSender s.plan messages
+IsBad s (Merge name messages) = DifferInSender s.plan messages
 IsBad s _ = ⊥
 
 -- the message that a statement is about, if it is about one

@@ -95,9 +95,6 @@ impl Joiner<'_> {
         ensures accepted { OnOk result (IsAccepted self.old (Statement.Merge name.now names.now)) }
         ensures refused { IfErr result (Refuses self.old (Statement.Merge name.now names.now)) }
     {
-        if names.is_empty() {
-            return Err(Stop::Broken(Why::BadStatement));
-        }
         if self.differ_in_sender(names) {
             return Err(Stop::Broken(Why::BadStatement));
         }

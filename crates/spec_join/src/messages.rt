@@ -46,9 +46,6 @@ impl Joiner<'_> {
         ensures accepted { OnOk result (IsAccepted self.old (Statement.Message name.now sender.now receivers.now)) }
         ensures refused { IfErr result (Refuses self.old (Statement.Message name.now sender.now receivers.now)) }
     {
-        if receivers.is_empty() {
-            return Err(Stop::Broken(Why::BadStatement));
-        }
         let Some(from) = self.find_task(sender) else {
             return Err(Stop::Broken(Why::UnknownName));
         };

@@ -1,4 +1,4 @@
-use Rattle.std.proofs.Common.{◌<◌, ℕ, List, length, map, rules, ap, subst, sym, ◌∙◌}
+use Rattle.std.proofs.Common.{ℕ, List, map, ap, subst, sym, ◌∙◌}
 use Rattle.std.proofs.lemmas.Bool.{false≢true}
 use Rattle.spec_model.specs.WellFormed.{AreDistinct}
 use Rattle.spec_graph.specs.Lists.{message_number}
@@ -13,10 +13,8 @@ use Rattle.spec_join.proofs.joiner.Joiner.merge.Goals as goal
 pub merge-requires-clause-one_sender : goal.merge-requires-clause-one_sender
 merge-requires-clause-one_sender c =
     let s = c.args.self.now in
-    let some : 0 < length c.args.names.now = search rules in
     let listed : List ℕ = map message_number c.deref-2.result.now in
     let g : IsGathered s.plan c.args.names.now listed = record {
-      some = some;
       agree = λ d. false≢true (sym c.if-differ_in_sender.false ∙ c.differ_in_sender.ensures.1 d);
       known = c.in_ok-listed.ensures.known;
       is = ap (map message_number) c.deref-2.ensures.value ∙ c.in_ok-listed.ensures.numbers;
@@ -26,10 +24,8 @@ merge-requires-clause-one_sender c =
 pub returns-in-Ok-clause-accepted : goal.returns-in-Ok-clause-accepted
 returns-in-Ok-clause-accepted c =
     let s = c.args.self.now in
-    let some : 0 < length c.args.names.now = search rules in
     let listed : List ℕ = map message_number c.deref-2.result.now in
     let g : IsGathered s.plan c.args.names.now listed = record {
-      some = some;
       agree = λ d. false≢true (sym c.if-differ_in_sender.false ∙ c.differ_in_sender.ensures.1 d);
       known = c.in_ok-listed.ensures.known;
       is = ap (map message_number) c.deref-2.ensures.value ∙ c.in_ok-listed.ensures.numbers;
@@ -39,10 +35,8 @@ returns-in-Ok-clause-accepted c =
 pub returns-clause-refused : goal.returns-clause-refused
 returns-clause-refused c =
     let s = c.args.self.now in
-    let some : 0 < length c.args.names.now = search rules in
     let listed : List ℕ = map message_number c.deref-2.result.now in
     let g : IsGathered s.plan c.args.names.now listed = record {
-      some = some;
       agree = λ d. false≢true (sym c.if-differ_in_sender.false ∙ c.differ_in_sender.ensures.1 d);
       known = c.in_ok-listed.ensures.known;
       is = ap (map message_number) c.deref-2.ensures.value ∙ c.in_ok-listed.ensures.numbers;
