@@ -1,5 +1,5 @@
 -- What the builder refuses of a message is what its statement is refused for.
-use Rattle.std.proofs.Common.{◌≡◌, ℕ, List, length, map, sym, ap, subst, ◌∙◌, arith, All, Contains, ◌<◌, ◌≤◌, ◌^◌, inl, inr}
+use Rattle.std.proofs.Common.{◌≡◌, ℕ, List, map, sym, ap, subst, ◌∙◌, arith, All, Contains, ◌≤◌, ◌^◌, inl, inr}
 use Rattle.names.specs.Names.{IsNumberOf, number_of}
 use Rattle.spec_model.specs.Spec.{Name, Message as MessageValue}
 use Rattle.spec_graph.specs.Lists.{task_number, message_of}
