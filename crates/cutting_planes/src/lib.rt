@@ -4,7 +4,8 @@
 //! Each function answers what the rule's definition in `pb_rules` gives. Only a sum and a multiple can have numbers of
 //! 2^63 or more, which no proof may have, and then they say which number it is. The operations of a proof line mean
 //! these rules, so whoever replays a proof calls them; the solver writes such lines and needs only the definitions.
-//! Here are the rules; `sums` merges the terms of two constraints, `terms` goes over those of one.
+//! Here are the rules; `sums` merges the terms of two constraints, `terms` goes over those of one, and `in_place` has
+//! division, saturation and weakening once more, of a constraint that is given away.
 #![tactic(auto)]
 
 ghost use Rattle.std.specs.Prelude.{ℕ, Bool, ◌≡◌, ◌<◌, ◌^◌, IfOk, OnOk, IfErr, None, Ok};
@@ -14,9 +15,11 @@ ghost use Rattle.pb_rules.specs.CuttingPlanes.{axiom_of, add, times, divide, sat
 ghost use Rattle.pb_rules.specs.Operations.{excess, fits};
 ghost use Rattle.cutting_planes.specs.Refusals.{IsRefusal};
 
+mod in_place;
 mod sums;
 mod terms;
 
+pub use in_place::{into_quotient, into_saturated, into_weakened};
 use pb_constraints::{Constraint, Lit, Term};
 use std::alloc::{AllocError, Global};
 use sums::merge_terms;

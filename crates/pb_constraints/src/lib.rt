@@ -69,6 +69,14 @@ impl Constraint {
         Constraint { terms, degree }
     }
 
+    /// The terms, by rising variables, moved out of the constraint. It takes no memory.
+    pub fn into_terms(self) -> Vec<Term>
+        ensures value { result.items ≡ self.terms }
+        ensures normal { IsNormal self.terms self.degree }
+    {
+        self.terms
+    }
+
     /// A copy. It is refused only for want of memory.
     pub fn copy(&self, alloc: Global) -> Result<Constraint, AllocError>
         ensures { IfOk result (λ c. c ≡ self.now) }
