@@ -10,7 +10,7 @@ ghost use Rattle.proof_checker.specs.Answers.{context_over, StepLeaves};
 
 use crate::faults::StepFault;
 use crate::stack::Stack;
-use cutting_planes::{add, axiom, divide, saturate, times, weaken};
+use cutting_planes::{add, axiom, into_quotient, into_saturated, into_weakened, times};
 use pb_constraints::Constraint;
 use pb_rules::{Lit, Op};
 use proof_words::{WordOp, read_op};
@@ -78,7 +78,7 @@ fn multiply_top(alloc: Global, stack: &mut Stack, factor: u64) -> Result<(), Ste
     Ok(())
 }
 
-fn divide_top(alloc: Global, stack: &mut Stack, divisor: u64) -> Result<(), StepFault>
+fn divide_top(stack: &mut Stack, divisor: u64) -> Result<(), StepFault>
     requires small { divisor < 2 ^ 63 }
     ensures { (context : Context) → StepLeaves (judge_op context stack.old (Some (Divide divisor))) stack.new result }
 {
@@ -88,24 +88,21 @@ fn divide_top(alloc: Global, stack: &mut Stack, divisor: u64) -> Result<(), Step
     let Some(a) = stack.pop() else {
         return Err(StepFault::NoStep);
     };
-    let made = divide(alloc, &a, divisor)?;
-    stack.push(made)?;
+    stack.push(into_quotient(a, divisor))?;
     Ok(())
 }
 
-fn saturate_top(alloc: Global, stack: &mut Stack) -> Result<(), StepFault>
+fn saturate_top(stack: &mut Stack) -> Result<(), StepFault>
     ensures { (context : Context) → StepLeaves (judge_op context stack.old (Some Saturate)) stack.new result }
 {
     let Some(a) = stack.pop() else {
         return Err(StepFault::NoStep);
     };
-    let made = saturate(alloc, &a)?;
-    stack.push(made)?;
+    stack.push(into_saturated(a))?;
     Ok(())
 }
 
 fn weaken_top(
-    alloc: Global,
     given: &[Constraint],
     known: u64,
     stack: &mut Stack,
@@ -121,8 +118,7 @@ fn weaken_top(
     let Some(a) = stack.pop() else {
         return Err(StepFault::NoStep);
     };
-    let made = weaken(alloc, &a, var)?;
-    stack.push(made)?;
+    stack.push(into_weakened(a, var))?;
     Ok(())
 }
 
@@ -143,9 +139,9 @@ fn take_op(
         Op::Axiom(lit) => push_axiom(alloc, given, known, stack, lit),
         Op::Add => add_top(alloc, stack),
         Op::Times(factor) => multiply_top(alloc, stack, factor),
-        Op::Divide(divisor) => divide_top(alloc, stack, divisor),
-        Op::Saturate => saturate_top(alloc, stack),
-        Op::Weaken(var) => weaken_top(alloc, given, known, stack, var),
+        Op::Divide(divisor) => divide_top(stack, divisor),
+        Op::Saturate => saturate_top(stack),
+        Op::Weaken(var) => weaken_top(given, known, stack, var),
     }
 }
 
