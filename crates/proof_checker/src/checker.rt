@@ -1,12 +1,13 @@
 //! The checker: a front that may be checked against, and how far a proof was taken.
 
-ghost use Rattle.std.specs.Prelude.{◌≡◌, ◌<◌, ◌≤◌, ◌^◌, length, All, IfOk, OnOk, IfErr};
+ghost use Rattle.std.specs.Prelude.{◌≡◌, ◌+◌, ◌<◌, ◌≤◌, ◌^◌, length, All, IfOk, OnOk, IfErr};
 ghost use Rattle.encode_model.specs.Encoding.{encoding};
 ghost use Rattle.result_text.specs.Fronts.{front_of};
-ghost use Rattle.front_model.specs.Fronts.{IsClaim, IsFrontOf};
-ghost use Rattle.front_model.specs.Judging.{begun, verdict_of};
+ghost use Rattle.front_model.specs.Fronts.{vectors_of, IsClaim, IsFrontOf};
+ghost use Rattle.front_model.specs.Judging.{begun, judge_next, refusal_at, verdict_of};
 ghost use Rattle.front_model.specs.Laws.{IsPiece};
 ghost use Rattle.proof_checker.specs.Checkers.{with_line, Takes, AreShaped, StartsWith};
+ghost use Rattle.proof_checker.specs.Takings.{GivesTaken};
 
 use crate::faults::{Halt, LineFault, StartFault};
 use crate::fronts::first_fault;
@@ -49,6 +50,17 @@ fn encoding_of(alloc: Global, spec: &Spec) -> Result<Vec<Constraint>, AllocError
     Ok(encode(alloc, spec)?.into_constraints())
 }
 
+/// The refusal of the line after so many.
+fn refused_after(lines: u64, why: ProofWhy) -> Refused
+    requires { lines + 1 < 2 ^ 64 }
+    ensures { result ≡ refusal_at (lines + 1) why }
+{
+    Refused {
+        line: lines + 1,
+        why,
+    }
+}
+
 impl<'a> Checker<'a> {
     /// A checker of a front, before the first line. It is refused for the first fault of the front's lowest entry with
     /// one, and where the front isn't said to be complete.
@@ -74,6 +86,22 @@ impl<'a> Checker<'a> {
         })
     }
 
+    /// Judges a line after those that were taken.
+    fn judge(&self, alloc: Global, bytes: &[u8]) -> Result<Taken, Halt>
+        requires { self.now.progress.given.covers + 1 < 2 ^ 58 }
+        ensures { GivesTaken self.now.progress.given (judge_next self.now.spec (vectors_of self.now.front) self.now.progress.lines self.now.progress.given bytes.now) result }
+    {
+        judge_next(
+            alloc,
+            self.spec,
+            self.front,
+            &self.constraints,
+            self.covers,
+            self.lines,
+            bytes,
+        )
+    }
+
     /// Takes a line with its LF, or the last one without. It is refused for its first fault, and for that of an earlier
     /// line. Where there is no memory nothing changes.
     pub fn line(&mut self, bytes: &[u8]) -> Result<(), LineFault>
@@ -87,15 +115,7 @@ impl<'a> Checker<'a> {
         if self.lines >= u64::MAX - 1 || self.covers == (1 << 58) - 1 {
             return Err(LineFault::NoMemory);
         }
-        match judge_next(
-            alloc,
-            self.spec,
-            self.front,
-            &self.constraints,
-            self.covers,
-            self.lines,
-            bytes,
-        ) {
+        match self.judge(alloc, bytes) {
             Ok(Taken::Header) => {
                 self.lines += 1;
                 self.closed = false;
@@ -116,10 +136,7 @@ impl<'a> Checker<'a> {
                 Ok(())
             }
             Err(Halt::Why(why)) => {
-                let refused = Refused {
-                    line: self.lines + 1,
-                    why,
-                };
+                let refused = refused_after(self.lines, why);
                 let answer = refused.copy(alloc)?;
                 self.refused = Some(refused);
                 Err(LineFault::Refused(answer))
