@@ -31,7 +31,7 @@ pub record AnswersRequest (asked : RequestValue) (files : Option Files) (status 
   pub world : World
   pub found : IsWorldOf files (names_of asked) world
   pub result : Result Outcome ReadFault
-  pub comes : ComesTo asked world result
+  pub comes : ComesTo asked files world result
   pub ends : EndsBy (names_of asked) result status text
 
 -- what is answered to words: the lines of usage where they are no request, whatever the files are

@@ -1,11 +1,14 @@
 //! Where the commands come together: a line for each.
 
-ghost use Rattle.std.specs.Prelude.{◌≡◌};
+ghost use Rattle.std.specs.Prelude.{◌≡◌, IfOk};
+ghost use Rattle.desk_io.specs.Causes.{HasCause};
 ghost use Rattle.run_words.specs.Values.{request_value};
 ghost use Rattle.run_base.specs.Worlds.{World, AreLoaded, names_value};
 ghost use Rattle.dse_run.specs.Commands.{ComesTo, names_of};
 
 use crate::decode::decode;
+use check_run::check;
+use desk_io::{Desk, DeskError};
 use line_words::ReadFault;
 use run_base::{Inputs, Names, Outcome};
 use run_words::Request;
@@ -21,18 +24,33 @@ pub(crate) fn names_of<'a>(request: &'a Request) -> Names<'a>
             arch: arch.as_str(),
             third: geno.as_str(),
         },
+        Request::Check {
+            tgff,
+            arch,
+            front_file,
+            ..
+        } => Names {
+            tgff: tgff.as_str(),
+            arch: arch.as_str(),
+            third: front_file.as_str(),
+        },
     }
 }
 
-/// What a request comes to.
-pub(crate) fn answer(
+/// What a request comes to, or what a call gave up for: a command reads those files itself that aren't loaded whole.
+pub(crate) fn answer<D: Desk>(
     alloc: Global,
+    desk: &mut D,
     request: &Request,
     inputs: &Inputs,
-) -> Result<Outcome, ReadFault>
-    ensures { (world : World) → AreLoaded inputs.now world → ComesTo (request_value request.now) world result }
+) -> Result<Result<Outcome, ReadFault>, DeskError>
+    ensures comes { IfOk result (λ tried. (world : World) → AreLoaded inputs.now world → ComesTo (request_value request.now) (D.files desk.old) world tried) }
+    ensures files { D.files desk.new ≡ D.files desk.old }
+    ensures said { D.said desk.new ≡ D.said desk.old }
+    ensures cause { HasCause (D.faults desk.old) (D.faults desk.new) result }
 {
     match request {
-        Request::Decode { .. } => decode(alloc, inputs),
+        Request::Decode { .. } => Ok(decode(alloc, inputs)),
+        Request::Check { proof_file, .. } => check(alloc, desk, inputs, proof_file.as_str()),
     }
 }

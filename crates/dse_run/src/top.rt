@@ -59,7 +59,7 @@ fn reply_of(
     }
 }
 
-/// The reply to a request. All files are loaded before one is refused.
+/// The reply to a request. All files that are read whole are loaded before one is refused.
 fn reply_to<D: Desk>(alloc: Global, request: &Request, desk: &mut D) -> Result<Reply, DeskError>
     ensures answer { IfOk result (λ reply. AnswersRequest (request_value request.now) (D.files desk.old) reply.status reply.text.items) }
     ensures files { D.files desk.new ≡ D.files desk.old }
@@ -68,7 +68,7 @@ fn reply_to<D: Desk>(alloc: Global, request: &Request, desk: &mut D) -> Result<R
 {
     let names = names_of(request);
     let inputs = load_inputs(alloc, desk, &names)?;
-    let tried = answer(alloc, request, &inputs);
+    let tried = answer(alloc, desk, request, &inputs)?;
     let reply = reply_of(alloc, &names, tried)?;
     Ok(reply)
 }

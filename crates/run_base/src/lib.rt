@@ -13,4 +13,4 @@ mod reading;
 pub use inputs::{Inputs, Names, load_inputs};
 pub use loading::{Loaded, load};
 pub use outcome::{Ending, Outcome};
-pub use reading::{read_genes, read_spec};
+pub use reading::{read_genes, read_spec, short_bytes};

@@ -33,8 +33,8 @@ fn too_long(file: FileTag) -> ReadFault
     })
 }
 
-/// The bytes of a file that isn't too long.
-fn short_bytes(loaded: &Loaded, file: FileTag) -> Result<&[u8], ReadFault>
+/// The bytes of a loaded file, which is refused where it has more than 16,777,216 bytes, at line 0.
+pub fn short_bytes(loaded: &Loaded, file: FileTag) -> Result<&[u8], ReadFault>
     ensures short { IfOk result (λ bytes. length bytes.now ≤ most_file_bytes) }
     ensures whole { IfOk result (λ bytes. (content : List ℕ) → IsLoaded loaded.entry.now content → content ≡ bytes.now) }
     ensures long { OnErr result ((content : List ℕ) → IsLoaded loaded.entry.now content → most_file_bytes < length content) }

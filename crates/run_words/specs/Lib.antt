@@ -1,4 +1,5 @@
 pub mod Names
 pub mod Decoding
+pub mod Checking
 pub mod Values
 pub mod Requests

@@ -5,6 +5,7 @@
 //! one more entry of a table.
 #![tactic(auto)]
 
+mod check;
 mod decode;
 mod names;
 mod request;

@@ -4,6 +4,7 @@ ghost use Rattle.std.specs.Prelude.{◌≡◌, ◌∷◌, ◌++◌, IfOk, OnOk, 
 ghost use Rattle.run_words.specs.Requests.{request, usage_text};
 ghost use Rattle.run_words.specs.Values.{request_value};
 
+use crate::check::{put_check_usage, read_check};
 use crate::decode::{put_decode_usage, read_decode};
 use std::alloc::{AllocError, Global};
 
@@ -20,6 +21,18 @@ pub enum Request {
         /// The genotype file, or `-`.
         geno: String,
     },
+    /// `check TGFF ARCH FRONT PROOF`: whether a front file is accepted with a proof file for the specification of a file
+    /// of task graphs and tables and an architecture file.
+    Check {
+        /// The file of task graphs and tables, or `-` for no graphs and no tables.
+        tgff: String,
+        /// The architecture file.
+        arch: String,
+        /// The front file.
+        front_file: String,
+        /// The proof file.
+        proof_file: String,
+    },
 }
 
 /// The request of the words after a first one.
@@ -34,6 +47,9 @@ fn read_named(
     let _ = tags;
     if name == "decode" {
         return read_decode(alloc, words);
+    }
+    if name == "check" {
+        return read_check(alloc, words);
     }
     Ok(None)
 }
@@ -57,5 +73,6 @@ pub fn read_words(
 pub fn put_usage(out: &mut Vec<u8>) -> Result<(), AllocError>
     ensures { OnOk result (out.new.items ≡ out.old.items ++ usage_text) }
 {
-    put_decode_usage(out)
+    put_decode_usage(out)?;
+    put_check_usage(out)
 }

@@ -1,4 +1,4 @@
-//! The worked lines of `decode`.
+//! The worked lines of each command.
 
 use super::{Request, read_words};
 use std::alloc::Global;
@@ -14,6 +14,14 @@ fn asked(alloc: Global, line: &str) -> Result<String, Fail> {
         Some(Request::Decode { tgff, arch, geno }) => Ok(format!(in alloc;
             "{tgff} {arch} {geno}"
         )?),
+        Some(
+            Request::Check {
+                tgff,
+                arch,
+                front_file,
+                proof_file,
+            },
+        ) => Ok(format!(in alloc; "{tgff} {arch} {front_file} {proof_file}")?),
         None => Ok(String::from_str(alloc, "none")?),
     }
 }
@@ -35,6 +43,15 @@ fn asks_what_each_line_says(rt: HostRuntime) -> Result<(), Fail> {
         ("decode T A G H", "none"),
         ("decode T A - --budget 0", "none"),
         ("decode T A - --proof A", "none"),
+        ("check T A F P", "T A F P"),
+        ("check - A F P", "- A F P"),
+        ("check - - F P", "none"),
+        ("check - A - P", "none"),
+        ("check - A F -", "none"),
+        ("check - A F", "none"),
+        ("check - A F P Q", "none"),
+        ("check - A F P --budget 1", "none"),
+        ("check -- - A F F", "- A F F"),
     ] {
         assert!(rt; asked(alloc, line)?.as_str() == expected);
     }

@@ -1,0 +1,5 @@
+pub mod Fronts
+pub mod Texts
+pub mod Judging
+pub mod Checking
+pub mod Taking
