@@ -13,12 +13,12 @@ use pb_constraints::Constraint;
 use std::alloc::Global;
 
 /// Carries out words from left to right, over an empty stack.
-fn take_words(
+fn take_words<'a>(
     alloc: Global,
-    given: &[Constraint],
+    given: &'a [Constraint],
     known: u64,
     words: &[&[u8]],
-) -> Result<Stack, StepFault>
+) -> Result<Stack<'a>, StepFault>
     requires few { known ≤ 2 ^ 62 }
     requires known { KnowsBelow given.now known }
     ensures { StepGives (judge_words (context_over given.now) (map (λ w. w.now) words.now) []) result }
@@ -30,17 +30,18 @@ fn take_words(
     Ok(stack)
 }
 
-/// The one constraint that is left.
-fn only_one(stack: Stack) -> Result<Constraint, StepFault>
-    ensures { StepGives (only_one stack) result }
+/// The one constraint that is left, copied where it was given.
+fn only_one(alloc: Global, stack: Stack<'_>) -> Result<Constraint, StepFault>
+    ensures { StepGives (only_one stack.entry) result }
 {
     let mut stack = stack;
-    let Some(constraint) = stack.pop() else {
+    let Some(operand) = stack.pop() else {
         return Err(StepFault::NoStep);
     };
     if stack.pop().is_some() {
         return Err(StepFault::NoStep);
     }
+    let constraint = operand.into_made(alloc)?;
     Ok(constraint)
 }
 
@@ -56,5 +57,5 @@ pub(crate) fn derive(
     ensures { StepGives (judge_derivation (context_over given.now) (map (λ w. w.now) words.now)) result }
 {
     let stack = take_words(alloc, given, known, words)?;
-    only_one(stack)
+    only_one(alloc, stack)
 }

@@ -9,27 +9,21 @@ ghost use Rattle.block_encode.specs.Laws.{KnowsBelow};
 ghost use Rattle.proof_checker.specs.Answers.{context_over, StepLeaves};
 
 use crate::faults::StepFault;
-use crate::stack::Stack;
+use crate::stack::{Operand, Stack};
 use cutting_planes::{add, axiom, into_quotient, into_saturated, into_weakened, times};
 use pb_constraints::Constraint;
 use pb_rules::{Lit, Op};
 use proof_words::{WordOp, read_op};
 use std::alloc::Global;
 
-fn push_given(
-    alloc: Global,
-    given: &[Constraint],
-    stack: &mut Stack,
-    id: u64,
-) -> Result<(), StepFault>
+fn push_given<'a>(given: &'a [Constraint], stack: &mut Stack<'a>, id: u64) -> Result<(), StepFault>
     requires { id < 2 ^ 63 }
     ensures { StepLeaves (judge_op (context_over given.now) stack.old (Some (Id id))) stack.new result }
 {
     if id == 0 || id > given.len() as u64 {
         return Err(StepFault::Unknown(id));
     }
-    let copy = given[(id - 1) as usize].copy(alloc)?;
-    stack.push(copy)?;
+    stack.push(Operand::Given(&given[(id - 1) as usize]))?;
     Ok(())
 }
 
@@ -37,7 +31,7 @@ fn push_axiom(
     alloc: Global,
     given: &[Constraint],
     known: u64,
-    stack: &mut Stack,
+    stack: &mut Stack<'_>,
     lit: Lit,
 ) -> Result<(), StepFault>
     requires known { KnowsBelow given.now known }
@@ -47,11 +41,11 @@ fn push_axiom(
         return Err(StepFault::Unknown(lit.var()));
     }
     let made = axiom(alloc, lit)?;
-    stack.push(made)?;
+    stack.push(Operand::Made(made))?;
     Ok(())
 }
 
-fn add_top(alloc: Global, stack: &mut Stack) -> Result<(), StepFault>
+fn add_top(alloc: Global, stack: &mut Stack<'_>) -> Result<(), StepFault>
     ensures { (context : Context) → StepLeaves (judge_op context stack.old (Some Add)) stack.new result }
 {
     let Some(b) = stack.pop() else {
@@ -60,12 +54,12 @@ fn add_top(alloc: Global, stack: &mut Stack) -> Result<(), StepFault>
     let Some(a) = stack.pop() else {
         return Err(StepFault::NoStep);
     };
-    let made = add(alloc, &a, &b)?;
-    stack.push(made)?;
+    let made = add(alloc, a.seen(), b.seen())?;
+    stack.push(Operand::Made(made))?;
     Ok(())
 }
 
-fn multiply_top(alloc: Global, stack: &mut Stack, factor: u64) -> Result<(), StepFault>
+fn multiply_top(alloc: Global, stack: &mut Stack<'_>, factor: u64) -> Result<(), StepFault>
     requires some { 0 < factor }
     requires small { factor < 2 ^ 63 }
     ensures { (context : Context) → StepLeaves (judge_op context stack.old (Some (Times factor))) stack.new result }
@@ -73,12 +67,12 @@ fn multiply_top(alloc: Global, stack: &mut Stack, factor: u64) -> Result<(), Ste
     let Some(a) = stack.pop() else {
         return Err(StepFault::NoStep);
     };
-    let made = times(alloc, &a, factor)?;
-    stack.push(made)?;
+    let made = times(alloc, a.seen(), factor)?;
+    stack.push(Operand::Made(made))?;
     Ok(())
 }
 
-fn divide_top(stack: &mut Stack, divisor: u64) -> Result<(), StepFault>
+fn divide_top(alloc: Global, stack: &mut Stack<'_>, divisor: u64) -> Result<(), StepFault>
     requires small { divisor < 2 ^ 63 }
     ensures { (context : Context) → StepLeaves (judge_op context stack.old (Some (Divide divisor))) stack.new result }
 {
@@ -88,24 +82,27 @@ fn divide_top(stack: &mut Stack, divisor: u64) -> Result<(), StepFault>
     let Some(a) = stack.pop() else {
         return Err(StepFault::NoStep);
     };
-    stack.push(into_quotient(a, divisor))?;
+    let made = into_quotient(a.into_made(alloc)?, divisor);
+    stack.push(Operand::Made(made))?;
     Ok(())
 }
 
-fn saturate_top(stack: &mut Stack) -> Result<(), StepFault>
+fn saturate_top(alloc: Global, stack: &mut Stack<'_>) -> Result<(), StepFault>
     ensures { (context : Context) → StepLeaves (judge_op context stack.old (Some Saturate)) stack.new result }
 {
     let Some(a) = stack.pop() else {
         return Err(StepFault::NoStep);
     };
-    stack.push(into_saturated(a))?;
+    let made = into_saturated(a.into_made(alloc)?);
+    stack.push(Operand::Made(made))?;
     Ok(())
 }
 
 fn weaken_top(
+    alloc: Global,
     given: &[Constraint],
     known: u64,
-    stack: &mut Stack,
+    stack: &mut Stack<'_>,
     var: u64,
 ) -> Result<(), StepFault>
     requires small { var < 2 ^ 63 }
@@ -118,16 +115,17 @@ fn weaken_top(
     let Some(a) = stack.pop() else {
         return Err(StepFault::NoStep);
     };
-    stack.push(into_weakened(a, var))?;
+    let made = into_weakened(a.into_made(alloc)?, var);
+    stack.push(Operand::Made(made))?;
     Ok(())
 }
 
 /// Carries an operation out on a stack, over the constraints given before, whose variables are those below `known`.
-fn take_op(
+fn take_op<'a>(
     alloc: Global,
-    given: &[Constraint],
+    given: &'a [Constraint],
     known: u64,
-    stack: &mut Stack,
+    stack: &mut Stack<'a>,
     op: Op,
 ) -> Result<(), StepFault>
     requires writable { IsWritable op }
@@ -135,22 +133,22 @@ fn take_op(
     ensures { StepLeaves (judge_op (context_over given.now) stack.old (Some op)) stack.new result }
 {
     match op {
-        Op::Id(id) => push_given(alloc, given, stack, id),
+        Op::Id(id) => push_given(given, stack, id),
         Op::Axiom(lit) => push_axiom(alloc, given, known, stack, lit),
         Op::Add => add_top(alloc, stack),
         Op::Times(factor) => multiply_top(alloc, stack, factor),
-        Op::Divide(divisor) => divide_top(stack, divisor),
-        Op::Saturate => saturate_top(stack),
-        Op::Weaken(var) => weaken_top(given, known, stack, var),
+        Op::Divide(divisor) => divide_top(alloc, stack, divisor),
+        Op::Saturate => saturate_top(alloc, stack),
+        Op::Weaken(var) => weaken_top(alloc, given, known, stack, var),
     }
 }
 
 /// Carries out what a word says.
-pub(crate) fn take_word(
+pub(crate) fn take_word<'a>(
     alloc: Global,
-    given: &[Constraint],
+    given: &'a [Constraint],
     known: u64,
-    stack: &mut Stack,
+    stack: &mut Stack<'a>,
     word: &[u8],
 ) -> Result<(), StepFault>
     requires few { known ≤ 2 ^ 62 }
