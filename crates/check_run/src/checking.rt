@@ -1,6 +1,6 @@
 //! What `check` comes to: a front is accepted with a proof, or refused for the first fault of both.
 
-ghost use Rattle.std.specs.Prelude.{◌≡◌, ℕ, List, All, IfOk};
+ghost use Rattle.std.specs.Prelude.{◌≡◌, ◌⊎◌, ℕ, List, All, IfOk, IsOkAnd};
 ghost use Rattle.desk_io.specs.Causes.{HasCause};
 ghost use Rattle.result_text.specs.Fronts.{IsShaped, front_of};
 ghost use Rattle.front_model.specs.Fronts.{IsClaim};
@@ -10,6 +10,7 @@ ghost use Rattle.run_base.specs.After.{GoesOn};
 ghost use Rattle.run_base.specs.Worlds.{World, AreLoaded};
 ghost use Rattle.check_run.specs.Checking.{ChecksFile, ChecksFront, ChecksSpec, OfContent};
 ghost use Rattle.check_run.specs.Judging.{Judges, verdict_on};
+ghost use Rattle.check_run.specs.Calls.{NoneFailed, IsClaimRead, HasClaim, MayBeChecked};
 
 use crate::fronts::read_named_front;
 use crate::proof_file::read_proof;
@@ -89,6 +90,7 @@ fn judge<D: Desk>(
     ensures files { D.files desk.new ≡ D.files desk.old }
     ensures said { D.said desk.new ≡ D.said desk.old }
     ensures cause { HasCause (D.faults desk.old) (D.faults desk.new) result }
+    ensures late { IsClaim spec.now (front_of front.now) ⊎ NoneFailed (D.faults desk.old) (D.faults desk.new) result }
 {
     match Checker::new(alloc, spec, front) {
         Ok(checker) => {
@@ -117,6 +119,7 @@ fn check_front<D: Desk>(
     ensures files { D.files desk.new ≡ D.files desk.old }
     ensures said { D.said desk.new ≡ D.said desk.old }
     ensures cause { HasCause (D.faults desk.old) (D.faults desk.new) result }
+    ensures late { IsClaimRead spec.now read ⊎ NoneFailed (D.faults desk.old) (D.faults desk.new) result }
 {
     match read {
         Ok(front) => {
@@ -139,6 +142,7 @@ fn check_with<D: Desk>(
     ensures files { D.files desk.new ≡ D.files desk.old }
     ensures said { D.said desk.new ≡ D.said desk.old }
     ensures cause { HasCause (D.faults desk.old) (D.faults desk.new) result }
+    ensures late { (world : World) → IsLoadedIfNamed inputs.now.third world.third → HasClaim world spec.now ⊎ NoneFailed (D.faults desk.old) (D.faults desk.new) result }
 {
     let read = read_named_front(alloc, spec, &inputs.third);
     check_front(alloc, desk, spec, read, name)
@@ -156,6 +160,7 @@ fn check_spec<D: Desk>(
     ensures files { D.files desk.new ≡ D.files desk.old }
     ensures said { D.said desk.new ≡ D.said desk.old }
     ensures cause { HasCause (D.faults desk.old) (D.faults desk.new) result }
+    ensures late { (world : World) → IsLoadedIfNamed inputs.now.third world.third → IsOkAnd read (HasClaim world) ⊎ NoneFailed (D.faults desk.old) (D.faults desk.new) result }
 {
     match read {
         Ok(spec) => check_with(alloc, desk, &spec, inputs, name),
@@ -166,8 +171,8 @@ fn check_spec<D: Desk>(
 /// What the files come to, and the proof file of this name: whether the front file is accepted with it for the
 /// specification, or the refusal of a file.
 ///
-/// A front that has a fault is refused before any call on the proof file, and this is read no further than the piece of
-/// 65,536 bytes that has its first refused line.
+/// A front that has a fault is refused before any call on the proof file: a call fails only where the front may be
+/// checked against. The proof file is read no further than the piece of 65,536 bytes that has its first refused line.
 pub fn check<D: Desk>(
     alloc: Global,
     desk: &mut D,
@@ -178,6 +183,7 @@ pub fn check<D: Desk>(
     ensures files { D.files desk.new ≡ D.files desk.old }
     ensures said { D.said desk.new ≡ D.said desk.old }
     ensures cause { HasCause (D.faults desk.old) (D.faults desk.new) result }
+    ensures late { (world : World) → AreLoaded inputs.now world → MayBeChecked world ⊎ NoneFailed (D.faults desk.old) (D.faults desk.new) result }
 {
     let read = read_spec(alloc, &inputs.tgff, &inputs.arch);
     check_spec(alloc, desk, read, inputs, name)

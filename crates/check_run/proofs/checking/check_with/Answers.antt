@@ -1,3 +1,4 @@
+use Rattle.std.proofs.Math.Logic.{⊎_map}
 use Rattle.std.proofs.lemmas.Result.{IfOk-weaker}
 use Rattle.check_run.proofs.Contents.{of_weaker}
 use Rattle.check_run.proofs.checking.check_with.Goals as goal
@@ -9,3 +10,10 @@ returns-clause-checked g c =
     (λ proof rest. record { reading = c.read_named_front-read.result; reads = c.read_named_front-read.ensures.reads world.third third; rest = rest })
     h)
     c.check_front.ensures.checked
+
+pub returns-clause-late : goal.returns-clause-late
+returns-clause-late g c = λ world third.
+    ⊎_map
+    (λ claim. record { reading = c.read_named_front-read.result; reads = c.read_named_front-read.ensures.reads world.third third; claim = claim })
+    (λ none. none)
+    c.check_front.ensures.late
