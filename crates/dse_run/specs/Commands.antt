@@ -6,6 +6,7 @@ use Rattle.run_words.specs.Values.{RequestValue, decode, check}
 use Rattle.run_base.specs.Worlds.{NamesValue, World}
 use Rattle.run_base.specs.declared.outcome.Outcome.{Outcome}
 use Rattle.check_run.specs.Checking.{ChecksFile}
+use Rattle.check_run.specs.Calls.{MayBeChecked}
 use Rattle.dse_run.specs.Decoding.{Decodes}
 
 -- the files that a request names and that are loaded whole
@@ -17,3 +18,8 @@ names_of (check c) = record { tgff = c.tgff; arch = c.arch; third = c.front }
 abbrev pub ComesTo : RequestValue → Option Files → World → Result Outcome ReadFault → Type 0
 ComesTo (decode d) files world result = Decodes world result
 ComesTo (check c) files world result = ChecksFile files c.proof world result
+
+-- where a command may call on a file that isn't loaded whole: `decode` never, `check` once its front may be checked against
+abbrev pub MayCall : RequestValue → World → Type 0
+MayCall (decode d) world = ⊥
+MayCall (check c) world = MayBeChecked world

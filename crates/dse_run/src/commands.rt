@@ -1,10 +1,11 @@
 //! Where the commands come together: a line for each.
 
-ghost use Rattle.std.specs.Prelude.{◌≡◌, IfOk};
+ghost use Rattle.std.specs.Prelude.{◌≡◌, ◌⊎◌, IfOk};
 ghost use Rattle.desk_io.specs.Causes.{HasCause};
 ghost use Rattle.run_words.specs.Values.{request_value};
 ghost use Rattle.run_base.specs.Worlds.{World, AreLoaded, names_value};
-ghost use Rattle.dse_run.specs.Commands.{ComesTo, names_of};
+ghost use Rattle.check_run.specs.Calls.{NoneFailed};
+ghost use Rattle.dse_run.specs.Commands.{ComesTo, MayCall, names_of};
 
 use crate::decode::decode;
 use check_run::check;
@@ -48,6 +49,7 @@ pub(crate) fn answer<D: Desk>(
     ensures files { D.files desk.new ≡ D.files desk.old }
     ensures said { D.said desk.new ≡ D.said desk.old }
     ensures cause { HasCause (D.faults desk.old) (D.faults desk.new) result }
+    ensures late { (world : World) → AreLoaded inputs.now world → MayCall (request_value request.now) world ⊎ NoneFailed (D.faults desk.old) (D.faults desk.new) result }
 {
     match request {
         Request::Decode { .. } => Ok(decode(alloc, inputs)),
