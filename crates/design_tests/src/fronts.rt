@@ -1,6 +1,5 @@
-//! Fronts that are read, and printed again, and texts that are refused.
+//! Fronts that are read, and printed again. Texts that are refused stand among the cases of `check`.
 use super::reading::spec_of;
-use line_words::{FileTag, ReadFault, Refusal, Why};
 use result_text::{print_front, read_front};
 use spec_graph::Spec;
 use std::alloc::{AllocError, Global};
@@ -31,19 +30,6 @@ fn is_printed_again(
     )
 }
 
-/// Whether a text is refused so.
-fn is_refused(alloc: Global, spec: &Spec, text: &[u8], line: u64, why: Why) -> bool {
-    let refusal = Refusal {
-        file: FileTag::Front,
-        line,
-        why,
-    };
-    match read_front(alloc, spec, text) {
-        Err(ReadFault::Refused(found)) => found == refusal,
-        _ => false,
-    }
-}
-
 #[test]
 fn an_entry_without_lines(rt: HostRuntime) -> Result<(), Fail> {
     let alloc = rt.alloc();
@@ -68,75 +54,15 @@ fn two_entries(rt: HostRuntime) -> Result<(), Fail> {
     let whole = b"front 1\nobjectives cost energy\nentry 1\nbind t a 0\nalloc a\nvector 1 5\n\
         entry 2\nbind t b 1\nalloc b\nvector 4 2\ncomplete\n";
     assert!(rt; is_printed_again(alloc, &spec, whole, 2, true)?);
+    Ok(())
+}
+
+#[test]
+fn two_entries_of_more(rt: HostRuntime) -> Result<(), Fail> {
+    let alloc = rt.alloc();
+    let spec = spec_of(alloc, THREE_OPTIONS)?;
     let open = b"front 1\nobjectives cost energy\nentry 1\nbind t a 0\nalloc a\nvector 1 5\n\
         entry 2\nbind t b 1\nalloc b\nvector 4 2\nopen\n";
     assert!(rt; is_printed_again(alloc, &spec, open, 2, false)?);
-    let turned = b"front 1\nobjectives cost energy\nentry 1\nbind t b 1\nalloc b\nvector 4 2\n\
-        entry 2\nbind t a 0\nalloc a\nvector 1 5\ncomplete\n";
-    assert!(rt; is_printed_again(alloc, &spec, turned, 2, true)?);
-    Ok(())
-}
-
-#[test]
-fn refused_entries(rt: HostRuntime) -> Result<(), Fail> {
-    let alloc = rt.alloc();
-    let spec = spec_of(alloc, THREE_OPTIONS)?;
-    let other =
-        b"front 1\nobjectives cost energy\nentry 1\nbind t b 0\nalloc a\nvector 1 5\ncomplete\n";
-    assert!(rt; is_refused(alloc, &spec, other, 4, Why::WrongBinding));
-    let numbered = b"front 1\nobjectives cost energy\nentry 01\n";
-    assert!(rt; is_refused(alloc, &spec, numbered, 3, Why::BadNumber));
-    let late = b"front 1\nobjectives cost energy\nentry 2\n";
-    assert!(rt; is_refused(alloc, &spec, late, 3, Why::NotInOrder));
-    let early = b"front 1\nobjectives cost energy\nentry 1\nbind t a 0\ncomplete\n";
-    assert!(rt; is_refused(alloc, &spec, early, 5, Why::BadStatement));
-    Ok(())
-}
-
-#[test]
-fn refused_frames(rt: HostRuntime) -> Result<(), Fail> {
-    let alloc = rt.alloc();
-    let spec = spec_of(alloc, THREE_OPTIONS)?;
-    assert!(rt; is_refused(alloc, &spec, b"", 1, Why::NoHeader));
-    assert!(rt; is_refused(alloc, &spec, b" front 1\n", 1, Why::NoHeader));
-    assert!(rt; is_refused(alloc, &spec, b"front 2", 1, Why::NoHeader));
-    assert!(rt; is_refused(alloc, &spec, b"front 1", 1, Why::BadStatement));
-    assert!(rt;
-        is_refused(
-            alloc,
-            &spec,
-            b"front 1\nobjectives energy cost\n",
-            2,
-            Why::UnknownName
-        )
-    );
-    assert!(rt; is_refused(alloc, &spec, b"front 1\nentry 1\n", 2, Why::BadStatement));
-    assert!(rt;
-        is_refused(
-            alloc,
-            &spec,
-            b"front 1\nobjectives cost energy\n",
-            3,
-            Why::Unclosed
-        )
-    );
-    assert!(rt;
-        is_refused(
-            alloc,
-            &spec,
-            b"front 1\nobjectives cost energy\ncomplete",
-            3,
-            Why::BadStatement
-        )
-    );
-    assert!(rt;
-        is_refused(
-            alloc,
-            &spec,
-            b"front 1\nobjectives cost energy\nopen\n\n",
-            4,
-            Why::BadStatement
-        )
-    );
     Ok(())
 }
