@@ -27,6 +27,7 @@ fn take_part<D: Desk>(
 ) -> Result<Option<Refused>, DeskError>
     requires there { IfSome (D.files desk.old) (λ all. at + count ≤ length (content all name.now)) }
     requires held { HasNoLf lines.old.held.items }
+    requires few { count ≤ 65536 }
     ensures taken { IfOk result (TakesPart (D.files desk.old) name.now at count lines.old lines.new) }
     ensures files { D.files desk.new ≡ D.files desk.old }
     ensures said { D.said desk.new ≡ D.said desk.old }
