@@ -1,8 +1,7 @@
 -- The numbers of several words, read one by one.
 use Rattle.std.proofs.Common.{◌≡◌, ℕ, ◌+◌, ◌<◌, Bool, false, ◌||◌, List, [], ◌∷◌, ◌++◌, length, map, take, get_or, refl, sym, ap, ◌∙◌, Bor}
 use Rattle.std.proofs.lemmas.List.{map_push}
-use Rattle.line_words.specs.Rules.{Words}
-use Rattle.file_bricks.specs.Words.{said}
+use Rattle.line_words.specs.Rules.{Words, said}
 use Rattle.file_bricks.proofs.Deciding.{or_false, or_or}
 use Rattle.arch_reader.specs.Numbers.{fine, both, all_misread}
 use Rattle.arch_reader.specs.declared.numbers.Misread.{Misread}

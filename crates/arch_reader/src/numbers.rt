@@ -2,7 +2,7 @@
 
 ghost use Rattle.std.specs.Prelude.{◌≡◌, ◌<◌, nat_lt, IfOk};
 ghost use Rattle.file_bricks.specs.Numbers.{whole_in, decimal_in};
-ghost use Rattle.file_bricks.specs.Words.{said};
+ghost use Rattle.line_words.specs.Rules.{said};
 ghost use Rattle.arch_reader.specs.Numbers.{fine, both, misread_for, whole_misread, decimal_misread, key_amount, amount_misread, amounts, key_column, column_misread, columns, is_negative, units_in, unit_at, at_scale, fraction_at};
 
 use crate::statement::{KeyAmount, KeyColumn};

@@ -3,11 +3,10 @@
 ghost use Rattle.std.specs.Prelude.{◌≡◌, ◌≤◌, ◌+◌, [], length, Some, None, IfOk, OnOk, IfErr};
 ghost use Rattle.line_words.specs.Text.{lines};
 ghost use Rattle.line_words.specs.Refused.{fault_at};
-ghost use Rattle.line_words.specs.Rules.{first_broken};
+ghost use Rattle.line_words.specs.Rules.{first_broken, said};
 ghost use Rattle.line_words.specs.Reads.{Reads, Agrees, Stops};
 ghost use Rattle.line_words.specs.declared.refusals.FileTag.TheVariants.{Arch};
 ghost use Rattle.line_words.specs.declared.refusals.Why.TheVariants.{NoHeader};
-ghost use Rattle.file_bricks.specs.Words.{said};
 ghost use Rattle.arch_reader.specs.Shapes.{plain, form_of};
 ghost use Rattle.arch_reader.specs.Tests.{tests};
 ghost use Rattle.arch_reader.specs.Arch.{stated, arch_rules, lines_in, AllPass};

@@ -5,7 +5,7 @@
 
 ghost use Rattle.std.specs.Prelude.{◌≡◌, [], ◌∷◌, Some, IfOk};
 ghost use Rattle.file_bricks.specs.Numbers.{whole_in};
-ghost use Rattle.file_bricks.specs.Words.{said};
+ghost use Rattle.line_words.specs.Rules.{said};
 ghost use Rattle.arch_reader.specs.Numbers.{whole_misread};
 ghost use Rattle.arch_reader.specs.Shapes.{plain, settings_of, objective_form, clock_form, resource_form, is_two_way, link_form, traffic_form, task_form, message_form, merge_form, time_in, time_misread, after_time, map_form, keys_in, after_keys, table_form, rows_key, quantity_form, quantity_table, quantity_table_rows, hops_form, delay_form, deadline_form, form_with, form_of};
 

@@ -2,7 +2,7 @@
 
 ghost use Rattle.std.specs.Prelude.{◌≡◌, ◌<◌, ◌≤◌, length};
 ghost use Rattle.std.specs.List.{list_all, prefix_len};
-ghost use Rattle.file_bricks.specs.Words.{said};
+ghost use Rattle.line_words.specs.Rules.{said};
 ghost use Rattle.arch_reader.specs.Words.{is_cut, key_of, value_of, is_keyed, is_placed, are_keyed, are_placed, is_time, is_arrow, is_table_key, is_reserved};
 
 /// Whether a word has a mark, at which it is cut.

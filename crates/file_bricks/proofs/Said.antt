@@ -3,9 +3,9 @@ use Rattle.std.proofs.Common.{◌≡◌, ℕ, ◌+◌, ◌-◌, ◌<◌, List, [
 use Rattle.std.proofs.lemmas.List.{length-take, length-drop, length-map, take_more, map_push}
 use Rattle.std.proofs.lemmas.List.Elements.{All-nil, All-cons}
 use Rattle.line_words.specs.Text.{Piece, AreSpans, ArePlain, IsSpan, words_in}
-use Rattle.line_words.specs.Rules.{Words, texts}
+use Rattle.line_words.specs.Rules.{Words, texts, said}
 use Rattle.line_words.specs.Left.{Left, Numbered, Gives}
-use Rattle.file_bricks.specs.Words.{said, IsWord}
+use Rattle.file_bricks.specs.Words.{IsWord}
 
 some_byte : (source : List ℕ) (place : ℕ) (w : Piece) → IsSpan source place w → 0 < length w.text
 some_byte source place w s =

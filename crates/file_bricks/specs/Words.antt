@@ -1,14 +1,10 @@
 -- The words of a line.
-use Rattle.std.specs.Prelude.{◌≡◌, ℕ, ◌<◌, List, [], ◌∷◌, length, map, Bool, true, false, ◌&&◌, slice_index_or, if◌then◌else◌, Option, Some, None}
+use Rattle.std.specs.Prelude.{◌≡◌, ℕ, ◌<◌, List, [], ◌∷◌, length, Bool, true, false, ◌&&◌, slice_index_or, if◌then◌else◌, Option, Some, None}
 use Rattle.std.specs.List.{list_all}
 use Rattle.std.specs.Str.{bytes_eq}
 use Rattle.std.specs.Borrow.{Bor}
 use Rattle.line_words.specs.Text.{is_word_byte}
 use Rattle.line_words.specs.Rules.{Words}
-
--- what words lent from a line say
-abbrev pub said : List (Bor (List ℕ)) → Words
-said ws = map (λ w. w.now) ws
 
 -- a word: bytes from 33 to 126 without `#`, one at least
 pub record IsWord (word : List ℕ) : Type 0 where

@@ -1,7 +1,7 @@
 //! The texts and lists of a file that was read.
 
 ghost use Rattle.std.specs.Prelude.{◌≡◌, ◌++◌, ◌∷◌, [], IfOk, OnOk, OnErr, string_bytes};
-ghost use Rattle.file_bricks.specs.Words.{said};
+ghost use Rattle.line_words.specs.Rules.{said};
 
 use std::alloc::{AllocError, Global};
 use std::marker::Model;

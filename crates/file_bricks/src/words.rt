@@ -2,8 +2,8 @@
 
 ghost use Rattle.std.specs.Prelude.{◌≡◌, All, IfOk, map};
 ghost use Rattle.line_words.specs.Text.{words_in};
-ghost use Rattle.line_words.specs.Rules.{texts};
-ghost use Rattle.file_bricks.specs.Words.{said, word_at, IsWord, is_headed, keyword_in, entry_said};
+ghost use Rattle.line_words.specs.Rules.{texts, said};
+ghost use Rattle.file_bricks.specs.Words.{word_at, IsWord, is_headed, keyword_in, entry_said};
 
 use line_words::Line;
 use std::alloc::{AllocError, Global};

@@ -2,11 +2,7 @@
 use Rattle.std.proofs.Common.{◌≡◌, ℕ, List, [], ◌∷◌, ◌++◌, map, sym, ap, ◌∙◌, append_assoc, Bor}
 use Rattle.std.proofs.lemmas.List.{append-nil, map_push}
 use Rattle.line_words.specs.Text.{Piece}
-use Rattle.line_words.specs.Rules.{Words, texts}
-
--- what texts lent from a source say
-abbrev pub said : List (Bor (List ℕ)) → Words
-said ws = map (λ w. w.now) ws
+use Rattle.line_words.specs.Rules.{Words, texts, said}
 
 -- one more word is collected: `next` gave it, and `left` are the words after it
 pub collected_more : (done : List (Bor (List ℕ))) (word : Bor (List ℕ)) (before left : List Piece) (w : Piece) (all : Words)

@@ -3,12 +3,12 @@
 -- A reader keeps "reading on from here gives `total`", where `total` is what the whole file gives. One of the
 -- lemmas below serves each way on: a statement is taken, a statement breaks a rule, a line alone is refused, the
 -- file ends and breaks no rule, or its end breaks one.
-use Rattle.std.proofs.Common.{◌≡◌, ℕ, ◌+◌, ◌<◌, ◌≤◌, Bool, true, false, List, [], ◌∷◌, ◌++◌, length, Option, Some, None, Ok, Err, ◌&&◌, refl, sym, ap, ◌∙◌, arith}
+use Rattle.std.proofs.Common.{◌≡◌, ℕ, ◌+◌, ◌<◌, ◌≤◌, Bool, true, List, [], ◌∷◌, ◌++◌, length, Option, Some, None, Ok, Err, ◌&&◌, refl, sym, ap, ◌∙◌, arith}
 use Rattle.std.specs.Prelude.{nat_le}
 use Rattle.std.proofs.lemmas.Bool.{leb-true}
 use Rattle.std.proofs.lemmas.List.{append-nil}
 use Rattle.line_words.specs.Text.{Piece, words, words_in}
-use Rattle.line_words.specs.Rules.{Test, IsRanked, first_broken, Words, Statement, Rules, tests_after, statement_tests, AreInOrder, line_tests, texts, some_words, stated_words, text_rules, after_header, end_after_header, headed_rules}
+use Rattle.line_words.specs.Rules.{Test, IsRanked, first_broken, Words, Statement, Rules, tests_after, statement_tests, AreInOrder, line_tests, texts, some_words, stated_words, text_rules}
 use Rattle.line_words.specs.Left.{Left, Numbered, IsEmptyLine, AllEmpty, Passes, Gives, Refuses}
 use Rattle.line_words.specs.Run.{Reading, unless_broken, run}
 use Rattle.line_words.specs.declared.refusals.Why.{Why}
@@ -46,20 +46,6 @@ in_order statement end s e = record {
         → ((before : List Statement) (ws : Words) → IsRanked (rank NoHeader) (statement before ws)) → IsRanked (rank LongLine) (statement_tests (text_rules statement end) before stated)
     stated_ranked statement end before None s = tt
     stated_ranked statement end before (Some ws) s = ranked_below (rank LongLine) (rank NoHeader) (statement before ws) (omega arith) (s before ws)
-
--- the same of a file with a header, from the rules of what follows it
-pub in_order_headed : (is_header : Words → Bool) (later : List Statement → Words → List Test) (end : List Statement → List Test)
-    → ((before : List Statement) (ws : Words) → IsRanked (rank NoHeader) (later before ws)) → ((before : List Statement) → IsRanked (rank NoHeader) (end before)) → AreInOrder (headed_rules is_header later end)
-in_order_headed is_header later end s e = in_order (after_header is_header later) (end_after_header end) (statement_ranked is_header later s) (end_ranked end e)
-  where
-    statement_ranked : (is_header : Words → Bool) (later : List Statement → Words → List Test) → ((before : List Statement) (ws : Words) → IsRanked (rank NoHeader) (later before ws))
-        → (before : List Statement) (ws : Words) → IsRanked (rank NoHeader) (after_header is_header later before ws)
-    statement_ranked is_header later s [] ws = (omega arith, tt)
-    statement_ranked is_header later s (h ∷ before) ws = s before ws
-
-    end_ranked : (end : List Statement → List Test) → ((before : List Statement) → IsRanked (rank NoHeader) (end before)) → (before : List Statement) → IsRanked (rank NoHeader) (end_after_header end before)
-    end_ranked end e [] = (omega arith, tt)
-    end_ranked end e (h ∷ before) = e before
 
 -- ---- one line
 
@@ -159,11 +145,3 @@ pub ends_broken : (statement : List Statement → Words → List Test) (end : Li
 ends_broken statement end before old new line total why p e line_is so_far broken =
     let number : new.number ≡ line = omega (arith, line_is, ap length e) in
     sym so_far ∙ ends_run statement end before old new p e ∙ rw (broken, number) refl
-
--- ---- the first statement of a file with a header
-
-pub header_wrong : (is_header : Words → Bool) (later : List Statement → Words → List Test) (ws : Words) → is_header ws ≡ false → first_broken (after_header is_header later [] ws) ≡ Some NoHeader
-header_wrong is_header later ws e = rw e refl
-
-pub header_right : (is_header : Words → Bool) (later : List Statement → Words → List Test) (ws : Words) → is_header ws ≡ true → first_broken (after_header is_header later [] ws) ≡ None
-header_right is_header later ws e = rw e refl

@@ -1,11 +1,12 @@
 -- What a file is refused for: the lowest line at which a rule is broken, and of the rules broken there the lowest.
-use Rattle.std.specs.Prelude.{◌≡◌, ℕ, ◌+◌, ◌<◌, ◌≤◌, ◌⊎◌, List, [], ◌∷◌, ◌++◌, length, take, map, Bool, true, not, nat_lt, slice_index_or, if◌then◌else◌, Option, Some, None}
+use Rattle.std.specs.Prelude.{◌≡◌, ℕ, ◌+◌, ◌<◌, ◌≤◌, ◌⊎◌, List, [], ◌∷◌, ◌++◌, length, take, map, Bool, true, nat_lt, slice_index_or, if◌then◌else◌, Option, Some, None}
 use Rattle.std.specs.List.{list_any}
+use Rattle.std.specs.Borrow.{Bor}
 use Rattle.line_words.specs.Text.{Piece, words, content, is_bad}
 use Rattle.line_words.specs.Limits.{most_line_bytes}
 use Rattle.line_words.specs.Refused.{rank}
 use Rattle.line_words.specs.declared.refusals.Why.{Why}
-use Rattle.line_words.specs.declared.refusals.Why.TheVariants.{BadByte, LongLine, NoHeader}
+use Rattle.line_words.specs.declared.refusals.Why.TheVariants.{BadByte, LongLine}
 
 -- a rule that is tried: what it refuses for, and whether it is broken
 abbrev pub Test : Type 0
@@ -122,6 +123,10 @@ line_fault line = first_broken (line_tests line)
 abbrev pub texts : List Piece → Words
 texts ws = map (λ w. w.text) ws
 
+-- what texts lent from a source say
+abbrev pub said : List (Bor (List ℕ)) → Words
+said ws = map (λ w. w.now) ws
+
 -- a statement has a word
 abbrev pub some_words : Words → Option Words
 some_words [] = None
@@ -136,20 +141,6 @@ abbrev pub text_rules : (List Statement → Words → List Test) → (List State
 text_rules statement end = record { line = line_tests; stated = stated_words; statement = statement; end = end }
 
 -- ---- files that begin with a header
-
--- the first statement is to be the header; the others have rules of their own, after the header and the statements before them
-abbrev pub after_header : (Words → Bool) → (List Statement → Words → List Test) → List Statement → Words → List Test
-after_header is_header later [] ws = (NoHeader, not (is_header ws)) ∷ []
-after_header is_header later (header ∷ before) ws = later before ws
-
--- a file with no statement has no header; another one's end has rules of its own, after the header and all statements
-abbrev pub end_after_header : (List Statement → List Test) → List Statement → List Test
-end_after_header end [] = (NoHeader, true) ∷ []
-end_after_header end (header ∷ before) = end before
-
--- the rules of a file that may have comments and begins with a header
-abbrev pub headed_rules : (Words → Bool) → (List Statement → Words → List Test) → (List Statement → List Test) → Rules
-headed_rules is_header later end = text_rules (after_header is_header later) (end_after_header end)
 
 -- the statements after the header
 abbrev pub without_header : List Statement → List Statement

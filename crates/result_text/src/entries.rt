@@ -43,3 +43,14 @@ pub struct Entry {
     pub design: Design,
     pub vector: Vector,
 }
+
+impl Entry {
+    /// A copy. It is refused only for want of memory.
+    pub fn copy(&self, alloc: Global) -> Result<Entry, AllocError>
+        ensures { IfOk result (λ e. e ≡ self.now) }
+    {
+        let design = self.design.copy(alloc)?;
+        let vector = Vector::of(alloc, self.vector.numbers())?;
+        Ok(Entry { design, vector })
+    }
+}

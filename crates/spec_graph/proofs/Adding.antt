@@ -137,13 +137,6 @@ plan_link s name a b two_way weights traffic p new ha hb ne one small one' small
       no_cycle = p.no_cycle;
     }
 
-pub plan_link_at : (s : SpecValue) (name : Name) (a b : ℕ) (two_way : Bool) (weights traffic : List ℕ) (names : List Name) (arcs : List Arc) (rows rows' : List (List ℕ)) → names ≡ s.links ++ name ∷ [] → arcs ≡ s.arcs ++ arcs_of_link (length s.links) a b two_way → rows ≡ s.link_weights ++ weights ∷ [] → rows' ≡ s.traffic_weights ++ traffic ∷ [] → IsPlan (with_link s name a b two_way weights traffic) → IsPlan (record s { links = names; arcs = arcs; link_weights = rows; traffic_weights = rows' })
-plan_link_at s name a b two_way weights traffic names arcs rows rows' en ea er er' p =
-    subst (λ (ns : List Name). IsPlan (record s { links = ns; arcs = arcs; link_weights = rows; traffic_weights = rows' })) (sym en)
-    (subst (λ (as' : List Arc). IsPlan (record s { links = s.links ++ name ∷ []; arcs = as'; link_weights = rows; traffic_weights = rows' })) (sym ea)
-    (subst (λ (rs : List (List ℕ)). IsPlan (record s { links = s.links ++ name ∷ []; arcs = s.arcs ++ arcs_of_link (length s.links) a b two_way; link_weights = rs; traffic_weights = rows' })) (sym er)
-    (subst (λ (rs : List (List ℕ)). IsPlan (record s { links = s.links ++ name ∷ []; arcs = s.arcs ++ arcs_of_link (length s.links) a b two_way; link_weights = s.link_weights ++ weights ∷ []; traffic_weights = rs })) (sym er') p)))
-
 -- ---- messages
 
 -- no number stands twice
@@ -198,11 +191,6 @@ plan_message s name m p new sender receivers some once small free room =
     no_more : (n : ℕ) → ¬ IsBig n → (2 ^ 40 < n) ⊎ (n ≤ 2 ^ 40) → n ≤ 2 ^ 40
     no_more n small' (inl b) = absurd (small' b)
     no_more n small' (inr b) = b
-
-pub plan_message_at : (s : SpecValue) (name : Name) (m : Message) (names : List Name) (ms : List Message) → names ≡ s.message_names ++ name ∷ [] → ms ≡ s.messages ++ m ∷ [] → IsPlan (with_message s name m) → IsPlan (record s { message_names = names; messages = ms })
-plan_message_at s name m names ms en em p =
-    subst (λ (ns : List Name). IsPlan (record s { message_names = ns; messages = ms })) (sym en)
-    (subst (λ (ks : List Message). IsPlan (record s { message_names = s.message_names ++ name ∷ []; messages = ks })) (sym em) p)
 
 -- the messages with one more, whose receivers are a copy
 pub added_message : (old kept new : List Message) (sender : TaskNo) (receivers copy : List TaskNo) (hops delay quantity : ℕ) → kept ≡ old → copy ≡ receivers → new ≡ kept ++ message_of sender copy hops delay quantity ∷ [] → new ≡ old ++ message_of sender receivers hops delay quantity ∷ []

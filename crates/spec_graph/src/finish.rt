@@ -1,6 +1,6 @@
 //! The end of a plan: what is tested of the whole, and the specification that it becomes.
 
-ghost use Rattle.std.specs.Prelude.{◌≡◌, ◌<◌, ◌↔◌, IsTrue, IfOk, OnOk, IfErr};
+ghost use Rattle.std.specs.Prelude.{◌≡◌, ◌<◌, ◌↔◌, IsTrue, Err, IfOk, OnOk, IfErr};
 ghost use Rattle.spec_model.specs.Spec.{all_variables};
 ghost use Rattle.spec_model.specs.WellFormed.{most_hops, size};
 ghost use Rattle.spec_graph.specs.Plan.{finished};
@@ -122,6 +122,13 @@ impl SpecBuilder {
         }
     }
 
+    /// The refusal of the plan, which is let go.
+    fn refused(self, fault: BuildFault) -> Result<Spec, BuildFault>
+        ensures { result ≡ Err fault }
+    {
+        Err(fault)
+    }
+
     /// The specification that the plan becomes: each hop limit is the stated one, or one less than the number of
     /// resources where that is less.
     ///
@@ -134,7 +141,7 @@ impl SpecBuilder {
     {
         match self.sizes() {
             Ok(sizes) => Ok(self.into_spec(sizes)),
-            Err(fault) => Err(fault),
+            Err(fault) => self.refused(fault),
         }
     }
 }

@@ -1,17 +1,18 @@
 //! The lists that a builder fills and a finished specification keeps.
 
-ghost use Rattle.std.specs.Prelude.{◌≡◌};
-ghost use Rattle.spec_model.specs.Spec.{empty_spec};
+ghost use Rattle.std.specs.Prelude.{◌≡◌, ◌<◌, ◌≤◌, length, Contains, MatchOption};
+ghost use Rattle.spec_model.specs.Spec.{empty_spec, message_at};
+ghost use Rattle.names.specs.Names.{IsNumberOf};
 ghost use Rattle.spec_graph.specs.Held.{value_of};
 
 use crate::choices::Choices;
 use crate::messages::Message;
-use crate::numbers::Arc;
+use crate::numbers::{Arc, LinkNo, MsgNo, ResNo, TaskNo};
 use crate::rows::{Deadline, Weights};
 use names::Names;
 use std::alloc::Global;
 
-/// The lists of a specification.
+/// The lists of a specification, and the look-ups that a plan and a whole specification share.
 #[derive(Drop)]
 pub struct Held {
     pub tasks: Names,
@@ -49,5 +50,58 @@ impl Held {
             link_weights: Vec::new(alloc),
             traffic_weights: Vec::new(alloc),
         }
+    }
+
+    /// The task of a name.
+    pub fn find_task(&self, name: &str) -> Option<TaskNo>
+        requires few { length self.now.tasks ≤ 1024 }
+        ensures { MatchOption result (Contains self.now.tasks name.now → ⊥) (λ t. IsNumberOf self.now.tasks name.now t.0) }
+    {
+        match self.tasks.find(name) {
+            Some(i) => Some(TaskNo(i as u32)),
+            None => None,
+        }
+    }
+
+    /// The resource of a name.
+    pub fn find_resource(&self, name: &str) -> Option<ResNo>
+        requires few { length self.now.resources ≤ 256 }
+        ensures { MatchOption result (Contains self.now.resources name.now → ⊥) (λ r. IsNumberOf self.now.resources name.now r.0) }
+    {
+        match self.resources.find(name) {
+            Some(i) => Some(ResNo(i as u32)),
+            None => None,
+        }
+    }
+
+    /// The message of a name.
+    pub fn find_message(&self, name: &str) -> Option<MsgNo>
+        requires few { length self.now.message_names ≤ 2048 }
+        ensures { MatchOption result (Contains self.now.message_names name.now → ⊥) (λ m. IsNumberOf self.now.message_names name.now m.0) }
+    {
+        match self.message_names.find(name) {
+            Some(i) => Some(MsgNo(i as u32)),
+            None => None,
+        }
+    }
+
+    /// The link of a name.
+    pub fn find_link(&self, name: &str) -> Option<LinkNo>
+        requires few { length self.now.links ≤ 1024 }
+        ensures { MatchOption result (Contains self.now.links name.now → ⊥) (λ l. IsNumberOf self.now.links name.now l.0) }
+    {
+        match self.links.find(name) {
+            Some(i) => Some(LinkNo(i as u32)),
+            None => None,
+        }
+    }
+
+    /// The task that sends a message.
+    pub fn sender(&self, m: MsgNo) -> TaskNo
+        requires { m.0 < length self.now.messages.items }
+        ensures { result.0 ≡ (message_at (value_of self.now) m.0).sender }
+    {
+        let message = &self.messages[m.0 as usize];
+        message.sender
     }
 }

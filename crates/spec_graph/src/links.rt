@@ -1,18 +1,21 @@
 //! The call of a builder that adds a link and its arcs.
 
-ghost use Rattle.std.specs.Prelude.{◌≡◌, ◌<◌, ◌≤◌, ◌+◌, ◌++◌, length, map, IfOk, OnOk, IfErr, OnErr};
+ghost use Rattle.std.specs.Prelude.{◌≡◌, ◌<◌, ◌≤◌, ◌+◌, ◌++◌, length, map, Contains, MatchOption, IfOk, OnOk, IfErr, OnErr};
 ghost use Rattle.std.specs.Vec.{vec_len, vec_capacity};
 ghost use Rattle.names.specs.Names.{IsName};
+ghost use Rattle.spec_graph.specs.Held.{value_of};
 ghost use Rattle.spec_graph.specs.Lists.{arc_value};
 ghost use Rattle.spec_graph.specs.Plan.{arcs_of_link, with_link};
 ghost use Rattle.spec_graph.specs.Refusals.{IsLinkRefused, IsLinkAccepted};
 
 use crate::builder::SpecBuilder;
 use crate::faults::BuildFault;
+use crate::held::Held;
 use crate::numbers::{Arc, LinkNo, ResNo};
 use crate::rows::{Weights, has_big};
 use line_words::What;
 use spec_model::MOST_LINKS;
+use std::alloc::{AllocError, Global};
 
 /// Adds the arcs of a link: from its first to its second resource, and where it is two-way the arc back.
 fn push_arcs(arcs: &mut Vec<Arc>, link: LinkNo, a: ResNo, b: ResNo, two_way: bool)
@@ -33,7 +36,68 @@ fn push_arcs(arcs: &mut Vec<Arc>, link: LinkNo, a: ResNo, b: ResNo, two_way: boo
     }
 }
 
+impl Held {
+    /// Adds a link of a new name with its arcs, its weights and its traffic weights.
+    fn add_link(
+        &mut self,
+        alloc: Global,
+        name: &str,
+        a: ResNo,
+        b: ResNo,
+        two_way: bool,
+        weights: &[u64],
+        traffic: &[u64],
+    ) -> Result<LinkNo, AllocError>
+        requires named { IsName name.now }
+        requires new { Contains self.old.links name.now → ⊥ }
+        requires few { length self.old.links ≤ 1024 }
+        ensures number { IfOk result (λ l. l.0 ≡ length self.old.links) }
+        ensures added { OnOk result (value_of self.new ≡ with_link (value_of self.old) name.now a.0 b.0 two_way weights.now traffic.now) }
+        ensures unchanged { OnErr result (value_of self.new ≡ value_of self.old) }
+    {
+        self.arcs.reserve(2)?;
+        self.link_weights.reserve(1)?;
+        self.traffic_weights.reserve(1)?;
+        let weights = Weights::of(alloc, weights)?;
+        let traffic = Weights::of(alloc, traffic)?;
+        let number = LinkNo(self.links.add(alloc, name)? as u32);
+        push_arcs(&mut self.arcs, number, a, b, two_way);
+        self.link_weights.push_reserved(weights);
+        self.traffic_weights.push_reserved(traffic);
+        Ok(number)
+    }
+}
+
 impl SpecBuilder {
+    /// What a link is refused for, if for anything.
+    fn link_fault(
+        &self,
+        name: &str,
+        a: ResNo,
+        b: ResNo,
+        weights: &[u64],
+        traffic: &[u64],
+    ) -> Option<BuildFault>
+        ensures { MatchOption result (IsLinkAccepted self.now name.now a.0 b.0 weights.now traffic.now) (IsLinkRefused self.now name.now a.0 b.0 weights.now traffic.now) }
+    {
+        if self.held.links.contains(name) {
+            return Some(BuildFault::Repeated);
+        }
+        if a.0 == b.0 {
+            return Some(BuildFault::SelfLink);
+        }
+        if has_big(weights) {
+            return Some(BuildFault::TooBig);
+        }
+        if has_big(traffic) {
+            return Some(BuildFault::TooBig);
+        }
+        if self.held.links.len() >= MOST_LINKS {
+            return Some(BuildFault::Limit(What::Links));
+        }
+        None
+    }
+
     /// Adds a link between two resources, with its weights and its traffic weights, one for each objective. A two-way
     /// link has the arc from `a` to `b` and then the arc back, a one-way link the first alone.
     ///
@@ -59,30 +123,12 @@ impl SpecBuilder {
         ensures refused { IfErr result (IsLinkRefused self.old name.now a.0 b.0 weights.now traffic.now) }
         ensures unchanged { OnErr result (self.new ≡ self.old) }
     {
-        if self.held.links.contains(name) {
-            return Err(BuildFault::Repeated);
+        if let Some(fault) = self.link_fault(name, a, b, weights, traffic) {
+            return Err(fault);
         }
-        if a.0 == b.0 {
-            return Err(BuildFault::SelfLink);
-        }
-        if has_big(weights) {
-            return Err(BuildFault::TooBig);
-        }
-        if has_big(traffic) {
-            return Err(BuildFault::TooBig);
-        }
-        if self.held.links.len() >= MOST_LINKS {
-            return Err(BuildFault::Limit(What::Links));
-        }
-        let weights = Weights::of(self.alloc, weights)?;
-        let traffic = Weights::of(self.alloc, traffic)?;
-        self.held.arcs.reserve(2)?;
-        self.held.link_weights.reserve(1)?;
-        self.held.traffic_weights.reserve(1)?;
-        let number = LinkNo(self.held.links.add(self.alloc, name)? as u32);
-        push_arcs(&mut self.held.arcs, number, a, b, two_way);
-        self.held.link_weights.push_reserved(weights);
-        self.held.traffic_weights.push_reserved(traffic);
-        Ok(number)
+        Ok(
+            self.held
+                .add_link(self.alloc, name, a, b, two_way, weights, traffic)?,
+        )
     }
 }

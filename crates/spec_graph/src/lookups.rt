@@ -13,40 +13,28 @@ impl SpecBuilder {
     pub fn find_task(&self, name: &str) -> Option<TaskNo>
         ensures { MatchOption result (Contains self.now.tasks name.now → ⊥) (λ t. IsNumberOf self.now.tasks name.now t.0) }
     {
-        match self.held.tasks.find(name) {
-            Some(i) => Some(TaskNo(i as u32)),
-            None => None,
-        }
+        self.held.find_task(name)
     }
 
     /// The resource of a name, or `None` where it isn't declared. It takes no memory.
     pub fn find_resource(&self, name: &str) -> Option<ResNo>
         ensures { MatchOption result (Contains self.now.resources name.now → ⊥) (λ r. IsNumberOf self.now.resources name.now r.0) }
     {
-        match self.held.resources.find(name) {
-            Some(i) => Some(ResNo(i as u32)),
-            None => None,
-        }
+        self.held.find_resource(name)
     }
 
     /// The message of a name, or `None` where it isn't there. It takes no memory.
     pub fn find_message(&self, name: &str) -> Option<MsgNo>
         ensures { MatchOption result (Contains self.now.message_names name.now → ⊥) (λ m. IsNumberOf self.now.message_names name.now m.0) }
     {
-        match self.held.message_names.find(name) {
-            Some(i) => Some(MsgNo(i as u32)),
-            None => None,
-        }
+        self.held.find_message(name)
     }
 
     /// The link of a name, or `None` where it isn't declared. It takes no memory.
     pub fn find_link(&self, name: &str) -> Option<LinkNo>
         ensures { MatchOption result (Contains self.now.links name.now → ⊥) (λ l. IsNumberOf self.now.links name.now l.0) }
     {
-        match self.held.links.find(name) {
-            Some(i) => Some(LinkNo(i as u32)),
-            None => None,
-        }
+        self.held.find_link(name)
     }
 
     /// The number of the objective of a name, or `None` where it isn't declared. It takes no memory.
@@ -69,7 +57,6 @@ impl SpecBuilder {
         ensures sender { result.0 ≡ (message_at self.now m.0).sender }
         ensures there { result.0 < length self.now.tasks }
     {
-        let message = &self.held.messages[m.0 as usize];
-        message.sender
+        self.held.sender(m)
     }
 }

@@ -1,15 +1,17 @@
 //! The call of a builder that adds a message.
 
-ghost use Rattle.std.specs.Prelude.{◌≡◌, ◌<◌, ◌↔◌, ◌⊎◌, IsTrue, List, All, length, map, IfOk, OnOk, IfErr, OnErr};
+ghost use Rattle.std.specs.Prelude.{◌≡◌, ◌<◌, ◌≤◌, ◌↔◌, ◌⊎◌, IsTrue, ℕ, List, All, Contains, length, map, IfOk, OnOk, IfErr, OnErr};
 ghost use Rattle.spec_model.specs.Spec.{Message as MessageValue};
 ghost use Rattle.names.specs.Names.{IsName};
 ghost use Rattle.task_order.specs.Order.{IsOrderOf, IsLed};
+ghost use Rattle.spec_graph.specs.Held.{value_of};
 ghost use Rattle.spec_graph.specs.Lists.{task_number, message_of};
 ghost use Rattle.spec_graph.specs.Plan.{with_message};
 ghost use Rattle.spec_graph.specs.Refusals.{HasTwice, IsBig, IsMessageRefused, IsMessageAccepted};
 
 use crate::builder::SpecBuilder;
 use crate::faults::BuildFault;
+use crate::held::Held;
 use crate::messages::Message;
 use crate::numbers::{MsgNo, TaskNo};
 use line_words::What;
@@ -55,7 +57,74 @@ fn gather_all(alloc: Global, order: &TaskOrder, tasks: &[TaskNo]) -> Result<Task
     Ok(set)
 }
 
+impl Held {
+    /// Adds a message behind the others, with its name.
+    fn add_message(
+        &mut self,
+        alloc: Global,
+        name: &str,
+        sender: TaskNo,
+        receivers: &[TaskNo],
+        hops: u64,
+        delay: u64,
+        quantity: u64,
+    ) -> Result<MsgNo, AllocError>
+        requires named { IsName name.now }
+        requires new { Contains self.old.message_names name.now → ⊥ }
+        requires few { length self.old.message_names ≤ 2048 }
+        ensures number { IfOk result (λ m. m.0 ≡ length self.old.message_names) }
+        ensures added { OnOk result (value_of self.new ≡ with_message (value_of self.old) name.now (message_of sender receivers.now hops delay quantity)) }
+        ensures unchanged { OnErr result (value_of self.new ≡ value_of self.old) }
+    {
+        self.messages.reserve(1)?;
+        let receivers = Vec::from_slice(alloc, receivers)?;
+        let number = self.message_names.add(alloc, name)?;
+        self.messages.push_reserved(Message {
+            sender,
+            receivers,
+            hops,
+            delay,
+            quantity,
+        });
+        Ok(MsgNo(number as u32))
+    }
+}
+
 impl SpecBuilder {
+    /// The tasks that come after a message's receivers, the receivers among them, where no rule refuses the message.
+    fn tasks_after(
+        &self,
+        name: &str,
+        sender: TaskNo,
+        receivers: &[TaskNo],
+        delay: u64,
+        quantity: u64,
+    ) -> Result<TaskSet, BuildFault>
+        requires sender_there { sender.0 < length self.now.tasks }
+        requires receivers_there { All (λ w. w.0 < length self.now.tasks) receivers.now }
+        ensures led { IfOk result (λ set. IsLed set self.now.messages (map task_number receivers.now)) }
+        ensures accepted { OnOk result ((hops : ℕ) → IsMessageAccepted self.now name.now (message_of sender receivers.now hops delay quantity)) }
+        ensures refused { IfErr result (λ fault. (hops : ℕ) → IsMessageRefused self.now name.now (message_of sender receivers.now hops delay quantity) fault) }
+    {
+        if self.held.message_names.contains(name) {
+            return Err(BuildFault::Repeated);
+        }
+        if has_twice(self.alloc, receivers)? {
+            return Err(BuildFault::Repeated);
+        }
+        if is_too_big(delay, quantity) {
+            return Err(BuildFault::TooBig);
+        }
+        let after = gather_all(self.alloc, &self.order, receivers)?;
+        if after.has(sender.0 as usize) {
+            return Err(BuildFault::Cyclic);
+        }
+        if self.held.messages.len() >= MOST_MESSAGES {
+            return Err(BuildFault::Limit(What::Messages));
+        }
+        Ok(after)
+    }
+
     /// Adds a message from a task to others, with the greatest number of hops of its route, the delay of a hop and the
     /// quantity that it carries. It has at least one receiver.
     ///
@@ -81,33 +150,11 @@ impl SpecBuilder {
         ensures refused { IfErr result (IsMessageRefused self.old name.now (message_of sender receivers.now hops delay quantity)) }
         ensures unchanged { OnErr result (self.new ≡ self.old) }
     {
-        if self.held.message_names.contains(name) {
-            return Err(BuildFault::Repeated);
-        }
-        if has_twice(self.alloc, receivers)? {
-            return Err(BuildFault::Repeated);
-        }
-        if is_too_big(delay, quantity) {
-            return Err(BuildFault::TooBig);
-        }
-        let after = gather_all(self.alloc, &self.order, receivers)?;
-        if after.has(sender.0 as usize) {
-            return Err(BuildFault::Cyclic);
-        }
-        if self.held.messages.len() >= MOST_MESSAGES {
-            return Err(BuildFault::Limit(What::Messages));
-        }
-        let receivers = Vec::from_slice(self.alloc, receivers)?;
-        self.held.messages.reserve(1)?;
-        let number = self.held.message_names.add(self.alloc, name)?;
-        self.held.messages.push_reserved(Message {
-            sender,
-            receivers,
-            hops,
-            delay,
-            quantity,
-        });
+        let after = self.tasks_after(name, sender, receivers, delay, quantity)?;
+        let number = self
+            .held
+            .add_message(self.alloc, name, sender, receivers, hops, delay, quantity)?;
         self.order.join(sender.0 as usize, &after);
-        Ok(MsgNo(number as u32))
+        Ok(number)
     }
 }

@@ -1,7 +1,7 @@
 -- Tests and numbers over words, and over the texts that hold them.
 use Rattle.std.proofs.Common.{◌≡◌, ℕ, Bool, ◌||◌, List, [], ◌∷◌, refl, ap, Bor}
 use Rattle.std.specs.List.{list_any}
-use Rattle.line_words.proofs.Collected.{said}
+use Rattle.line_words.specs.Rules.{said}
 
 pub any_said : (p : List ℕ → Bool) (ws : List (Bor (List ℕ))) → list_any p (said ws) ≡ list_any (λ w. p w.now) ws
 any_said p [] = refl

@@ -3,7 +3,7 @@
 ghost use Rattle.std.specs.Prelude.{◌≡◌, ◌<◌, ◌≤◌, ◌∷◌, false, length, map, IfOk};
 ghost use Rattle.std.specs.List.{position_or_len, list_any, slice_split};
 ghost use Rattle.line_words.specs.Front.{is_lf};
-ghost use Rattle.line_words.proofs.Collected.{said};
+ghost use Rattle.line_words.specs.Rules.{said};
 ghost use Rattle.spelled_lines.specs.Lines.{pieces, is_bad, is_space, is_empty, lacks_lf, body_of, words_of};
 
 use std::alloc::{AllocError, Global};

@@ -99,6 +99,15 @@ made gs ts = record { graphs = gs; tables = ts }
 abbrev standing : Open → Blocks → State
 standing current blocks = record { current = current; blocks = blocks }
 
+-- where no block is open, what holds of all blocks holds of those that are closed
+pub closed_file : (s : State) → IsState s → faults.is_open s.current ≡ false → IsTgff (made s.blocks.graphs s.blocks.tables)
+closed_file s h e = go s.current s.blocks h.file e
+  where
+    go : (c : Open) (b : Blocks) → IsTgff (file_of (standing c b)) → faults.is_open c ≡ false → IsTgff (made b.graphs b.tables)
+    go Outside b h e = subst (λ (gs : List Graph). IsTgff (made gs b.tables)) (append-nil b.graphs) (subst (λ (ts : List Table). IsTgff (made (b.graphs ++ []) ts)) (append-nil b.tables) h)
+    go (InGraph g) b h e = absurd (false≢true (sym e))
+    go (InTable t) b h e = absurd (false≢true (sym e))
+
 -- ---- the start
 
 no_graph_cycle : ¬ HasCycle (messages_of [])

@@ -1,13 +1,11 @@
 -- What stands after a line that breaks no rule.
-use Rattle.std.specs.Prelude.{◌≡◌, ℕ, ◌+◌, ◌≤◌, length, List, [], ◌∷◌, ◌++◌, Bool, true, false, if◌then◌else◌, Option, Some, None, Result, Ok, Err}
-use Rattle.line_words.specs.Rules.{Words, Statement, first_broken}
-use Rattle.line_words.specs.Reads.{Stops}
-use Rattle.line_words.specs.declared.refusals.Stop.{Stop}
+use Rattle.std.specs.Prelude.{ℕ, ◌+◌, List, [], ◌∷◌, ◌++◌, Bool, true, false, if◌then◌else◌, Option, Some, None}
+use Rattle.line_words.specs.Rules.{Words, Statement}
 use Rattle.file_bricks.specs.Numbers.{read_or, whole_in, decimal_in}
 use Rattle.file_bricks.specs.Words.{word_at}
 use Rattle.tgff_reader.specs.Words.{first}
 use Rattle.tgff_reader.specs.Lines.{is_opening, block_name, block_index, is_graph_name, is_closing, keyword_of}
-use Rattle.tgff_reader.specs.Faults.{place_of, tests, known_tests, deadline_tests}
+use Rattle.tgff_reader.specs.Faults.{place_of}
 use Rattle.tgff_reader.specs.declared.keyword.Keyword.{Keyword}
 use Rattle.tgff_reader.specs.declared.keyword.Keyword.TheVariants.{Period, Task, Arc, HardDeadline, SoftDeadline}
 use Rattle.tgff_reader.specs.declared.file.Graph.{Graph}
@@ -131,24 +129,3 @@ after_all state (s ∷ more) = after_all (after state s.words) more
 -- what stands after the lines of a file
 abbrev pub state_of : List Statement → State
 state_of statements = after_all start statements
-
--- A line is taken, and breaks no rule then. One that breaks a rule is refused for the first one. Memory may run out.
-abbrev pub Takes : State → Words → Result State Stop → Type 0
-Takes state ws (Ok next) = (first_broken (tests state ws) ≡ None) × (next ≡ after state ws)
-Takes state ws (Err stop) = Stops stop (first_broken (tests state ws))
-
--- the same of a line of a task graph, given its keyword
-abbrev pub TakesKnown : Blocks → Graph → Words → Option Keyword → Result State Stop → Type 0
-TakesKnown blocks graph ws keyword (Ok next) = (first_broken (known_tests blocks graph ws keyword) ≡ None) × (next ≡ record { current = InGraph (graph_after graph ws keyword); blocks = blocks_after blocks keyword })
-TakesKnown blocks graph ws keyword (Err stop) = Stops stop (first_broken (known_tests blocks graph ws keyword))
-
--- the same of a deadline
-abbrev pub TakesDeadline : Blocks → Graph → Bool → Words → Result State Stop → Type 0
-TakesDeadline blocks graph hard ws (Ok next) = (first_broken (deadline_tests graph ws) ≡ None) × (next ≡ record { current = InGraph (with_deadline graph hard ws); blocks = blocks })
-TakesDeadline blocks graph hard ws (Err stop) = Stops stop (first_broken (deadline_tests graph ws))
-
--- the tasks of an open graph are among those that are counted
-abbrev pub HasRoom : Open → Blocks → Type 0
-HasRoom Outside blocks = Unit {0}
-HasRoom (InGraph graph) blocks = length graph.tasks ≤ blocks.tasks
-HasRoom (InTable table) blocks = Unit {0}

@@ -5,6 +5,7 @@ pub mod Faults
 pub mod After
 pub mod Facts
 pub mod Tgff
+pub mod Taking
 pub mod Rows
 pub mod Looking
 pub mod Places

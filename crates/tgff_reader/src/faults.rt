@@ -4,8 +4,7 @@
 
 ghost use Rattle.std.specs.Prelude.{◌≡◌, ◌<◌, ◌≤◌, length, Result};
 ghost use Rattle.std.specs.List.{list_any};
-ghost use Rattle.line_words.specs.Rules.{first_broken};
-ghost use Rattle.file_bricks.specs.Words.{said};
+ghost use Rattle.line_words.specs.Rules.{first_broken, said};
 ghost use Rattle.tgff_reader.specs.Faults as tests;
 
 use crate::file::{Graph, TgffArc, TgffTask};

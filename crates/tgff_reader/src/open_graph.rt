@@ -1,6 +1,6 @@
 //! A task graph whose block is open, and the order of its tasks that its arcs give.
 
-ghost use Rattle.std.specs.Prelude.{◌≡◌, ℕ, ◌<◌, ◌∷◌, ◌++◌, [], length, IfOk, OnOk, Some};
+ghost use Rattle.std.specs.Prelude.{◌≡◌, ℕ, ◌<◌, ◌≤◌, ◌∷◌, ◌++◌, [], length, IfOk, OnOk, Some};
 ghost use Rattle.spec_model.specs.Limits.{most_tasks};
 ghost use Rattle.task_order.specs.Order.{is_in};
 ghost use Rattle.tgff_reader.specs.Reaching.{reaches};
@@ -51,7 +51,8 @@ impl OpenGraph {
 
     /// The graph as far as it is stated.
     pub(crate) fn graph(&self) -> &Graph
-        ensures { result.now ≡ self.now }
+        ensures graph { result.now ≡ self.now }
+        ensures few { length self.now.tasks ≤ most_tasks }
     {
         &self.graph
     }

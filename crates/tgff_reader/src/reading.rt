@@ -1,71 +1,67 @@
 //! Reads a TGFF file, once from left to right.
 
-ghost use Rattle.std.specs.Prelude.{◌≡◌, ◌≤◌, [], length, not};
+ghost use Rattle.std.specs.Prelude.{◌≡◌, ◌≤◌, length, OnOk, IfErr};
 ghost use Rattle.line_words.specs.Text.{lines};
 ghost use Rattle.line_words.specs.Limits.{most_file_bytes};
-ghost use Rattle.line_words.specs.Run.{run};
 ghost use Rattle.line_words.specs.Reads.{Reads, Agrees};
 ghost use Rattle.line_words.specs.declared.refusals.FileTag.TheVariants as files;
-ghost use Rattle.tgff_reader.specs.Faults.{is_open};
 ghost use Rattle.tgff_reader.specs.After.{start};
 ghost use Rattle.tgff_reader.specs.Tgff.{tgff_rules, stated, as_seen};
+ghost use Rattle.tgff_reader.specs.Taking.{HasRoom, TakesLine, StopsLine, TakesAll, IsRefused, reading_of};
 
 use crate::file::Tgff;
-use crate::graphs::Graphs;
-use crate::state::{Blocks, Open, State};
-use crate::tables::Tables;
+use crate::state::State;
 use crate::taking::take;
 use file_bricks::words_of;
-use line_words::{FileTag, Lines, ReadFault, Stop, Why};
+use line_words::{FileTag, Line, Lines, ReadFault, Stop, Why};
 use std::alloc::Global;
 
-/// What stands before the first line.
-fn start(alloc: Global) -> State
-    ensures { result ≡ start }
+/// Takes a line that is given, or refuses the file there.
+fn take_line(alloc: Global, state: &mut State, line: &Line) -> Result<(), ReadFault>
+    requires { HasRoom state.old.current state.old.blocks }
+    ensures takes { OnOk result (TakesLine state.old state.new line.now) }
+    ensures stops { IfErr result (StopsLine state.old line.now) }
 {
-    State {
-        current: Open::Outside,
-        blocks: Blocks {
-            graphs: Graphs::none(alloc),
-            tables: Tables::none(alloc),
-            tasks: 0,
-            arcs: 0,
-        },
+    let words = match words_of(alloc, line) {
+        Ok(words) => words,
+        Err(_) => return Err(ReadFault::NoMemory),
+    };
+    match take(alloc, state, &words) {
+        Ok(()) => Ok(()),
+        Err(stop) => Err(stop.at_line(FileTag::Tgff, line.number())),
     }
 }
 
-/// Whether no block is open.
-fn is_outside(state: &State) -> bool
-    ensures { result ≡ not (is_open state.now.current) }
+/// Takes all lines, or refuses the file at the first line at which a rule is broken.
+fn take_all(alloc: Global, lines: &mut Lines, state: &mut State) -> Result<(), ReadFault>
+    requires { state.old ≡ start }
+    ensures takes { OnOk result (TakesAll lines.old state.new) }
+    ensures refused { IfErr result (IsRefused (reading_of lines.old)) }
 {
-    match &state.current {
-        Open::Outside => true,
-        _ => false,
-    }
-}
-
-fn read_all(alloc: Global, mut lines: Lines) -> Result<Tgff, ReadFault>
-    ensures { Agrees files.Tgff as_seen stated (run tgff_rules lines.entry.number [] lines.entry.lines) result }
-{
-    let mut state = start(alloc);
     'lines: while let Some(next) = lines.next() {
         let line = match next {
             Ok(line) => line,
             Err(refusal) => return Err(ReadFault::Refused(refusal.of_file(FileTag::Tgff))),
         };
-        let words = words_of(alloc, &line)?;
-        match take(alloc, state, &words) {
-            Ok(next) => state = next,
-            Err(stop) => return Err(stop.at_line(FileTag::Tgff, line.number())),
+        match take_line(alloc, state, &line) {
+            Ok(()) => {}
+            Err(fault) => return Err(fault),
         }
     }
-    if !is_outside(&state) {
+    if state.is_open() {
         return Err(Stop::Broken(Why::Unclosed).at_line(FileTag::Tgff, lines.end_line()));
     }
-    Ok(Tgff {
-        graphs: state.blocks.graphs,
-        tables: state.blocks.tables,
-    })
+    Ok(())
+}
+
+fn read_all(alloc: Global, mut lines: Lines) -> Result<Tgff, ReadFault>
+    ensures { Agrees files.Tgff as_seen stated (reading_of lines.entry) result }
+{
+    let mut state = State::start(alloc);
+    match take_all(alloc, &mut lines, &mut state) {
+        Ok(()) => Ok(state.into_file()),
+        Err(fault) => Err(fault),
+    }
 }
 
 /// Reads a TGFF file of at most 16,777,216 bytes.

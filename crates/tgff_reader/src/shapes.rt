@@ -1,7 +1,7 @@
 //! What a line's words are in and outside a block.
 
 ghost use Rattle.std.specs.Prelude.{◌≡◌, true, IfOk, ◌<◌, ◌^◌};
-ghost use Rattle.file_bricks.specs.Words.{said};
+ghost use Rattle.line_words.specs.Rules.{said};
 ghost use Rattle.tgff_reader.specs.Lines.{is_opening, block_name, block_index, is_graph_name, is_closing, is_period_shape, is_task_shape, is_arc_shape, is_deadline_shape};
 
 use crate::words::{after_at, first, is_at, last};

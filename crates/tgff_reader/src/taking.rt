@@ -1,9 +1,13 @@
 //! Takes a line: what it states is added to what the lines before it state, unless it breaks a rule.
 
-ghost use Rattle.std.specs.Prelude.{◌≡◌, ◌≤◌, length, true, IfOk, Some};
-ghost use Rattle.file_bricks.specs.Words.{said};
+ghost use Rattle.std.specs.Prelude.{◌≡◌, ◌≤◌, ◌+◌, length, true, false, None, IfOk, OnOk, IfErr};
+ghost use Rattle.line_words.specs.Rules.{first_broken, said};
+ghost use Rattle.line_words.specs.Reads.{Stops};
+ghost use Rattle.tgff_reader.specs.Words.{first, is_at};
 ghost use Rattle.tgff_reader.specs.Lines.{is_opening, is_closing, block_name, block_index};
+ghost use Rattle.tgff_reader.specs.Faults as tests;
 ghost use Rattle.tgff_reader.specs.After as states;
+ghost use Rattle.tgff_reader.specs.Taking as takes;
 ghost use Rattle.tgff_reader.specs.declared.state.Open.TheVariants as blocks_in;
 
 use crate::faults::{
@@ -19,6 +23,7 @@ use crate::words::{first, is_at};
 use file_bricks::{decimal_in, text_of, texts_of, whole_in, word_at};
 use line_words::{Stop, Why};
 use std::alloc::{AllocError, Global};
+use std::mem::replace;
 
 /// A block that is opened, and has nothing yet.
 fn opened(alloc: Global, name: &str, index: u64) -> Result<Open, AllocError>
@@ -34,67 +39,65 @@ fn opened(alloc: Global, name: &str, index: u64) -> Result<Open, AllocError>
     }))
 }
 
-/// Takes a line that opens a block.
-fn take_opening(alloc: Global, blocks: Blocks, words: &[&str]) -> Result<State, Stop>
+/// The block that a line opens.
+fn opening(alloc: Global, blocks: &Blocks, words: &[&str]) -> Result<Open, Stop>
     requires { is_opening (said words.now) ≡ true }
-    ensures { states.Takes (record { current = blocks_in.Outside; blocks = blocks }) (said words.now) result }
+    ensures opens { IfOk result (takes.Opens blocks.now (said words.now)) }
+    ensures stops { IfErr result (λ stop. Stops stop (first_broken (tests.outside_tests blocks.now (said words.now)))) }
 {
     let name = block_name(words);
     let index = block_index(words);
-    if let Some(why) = opening_fault(&blocks, name, index) {
+    if let Some(why) = opening_fault(blocks, name, index) {
         return Err(Stop::Broken(why));
     }
     let index = match index {
         Ok(index) => index,
         Err(_) => 0,
     };
-    Ok(State {
-        current: opened(alloc, name, index)?,
-        blocks,
-    })
+    Ok(opened(alloc, name, index)?)
 }
 
-/// Takes a line outside a block.
-fn take_outside(alloc: Global, blocks: Blocks, words: &[&str]) -> Result<State, Stop>
-    ensures { states.Takes (record { current = blocks_in.Outside; blocks = blocks }) (said words.now) result }
+/// What is open after a line outside a block.
+fn outside(alloc: Global, blocks: &Blocks, words: &[&str]) -> Result<Open, Stop>
+    ensures opens { IfOk result (takes.Opens blocks.now (said words.now)) }
+    ensures stops { IfErr result (λ stop. Stops stop (first_broken (tests.outside_tests blocks.now (said words.now)))) }
 {
     if is_opening(words) {
-        return take_opening(alloc, blocks, words);
+        return opening(alloc, blocks, words);
     }
     if is_closing(words) {
         return Err(Stop::Broken(Why::StrayClose));
     }
-    Ok(State {
-        current: Open::Outside,
-        blocks,
-    })
+    Ok(Open::Outside)
 }
 
 /// Takes the words of a period.
-fn take_period(blocks: Blocks, mut graph: OpenGraph, words: &[&str]) -> Result<State, Stop>
-    ensures { states.TakesKnown blocks graph (said words.now) (Some Keyword.Period) result }
+fn take_period(graph: &mut OpenGraph, words: &[&str]) -> Result<(), Stop>
+    ensures fine { OnOk result (first_broken (tests.period_tests (said words.now)) ≡ None) }
+    ensures taken { OnOk result (graph.new ≡ states.with_period graph.old (said words.now)) }
+    ensures stops { IfErr result (λ stop. Stops stop (first_broken (tests.period_tests (said words.now)))) }
 {
     if let Some(why) = period_fault(words) {
         return Err(Stop::Broken(why));
     }
     graph.set_period(decimal_in(word_at(words, 1)));
-    Ok(State {
-        current: Open::InGraph(graph),
-        blocks,
-    })
+    Ok(())
 }
 
 /// Takes the words of a task.
 fn take_task(
     alloc: Global,
-    mut blocks: Blocks,
-    mut graph: OpenGraph,
+    blocks: &mut Blocks,
+    graph: &mut OpenGraph,
     words: &[&str],
-) -> Result<State, Stop>
-    requires { length graph.tasks ≤ blocks.tasks }
-    ensures { states.TakesKnown blocks graph (said words.now) (Some Keyword.Task) result }
+) -> Result<(), Stop>
+    requires { length graph.old.tasks ≤ blocks.old.tasks }
+    ensures fine { OnOk result (first_broken (tests.task_tests blocks.old graph.old (said words.now)) ≡ None) }
+    ensures taken { OnOk result (graph.new ≡ states.with_task graph.old (said words.now)) }
+    ensures counted { OnOk result (blocks.new ≡ record blocks.old { tasks = blocks.old.tasks + 1 }) }
+    ensures stops { IfErr result (λ stop. Stops stop (first_broken (tests.task_tests blocks.old graph.old (said words.now)))) }
 {
-    if let Some(why) = task_fault(&blocks, graph.graph(), words) {
+    if let Some(why) = task_fault(blocks, graph.graph(), words) {
         return Err(Stop::Broken(why));
     }
     let task = TgffTask {
@@ -103,20 +106,20 @@ fn take_task(
     };
     graph.add_task(alloc, task)?;
     blocks.tasks += 1;
-    Ok(State {
-        current: Open::InGraph(graph),
-        blocks,
-    })
+    Ok(())
 }
 
 /// Takes the words of an arc.
 fn take_arc(
     alloc: Global,
-    mut blocks: Blocks,
-    mut graph: OpenGraph,
+    blocks: &mut Blocks,
+    graph: &mut OpenGraph,
     words: &[&str],
-) -> Result<State, Stop>
-    ensures { states.TakesKnown blocks graph (said words.now) (Some Keyword.Arc) result }
+) -> Result<(), Stop>
+    ensures fine { OnOk result (first_broken (tests.arc_tests blocks.old graph.old (said words.now)) ≡ None) }
+    ensures taken { OnOk result (graph.new ≡ states.with_arc graph.old (said words.now)) }
+    ensures counted { OnOk result (blocks.new ≡ record blocks.old { arcs = blocks.old.arcs + 1 }) }
+    ensures stops { IfErr result (λ stop. Stops stop (first_broken (tests.arc_tests blocks.old graph.old (said words.now)))) }
 {
     if let Some(why) = arc_words_fault(graph.graph(), words) {
         return Err(Stop::Broken(why));
@@ -124,7 +127,7 @@ fn take_arc(
     let from = place_of(graph.graph().tasks.list(), word_at(words, 3));
     let to = place_of(graph.graph().tasks.list(), word_at(words, 5));
     let reached = graph.reached(alloc, to)?;
-    if let Some(why) = arc_fault(&blocks, reached.has(from), words) {
+    if let Some(why) = arc_fault(blocks, reached.has(from), words) {
         return Err(Stop::Broken(why));
     }
     let arc = TgffArc {
@@ -135,20 +138,14 @@ fn take_arc(
     };
     graph.add_arc(arc, &reached)?;
     blocks.arcs += 1;
-    Ok(State {
-        current: Open::InGraph(graph),
-        blocks,
-    })
+    Ok(())
 }
 
 /// Takes the words of a deadline.
-fn take_deadline(
-    blocks: Blocks,
-    mut graph: OpenGraph,
-    hard: bool,
-    words: &[&str],
-) -> Result<State, Stop>
-    ensures { states.TakesDeadline blocks graph hard (said words.now) result }
+fn take_deadline(graph: &mut OpenGraph, hard: bool, words: &[&str]) -> Result<(), Stop>
+    ensures fine { OnOk result (first_broken (tests.deadline_tests graph.old (said words.now)) ≡ None) }
+    ensures taken { OnOk result (graph.new ≡ states.with_deadline graph.old hard (said words.now)) }
+    ensures stops { IfErr result (λ stop. Stops stop (first_broken (tests.deadline_tests graph.old (said words.now)))) }
 {
     if let Some(why) = deadline_fault(graph.graph(), words) {
         return Err(Stop::Broken(why));
@@ -159,97 +156,88 @@ fn take_deadline(
         hard,
     };
     graph.add_deadline(deadline)?;
-    Ok(State {
-        current: Open::InGraph(graph),
-        blocks,
-    })
+    Ok(())
 }
 
 /// Takes a line of a task graph by its keyword. A line without one is passed over.
 fn take_known(
     alloc: Global,
-    blocks: Blocks,
-    graph: OpenGraph,
+    blocks: &mut Blocks,
+    graph: &mut OpenGraph,
     words: &[&str],
     keyword: Option<Keyword>,
-) -> Result<State, Stop>
-    requires { length graph.tasks ≤ blocks.tasks }
-    ensures { states.TakesKnown blocks graph (said words.now) keyword result }
+) -> Result<(), Stop>
+    requires { length graph.old.tasks ≤ blocks.old.tasks }
+    ensures takes { OnOk result (takes.TakesKnown blocks.old blocks.new graph.old graph.new (said words.now) keyword) }
+    ensures stops { IfErr result (λ stop. Stops stop (first_broken (tests.known_tests blocks.old graph.old (said words.now) keyword))) }
 {
     match keyword {
-        None => Ok(State {
-            current: Open::InGraph(graph),
-            blocks,
-        }),
-        Some(Keyword::Period) => take_period(blocks, graph, words),
+        None => Ok(()),
+        Some(Keyword::Period) => take_period(graph, words),
         Some(Keyword::Task) => take_task(alloc, blocks, graph, words),
         Some(Keyword::Arc) => take_arc(alloc, blocks, graph, words),
-        Some(Keyword::HardDeadline) => take_deadline(blocks, graph, true, words),
-        Some(Keyword::SoftDeadline) => take_deadline(blocks, graph, false, words),
+        Some(Keyword::HardDeadline) => take_deadline(graph, true, words),
+        Some(Keyword::SoftDeadline) => take_deadline(graph, false, words),
     }
 }
 
-/// Takes a line in a task graph.
-fn take_in_graph(
-    alloc: Global,
-    mut blocks: Blocks,
-    graph: OpenGraph,
-    words: &[&str],
-) -> Result<State, Stop>
-    requires { length graph.tasks ≤ blocks.tasks }
-    ensures { states.Takes (record { current = blocks_in.InGraph graph; blocks = blocks }) (said words.now) result }
+/// Takes a row of a table.
+fn take_row(alloc: Global, table: &mut Table, words: &[&str]) -> Result<(), AllocError>
+    ensures { OnOk result (table.new ≡ states.with_row table.old (said words.now)) }
 {
-    if is_closing(words) {
-        blocks.graphs.push(graph.close())?;
-        return Ok(State {
-            current: Open::Outside,
-            blocks,
-        });
-    }
-    if is_at(first(words)) {
-        return Err(Stop::Broken(Why::Unclosed));
-    }
-    take_known(alloc, blocks, graph, words, keyword_of(first(words)))
-}
-
-/// Takes a line in a table.
-fn take_in_table(
-    alloc: Global,
-    mut blocks: Blocks,
-    mut table: Table,
-    words: &[&str],
-) -> Result<State, Stop>
-    ensures { states.Takes (record { current = blocks_in.InTable table; blocks = blocks }) (said words.now) result }
-{
-    if is_closing(words) {
-        let table = table.close(alloc)?;
-        blocks.tables.push(alloc, table)?;
-        return Ok(State {
-            current: Open::Outside,
-            blocks,
-        });
-    }
-    if is_at(first(words)) {
-        return Err(Stop::Broken(Why::Unclosed));
-    }
-    table.rows.push(Row {
+    let row = Row {
         words: texts_of(alloc, words)?,
-    })?;
-    Ok(State {
-        current: Open::InTable(table),
-        blocks,
-    })
+    };
+    table.rows.push(row)
 }
 
-/// Takes a line.
-pub(crate) fn take(alloc: Global, state: State, words: &[&str]) -> Result<State, Stop>
-    requires { states.HasRoom state.current state.blocks }
-    ensures { states.Takes state (said words.now) result }
+/// Takes a line in a block that neither closes it nor opens another.
+fn take_inside(alloc: Global, state: &mut State, words: &[&str]) -> Result<(), Stop>
+    requires room { takes.HasRoom state.old.current state.old.blocks }
+    requires open { tests.is_open state.old.current ≡ true }
+    requires no_close { is_closing (said words.now) ≡ false }
+    requires no_block { is_at (first (said words.now)) ≡ false }
+    ensures takes { OnOk result (takes.Takes state.old state.new (said words.now)) }
+    ensures stops { IfErr result (λ stop. Stops stop (first_broken (tests.tests state.old (said words.now)))) }
 {
     let State { current, blocks } = state;
     match current {
-        Open::Outside => take_outside(alloc, blocks, words),
-        Open::InGraph(graph) => take_in_graph(alloc, blocks, graph, words),
-        Open::InTable(table) => take_in_table(alloc, blocks, table, words),
+        Open::Outside => Ok(()),
+        Open::InGraph(graph) => take_known(alloc, blocks, graph, words, keyword_of(first(words))),
+        Open::InTable(table) => Ok(take_row(alloc, table, words)?),
     }
+}
+
+/// Closes the block that is open.
+fn close(alloc: Global, state: &mut State) -> Result<(), AllocError>
+    ensures { OnOk result (state.new ≡ record { current = blocks_in.Outside; blocks = takes.closed_with state.old.current state.old.blocks }) }
+{
+    match replace(&mut state.current, Open::Outside) {
+        Open::Outside => Ok(()),
+        Open::InGraph(graph) => state.blocks.graphs.push(graph.close()),
+        Open::InTable(table) => {
+            let table = table.close(alloc)?;
+            state.blocks.tables.push(alloc, table)
+        }
+    }
+}
+
+/// Takes a line.
+pub(crate) fn take(alloc: Global, state: &mut State, words: &[&str]) -> Result<(), Stop>
+    requires { takes.HasRoom state.old.current state.old.blocks }
+    ensures takes { OnOk result (takes.Takes state.old state.new (said words.now)) }
+    ensures stops { IfErr result (λ stop. Stops stop (first_broken (tests.tests state.old (said words.now)))) }
+{
+    if !state.is_open() {
+        state.current = outside(alloc, &state.blocks, words)?;
+        return Ok(());
+    }
+    if is_closing(words) {
+        close(alloc, state)?;
+        return Ok(());
+    }
+    if is_at(first(words)) {
+        return Err(Stop::Broken(Why::Unclosed));
+    }
+    take_inside(alloc, state, words)
 }

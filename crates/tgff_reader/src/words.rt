@@ -1,7 +1,7 @@
 //! The words of a line, by their places.
 
 ghost use Rattle.std.specs.Prelude.{◌≡◌, drop, true};
-ghost use Rattle.file_bricks.specs.Words.{said};
+ghost use Rattle.line_words.specs.Rules.{said};
 ghost use Rattle.tgff_reader.specs.Words.{first, last, is_at};
 
 use file_bricks::word_at;

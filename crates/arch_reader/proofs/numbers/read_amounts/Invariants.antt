@@ -1,5 +1,5 @@
 use Rattle.std.proofs.Common.{◌≡◌, take, map}
-use Rattle.file_bricks.specs.Words.{said}
+use Rattle.line_words.specs.Rules.{said}
 use Rattle.arch_reader.specs.Numbers.{all_misread, amount_misread, key_amount}
 use Rattle.arch_reader.proofs.numbers.read_amounts.Given as goal
 

@@ -1,12 +1,11 @@
 use Rattle.std.proofs.Common.{◌≡◌, [], List, ℕ, Bor, true, false, Err, refl, sym, ap, ◌∙◌}
 use Rattle.line_words.specs.Refused.{fault_at}
-use Rattle.line_words.specs.Rules.{Words}
+use Rattle.line_words.specs.Rules.{Words, said}
 use Rattle.line_words.specs.Run.{Reading}
 use Rattle.line_words.specs.declared.refusals.FileTag.TheVariants.{Arch}
 use Rattle.line_words.specs.declared.refusals.Why.TheVariants.{NoHeader}
 use Rattle.line_words.specs.declared.refusals.Stop.TheVariants as stops_by
 use Rattle.line_words.proofs.Answering.{refused_as}
-use Rattle.file_bricks.specs.Words.{said}
 use Rattle.arch_reader.specs.Arch.{is_header, stated, lines_in, ArchValue}
 use Rattle.arch_reader.specs.Taking.{reading_of}
 use Rattle.arch_reader.proofs.Going.{count-gives, begins, no_header, no_statement, alone, at_fault}

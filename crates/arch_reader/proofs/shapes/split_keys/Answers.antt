@@ -1,6 +1,6 @@
 use Rattle.std.proofs.Common.{ℕ, List, take, drop, sym, ap, ◌∙◌, Bor}
 use Rattle.std.proofs.lemmas.List.{take-map, drop-map}
-use Rattle.file_bricks.specs.Words.{said}
+use Rattle.line_words.specs.Rules.{said}
 use Rattle.arch_reader.proofs.shapes.split_keys.Goals as goal
 
 pub returns-clause-keys : goal.returns-clause-keys

@@ -1,5 +1,5 @@
 use Rattle.std.proofs.Common.{◌≡◌, take}
-use Rattle.file_bricks.specs.Words.{said}
+use Rattle.line_words.specs.Rules.{said}
 use Rattle.file_bricks.proofs.texts.texts_of.Given as goal
 
 -- the words so far

@@ -1,7 +1,6 @@
 use Rattle.std.proofs.Common.{◌≡◌, ◌++◌, length}
 use Rattle.line_words.specs.Text.{words_in}
-use Rattle.line_words.specs.Rules.{texts}
-use Rattle.file_bricks.specs.Words.{said}
+use Rattle.line_words.specs.Rules.{texts, said}
 use Rattle.file_bricks.proofs.words.words_of.Given as goal
 
 -- the words so far, and those that are left

@@ -1,5 +1,5 @@
 use Rattle.std.proofs.Common.{◌≡◌, ◌<◌, arith, sym, ◌∙◌}
-use Rattle.line_words.proofs.Collected.{said}
+use Rattle.line_words.specs.Rules.{said}
 use Rattle.spec_model.specs.Spec.{design_variables}
 use Rattle.spec_model.proofs.Numbers.{design_variables-le}
 use Rattle.result_text.specs.Stating.{item_variable}

@@ -1,5 +1,5 @@
 use Rattle.std.proofs.Common.{◌≡◌, take, map}
-use Rattle.line_words.proofs.Collected.{said}
+use Rattle.line_words.specs.Rules.{said}
 use Rattle.result_text.specs.Stating.{number_in}
 use Rattle.result_text.proofs.vectors.numbers_in.Given as goal
 
