@@ -1,12 +1,12 @@
 -- What the written operations give: a constraint in conflict becomes a clause, and two clauses their resolvent.
-use Rattle.std.proofs.Common.{◌≡◌, ℕ, ◌+◌, ◌-◌, ◌<◌, ◌≤◌, ◌^◌, Bool, true, false, cond, eqb, Option, List, [], ◌∷◌, ◌++◌, length, get_or, refl, sym, ap, ◌∙◌, subst, arith, suc}
+use Rattle.std.proofs.Common.{◌≡◌, ℕ, ◌+◌, ◌-◌, ◌<◌, ◌≤◌, ◌^◌, Bool, true, false, cond, eqb, ltb, map, Option, List, [], ◌∷◌, ◌++◌, length, get_or, refl, sym, ap, ◌∙◌, subst, arith, suc}
 use Rattle.std.specs.Prelude.{Result, Ok}
 use Rattle.std.proofs.lemmas.Bool.Decides.{nat_tests}
 use Rattle.std.proofs.lemmas.List.{append_assoc}
 use Rattle.pb_rules.specs.declared.Term.{Term}
 use Rattle.pb_rules.specs.Linear.{Linear}
 use Rattle.pb_rules.specs.Partial.{is_false, open_weight}
-use Rattle.pb_rules.specs.CuttingPlanes.{add, coef_of, up}
+use Rattle.pb_rules.specs.CuttingPlanes.{add, coef_of, up, divided, cut}
 use Rattle.pb_rules.specs.declared.Op.{Op}
 use Rattle.pb_rules.specs.declared.Op.TheVariants.{Add, Divide, Saturate, Weaken}
 use Rattle.pb_rules.specs.Operations.{Context, Fault, KnowsLive, mentions, small_number, apply_all}
@@ -15,9 +15,9 @@ use Rattle.pb_rules.proofs.Assignments.{open-cons}
 use Rattle.pb_rules.proofs.Normal.{excess-none}
 use Rattle.pb_rules.proofs.Rising.{From}
 use Rattle.pb_rules.proofs.Carried.{apply_all-append}
-use Rattle.conflict_graph.specs.Clauses.{clause_of, clause_row, false_terms, false_signs, weakenings, clause_ops}
+use Rattle.conflict_graph.specs.Clauses.{clause_of, clause_row, false_terms, false_signs, weakenings, greatest, finishing, clause_ops}
 use Rattle.conflict_graph.proofs.Rows.{clashes, resolved, resolvent}
-use Rattle.conflict_graph.proofs.Making.{Terms, Below, Below-push, weaken-at, making, up-one}
+use Rattle.conflict_graph.proofs.Making.{Terms, Below, Below-push, weaken-at, making, up-one, Positive, positive-of, false-positive, cut-whole, divided-one}
 
 -- a variable that an operation may name
 abbrev CanName : Context → ℕ → Type 0
@@ -70,6 +70,37 @@ weakened context a done (t ∷ ts) k d st b f n =
         let num : d + w - coef_of t.lit.var (done ++ t ∷ ts) ≡ d + open_weight a ts = rw x.1 (omega arith) in
         rw (known.0, known.1) (ap (λ us. apply_all context (weakenings a ts) (R us (d + w - coef_of t.lit.var (done ++ t ∷ ts)))) x.0 ∙ ap (λ m. apply_all context (weakenings a ts) (R (done ++ ts) m)) num ∙ gone)
 
+-- what is left of a constraint, finished
+finished : (context : Context) (d : ℕ) (ts us : List Term) (st : List Linear) → 0 < d → d < 2 ^ 63 → Positive ts → map (divided d) (cut d ts) ≡ us → apply_all context (finishing d (greatest ts)) (record { terms = ts; degree = d } ∷ st) ≡ Ok (record { terms = us; degree = 1 } ∷ st)
+finished context d ts us st pos small all made = go (ltb d (greatest ts)) refl (ltb 1 d) refl
+  where
+    last : List Term → ℕ → Result (List Linear) Fault
+    last xs m = Ok (record { terms = xs; degree = m } ∷ st)
+
+    whole : ltb d (greatest ts) ≡ false → cut d ts ≡ ts
+    whole t = cut-whole d ts pos (grind (arith, nat_tests)) all
+
+    one : ltb 1 d ≡ false → d ≡ 1
+    one t = (let le : d ≤ 1 = grind (arith, nat_tests) in omega arith)
+
+    up-is : up d d ≡ 1
+    up-is = up-one d d (omega arith) (omega arith)
+
+    d-pos : eqb d 0 ≡ false
+    d-pos = grind (arith, nat_tests)
+
+    d-small : small_number d ≡ true
+    d-small = small_is d small
+
+    by-one : (xs : List Term) → d ≡ 1 → map (divided d) xs ≡ xs
+    by-one xs e = ap (λ (m : ℕ). map (divided m) xs) e ∙ divided-one xs
+
+    go : (a : Bool) → ltb d (greatest ts) ≡ a → (b : Bool) → ltb 1 d ≡ b → apply_all context (cond a (Saturate ∷ []) [] ++ cond b (Divide d ∷ []) []) (record { terms = ts; degree = d } ∷ st) ≡ Ok (record { terms = us; degree = 1 } ∷ st)
+    go true p true q = rw (d-pos, d-small) (ap (λ xs. last xs (up d d)) made ∙ ap (last us) up-is)
+    go true p false q = ap (λ xs. last xs d) (sym (by-one (cut d ts) (one q)) ∙ made) ∙ ap (last us) (one q)
+    go false p true q = rw (d-pos, d-small) (ap (λ xs. last xs (up d d)) (ap (map (divided d)) (sym (whole p)) ∙ made) ∙ ap (last us) up-is)
+    go false p false q = ap (λ xs. last xs d) (sym (whole p) ∙ sym (by-one (cut d ts) (one q)) ∙ made) ∙ ap (last us) (one q)
+
 -- from a constraint in conflict to the clause of its false literals
 pub making_gives : (context : Context) (n id : ℕ) (a : ℕ → Option Bool) (c : Linear) (st : List Linear) → KnowsLive context → StandsUnder context id c → n ≤ 2 ^ 63 → Terms 0 n c.terms → c.degree < 2 ^ 63 → open_weight a c.terms < c.degree →
     apply_all context (clause_ops id a c) st ≡ Ok (clause_of n (false_signs a c.terms) ∷ st)
@@ -81,16 +112,13 @@ making_gives context n id a c st live stands few terms small conflict =
     let split : c.degree ≡ d + open_weight a c.terms = omega arith in
     let P : ℕ → Type 0 = λ m. apply_all context (weakenings a c.terms) (record { terms = c.terms; degree = m } ∷ st) ≡ Ok (record { terms = false_terms a c.terms; degree = d } ∷ st) in
     let w' : apply_all context (weakenings a c.terms) (c ∷ st) ≡ Ok (record { terms = false_terms a c.terms; degree = d } ∷ st) = subst P (sym split) w in
-    let last : List Op = Saturate ∷ Divide d ∷ [] in
-    let d-pos : eqb d 0 ≡ false = grind (arith, nat_tests) in
-    let d-small : small_number d ≡ true = small_is d (omega arith) in
+    let left : List Term = false_terms a c.terms in
+    let last : List Op = finishing d (greatest left) in
     let N : ℕ → Type 0 = λ m. Terms 0 m c.terms in
     let n-is : n ≡ 0 + n = omega arith in
     let m = making n 0 d a c.terms (omega arith) (subst N n-is terms) in
-    let u : up d d ≡ 1 = up-one d d (omega arith) (omega arith) in
-    let Q : List Term → ℕ → Result (List Linear) Fault = λ ts k. Ok (record { terms = ts; degree = k } ∷ st) in
-    let ends : apply_all context last (record { terms = false_terms a c.terms; degree = d } ∷ st) ≡ Ok (clause_of n (false_signs a c.terms) ∷ st) = rw (d-pos, d-small) (ap (λ ts. Q ts (up d d)) m ∙ ap (Q (clause_row n 0 (false_signs a c.terms))) u) in
-    let app = apply_all-append context (weakenings a c.terms) last (c ∷ st) (record { terms = false_terms a c.terms; degree = d } ∷ st) w' in
+    let ends = finished context d left (clause_row n 0 (false_signs a c.terms)) st (omega arith) (omega arith) (false-positive a c.terms (positive-of c.terms terms.positive)) m in
+    let app = apply_all-append context (weakenings a c.terms) last (c ∷ st) (record { terms = left; degree = d } ∷ st) w' in
     rw (id-test, here) (app ∙ ends)
 
 -- two clauses on the stack that clash in one variable

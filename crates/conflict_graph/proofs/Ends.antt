@@ -1,12 +1,10 @@
-use Rattle.std.proofs.Common.{◌≡◌, ◌≢◌, ℕ, ◌+◌, ◌<◌, ◌≤◌, ◌^◌, Bool, true, false, not, cond, eqb, Option, Some, None, List, [], ◌∷◌, length, get_or, set, take, refl, sym, ap, ◌∙◌, subst, arith, inl, inr, ◌⊎◌, zero, suc, map, is_some, is_none, replicate, get_or-set_same, get_or-set_other, length-set}
+use Rattle.std.proofs.Common.{◌≡◌, ◌≢◌, ℕ, ◌+◌, ◌<◌, ◌≤◌, ◌^◌, Bool, true, false, not, cond, eqb, Option, Some, None, List, [], ◌∷◌, length, get_or, take, refl, sym, ap, ◌∙◌, subst, arith, inl, inr, ◌⊎◌, zero, suc}
 use Rattle.std.specs.Prelude.{All}
-use Rattle.std.proofs.lemmas.Bool.{cases_eq, cases_lt}
-use Rattle.std.proofs.lemmas.List.{get_or_past, length-replicate, get_or-take, get_or_default}
+use Rattle.std.proofs.lemmas.Bool.{cases_eq}
+use Rattle.std.proofs.lemmas.List.{get_or-take, get_or_default}
 use Rattle.std.proofs.lemmas.List.Elements.{All-more, All-head, All-tail}
 use Rattle.std.proofs.Common.{length-take}
 use Rattle.std.proofs.lemmas.List.Sums.{sum_by-cons}
-use Rattle.std.proofs.Math.Path.{fun_ext}
-use Rattle.pb_constraints.specs.declared.ConId.{ConId}
 use Rattle.pb_rules.specs.declared.Term.{Term}
 use Rattle.pb_rules.specs.Literal.{Literal}
 use Rattle.pb_rules.specs.Linear.{Linear, total, IsNormal}
@@ -14,16 +12,14 @@ use Rattle.pb_rules.specs.Partial.{falsifies, is_false, IsClosed, IsClosedFor}
 use Rattle.conflict_graph.specs.Clauses.{with_literal, clause_row, clause_of}
 use Rattle.pb_rules.proofs.Rising.{from-pairs}
 use Rattle.conflict_graph.proofs.Rows.{from_row}
-use Rattle.trail_state.specs.Trail.{Entry, is_decision, value_in, reason_in, level_of, level_in, IsDistinct}
-use Rattle.trail_state.proofs.Entries.{value_in-none, place-of}
-use Rattle.conflict_graph.specs.Learning.{signs, ClosedUnder, HasLevels, Learnt}
+use Rattle.trail_state.specs.Trail.{Entry, value_in, level_of, level_in}
+use Rattle.trail_state.proofs.Entries.{place-of}
+use Rattle.conflict_graph.specs.Learning.{ClosedUnder, Learnt}
 use Rattle.conflict_graph.specs.Learned.{constraints_in, IsLearned, IsLevelBelow}
 use Rattle.conflict_graph.proofs.Counts.{currents-row}
 use Rattle.conflict_graph.proofs.Signs.{falsifies-true, falsifies-not}
 use Rattle.constraint_store.specs.Live.{Live, is_live, live_at, constraint_of}
 use Rattle.pb_rules.specs.declared.Op.{Op}
-use Rattle.trail_state.proofs.Levels.{first-at, level-more}
-use Rattle.conflict_graph.proofs.Resolving.{lit-at}
 
 row-ones : (n k : ℕ) (f : ℕ → Option Bool) (i : ℕ) (d : Term) → i < length (clause_row n k f) → (get_or (clause_row n k f) i d).coef ≡ 1
 row-ones zero k f i d h = absurd (omega arith)

@@ -2,13 +2,13 @@
 use Rattle.std.proofs.Common.{◌≡◌, ℕ, ◌+◌, ◌/◌, ◌%◌, ◌<◌, ◌≤◌, Bool, true, false, cond, eqb, ltb, Option, Some, None, List, [], ◌∷◌, ◌++◌, refl, sym, ap, ◌∙◌, subst, arith, inl, inr, zero, suc, map, get_or, length, min}
 use Rattle.std.proofs.lemmas.Bool.{cases_eq}
 use Rattle.std.proofs.lemmas.Bool.Decides.{nat_tests}
-use Rattle.std.proofs.Math.Nat.{div-eq_of_lt-le, div-eq_of_lt, mod_self, mod-eq_of_lt}
+use Rattle.std.proofs.Math.Nat.{div-one, mod-one, div-eq_of_lt-le, div-eq_of_lt, mod_self, mod-eq_of_lt}
 use Rattle.pb_rules.specs.declared.Term.{Term}
 use Rattle.pb_rules.specs.Linear.{IsNormal}
 use Rattle.pb_rules.specs.Partial.{is_false}
 use Rattle.pb_rules.specs.CuttingPlanes.{up, divided, cut, coef_of, without_var}
 use Rattle.pb_rules.proofs.Rising.{From, From-weaker, rising-from}
-use Rattle.conflict_graph.specs.Clauses.{with_literal, clause_row, false_terms, false_signs}
+use Rattle.conflict_graph.specs.Clauses.{with_literal, clause_row, false_terms, false_signs, greatest}
 use Rattle.conflict_graph.proofs.Rows.{row-agree}
 
 -- what a constraint's terms are from a variable on, up to a bound
@@ -35,6 +35,41 @@ up-one d m l h = elim (cases_eq m d) [
       let b : m % d ≡ m = mod-eq_of_lt (omega arith) in
       omega arith)
 ]
+
+-- each coefficient is above 0
+abbrev pub Positive : List Term → Type 0
+Positive [] = Unit {0}
+Positive (t ∷ ts) = (0 < t.coef) × Positive ts
+
+pub positive-of : (ts : List Term) → ((i : ℕ) (d : Term) → i < length ts → 0 < (get_or ts i d).coef) → Positive ts
+positive-of [] h = tt
+positive-of (t ∷ ts) h = (h 0 t (omega arith), positive-of ts (λ i d l. h (suc i) d (omega arith)))
+
+pub false-positive : (a : ℕ → Option Bool) (ts : List Term) → Positive ts → Positive (false_terms a ts)
+false-positive a [] h = tt
+false-positive a (t ∷ ts) h = go (is_false a t.lit) (false-positive a ts h.1)
+  where
+    go : (b : Bool) → Positive (false_terms a ts) → Positive (cond b (t ∷ false_terms a ts) (false_terms a ts))
+    go true ih = (h.0, ih)
+    go false ih = ih
+
+-- nothing is cut where no coefficient is above the degree
+pub cut-whole : (d : ℕ) (ts : List Term) → 0 < d → greatest ts ≤ d → Positive ts → cut d ts ≡ ts
+cut-whole d [] p l h = refl
+cut-whole d (t ∷ ts) p l h =
+    let pos = h.0 in
+    let least : min t.coef d ≡ t.coef = omega arith in
+    let test : ltb 0 (min t.coef d) ≡ true = grind (arith, nat_tests) in
+    rw test (ap (λ (c : ℕ). let r : Term = record { coef = c; lit = t.lit } in r ∷ cut d ts) least ∙ ap (λ (us : List Term). t ∷ us) (cut-whole d ts p (omega arith) h.1))
+
+-- and a division by 1 changes nothing
+pub divided-one : (ts : List Term) → map (divided 1) ts ≡ ts
+divided-one [] = refl
+divided-one (t ∷ ts) =
+    let q = div-one t.coef in
+    let r = mod-one t.coef in
+    let u : up 1 t.coef ≡ t.coef = omega arith in
+    ap (λ (c : ℕ). let r : Term = record { coef = c; lit = t.lit } in r ∷ map (divided 1) ts) u ∙ ap (λ (us : List Term). t ∷ us) (divided-one ts)
 
 signs-none : (a : ℕ → Option Bool) (k : ℕ) (ts : List Term) (x : ℕ) → From k ts → x < k → false_signs a ts x ≡ None
 signs-none a k [] x h l = refl

@@ -1,9 +1,7 @@
-use Rattle.std.proofs.Common.{◌≡◌, ◌≢◌, ℕ, ◌+◌, ◌<◌, ◌^◌, Bool, true, false, not, cond, eqb, Option, Some, None, List, [], ◌∷◌, ◌++◌, length, get_or, take, refl, sym, ap, ◌∙◌, subst, arith, inl, inr, ◌⊎◌, zero, suc, map, is_some, is_none}
+use Rattle.std.proofs.Common.{◌≡◌, ◌≢◌, ℕ, ◌+◌, ◌<◌, ◌^◌, Bool, true, false, not, cond, eqb, Option, Some, None, List, [], ◌∷◌, ◌++◌, length, get_or, take, refl, sym, ap, ◌∙◌, subst, arith, zero, suc, map, is_some, is_none}
 use Rattle.std.specs.Prelude.{All, Result, Ok, Err, OnOk}
-use Rattle.std.proofs.Common.{set}
 use Rattle.std.proofs.Math.Path.{fun_ext}
-use Rattle.conflict_graph.proofs.Writing.{signs-set}
-use Rattle.std.proofs.lemmas.Bool.{cases_eq}
+use Rattle.std.proofs.lemmas.List.{take_all, length-map}
 use Rattle.std.proofs.lemmas.Bool.Decides.{nat_tests}
 use Rattle.pb_constraints.specs.declared.ConId.{ConId}
 use Rattle.pb_rules.specs.declared.Term.{Term}
@@ -16,10 +14,10 @@ use Rattle.pb_rules.specs.declared.Op.TheVariants.{Add, Saturate}
 use Rattle.constraint_store.specs.Live.{Live, constraint_of, proof_id_of}
 use Rattle.trail_state.specs.Trail.{Entry, is_decision, value_in, reason_in, level_of, IsDistinct}
 use Rattle.conflict_graph.specs.Conditions.{IsUsable, AllForced}
-use Rattle.conflict_graph.specs.Learning.{signs, currents, either, Learning}
+use Rattle.conflict_graph.specs.Learning.{currents, either, Learning}
 use Rattle.pb_rules.specs.Partial.{flipped, GoesOn}
 use Rattle.trail_state.proofs.Levels.{first-at, before-level}
-use Rattle.trail_state.proofs.Entries.{value-more_same, value-more_other}
+use Rattle.trail_state.proofs.Entries.{value-more_same}
 use Rattle.conflict_graph.proofs.Signs.{signs-false}
 use Rattle.conflict_graph.proofs.Steps.{not-not, IsResolvent, learning-resolve, learning-skip, decision-alone}
 
@@ -107,25 +105,11 @@ learning-same live es n p k h ops ops' e q l =
     let R : List Op → Type 0 = λ os. P k os in
     subst R (sym q) (subst Q (sym e) l)
 
--- the values one place back
-pub values-back : (es : List Entry) (n p : ℕ) (l : Literal) (items : List (Option Bool)) → p < length es → IsDistinct es → l ≡ get_or (map (λ (e : Entry). e.lit) es) p l → l.var < length items → signs items ≡ value_in (take (p + 1) es) → signs (set items l.var None) ≡ value_in (take p es)
-values-back es n p l items h distinct e lt v =
-    let d : Entry = record { lit = l; reason = None } in
-    let q : l ≡ (get_or es p d).lit = lit-at es p l d h e in
-    fun_ext (λ y. signs-set items l.var None lt y ∙ turn y (cases_eq l.var y))
-  where
-    turn : (y : ℕ) → (l.var ≡ y) ⊎ (l.var ≢ y) → cond (eqb l.var y) None (signs items y) ≡ value_in (take p es) y
-    turn y (inl z) =
-        let d : Entry = record { lit = l; reason = None } in
-        let q : l ≡ (get_or es p d).lit = lit-at es p l d h e in
-        let t : eqb l.var y ≡ true = grind (arith, nat_tests) in
-        let f : value_in (take p es) y ≡ None = ap (value_in (take p es)) (sym z ∙ ap (λ (m : Literal). m.var) q) ∙ distinct p d h in
-        rw t (sym f)
-    turn y (inr z) =
-        let d : Entry = record { lit = l; reason = None } in
-        let q : l ≡ (get_or es p d).lit = lit-at es p l d h e in
-        let t : eqb l.var y ≡ false = grind (arith, nat_tests) in
-        rw t (ap (λ (a : ℕ → Option Bool). a y) v ∙ value-more_other es p d y h (λ w. z (ap (λ (m : Literal). m.var) q ∙ w)))
+-- the entries before the place behind the last literal are all
+pub whole-trail : (es : List Entry) (ls : List Literal) → ls ≡ map (λ (e : Entry). e.lit) es → take (length ls) es ≡ es
+whole-trail es ls e =
+    let len : length ls ≡ length es = ap length e ∙ length-map es (λ (e : Entry). e.lit) in
+    take_all (length ls) es (omega arith)
 
 pub skip-place : (live : List Live) (es : List Entry) (n p : ℕ) (l : Literal) (f : ℕ → Option Bool) (count : ℕ) (ops : List Op) → p < length es → l ≡ get_or (map (λ (e : Entry). e.lit) es) p l → f l.var ≡ None → Learning live es n (p + 1) f count ops → Learning live es n p f count ops
 skip-place live es n p l f count ops h e none learning =

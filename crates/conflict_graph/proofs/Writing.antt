@@ -1,19 +1,16 @@
-use Rattle.std.proofs.Common.{◌≡◌, ◌≢◌, ℕ, ◌+◌, ◌-◌, ◌<◌, ◌≤◌, Bool, true, false, not, cond, eqb, Option, Some, None, List, [], ◌∷◌, ◌++◌, length, get_or, set, take, refl, sym, ap, ◌∙◌, subst, arith, inl, inr, ◌⊎◌, suc, get_or-set_same, get_or-set_other, is_some, length-take}
+use Rattle.std.proofs.Common.{◌≡◌, ◌≢◌, ℕ, ◌+◌, ◌-◌, ◌<◌, ◌≤◌, Bool, true, false, cond, eqb, Option, Some, None, List, [], ◌∷◌, ◌++◌, length, get_or, set, take, refl, sym, ap, ◌∙◌, subst, arith, inl, inr, suc, get_or-set_same, get_or-set_other, is_some, length-take, max}
 use Rattle.std.proofs.lemmas.Bool.{cases_eq}
 use Rattle.std.proofs.lemmas.Bool.Decides.{nat_tests}
-use Rattle.std.proofs.lemmas.List.{append_assoc, take_more, take_all, get_or-take, get_or_default}
+use Rattle.std.proofs.lemmas.List.{append_assoc, append-nil, take_more, take_all, get_or-take, get_or_default}
 use Rattle.std.proofs.lemmas.List.Sums.{sum_by_push}
 use Rattle.pb_rules.specs.declared.Term.{Term}
-use Rattle.pb_rules.specs.Literal.{Literal}
 use Rattle.pb_rules.specs.Linear.{Linear}
 use Rattle.pb_rules.specs.Partial.{is_false, open_weight}
 use Rattle.pb_rules.specs.declared.Op.{Op}
-use Rattle.pb_rules.specs.declared.Op.TheVariants.{Id, Divide, Saturate, Weaken}
-use Rattle.conflict_graph.specs.Clauses.{weakenings, clause_ops, false_signs}
+use Rattle.pb_rules.specs.declared.Op.TheVariants.{Id, Saturate, Weaken}
+use Rattle.conflict_graph.specs.Clauses.{weakenings, false_terms, greatest, finishing, clause_ops, false_signs}
 use Rattle.trail_state.specs.Trail.{Entry, value_in, level_of, level_in}
 use Rattle.conflict_graph.specs.Learning.{signs, either, current_at, currents, HasLevels}
-use Rattle.pb_rules.specs.Partial.{flipped}
-use Rattle.std.proofs.Math.Path.{fun_ext}
 use Rattle.pb_rules.specs.declared.Op.TheVariants.{Add}
 use Rattle.conflict_graph.proofs.Counts.{currents-change}
 
@@ -25,40 +22,67 @@ weakenings-push a (u ∷ ts) t = go (is_false a u.lit) (weakenings-push a ts t)
     go true ih = ih
     go false ih = ap (λ os. Weaken u.lit.var ∷ os) ih
 
--- one more term
-pub explain-more : (a : ℕ → Option Bool) (ts : List Term) (i : ℕ) (t : Term) → i < length ts → t ≡ get_or ts i t →
-    (weakenings a (take (i + 1) ts) ≡ weakenings a (take i ts) ++ cond (is_false a t.lit) [] (Weaken t.lit.var ∷ [])) × (open_weight a (take (i + 1) ts) ≡ open_weight a (take i ts) + cond (is_false a t.lit) 0 t.coef)
-explain-more a ts i t h e =
-    let more : take (i + 1) ts ≡ take i ts ++ t ∷ [] = take_more ts i t h ∙ ap (λ (u : Term). take i ts ++ u ∷ []) (sym e) in
-    (ap (weakenings a) more ∙ weakenings-push a (take i ts) t, ap (open_weight a) more ∙ sum_by_push (λ (t : Term). cond (is_false a t.lit) 0 t.coef) (take i ts) t)
-
-pub explain-kept : (a : ℕ → Option Bool) (ts : List Term) (i : ℕ) (t : Term) (start now : List Op) (room : ℕ) → i < length ts → t ≡ get_or ts i t → is_false a t.lit ≡ true → now ≡ start ++ weakenings a (take i ts) → room ≡ open_weight a (take i ts) →
-    (now ≡ start ++ weakenings a (take (i + 1) ts)) × (room ≡ open_weight a (take (i + 1) ts))
-explain-kept a ts i t start now room h e f w r =
-    let m = explain-more a ts i t h e in
-    let m0 = rw f at m.0 in let m1 = rw f at m.1 in
-    (rw m.0 (rw (f) (w ∙ ap (λ os. start ++ os) (sym (append-nil' (weakenings a (take i ts)))))), omega arith)
+false_terms-push : (a : ℕ → Option Bool) (ts : List Term) (t : Term) → greatest (false_terms a (ts ++ t ∷ [])) ≡ max (greatest (false_terms a ts)) (cond (is_false a t.lit) t.coef 0)
+false_terms-push a [] t = go (is_false a t.lit)
   where
-    append-nil' : (os : List Op) → os ++ [] ≡ os
-    append-nil' [] = refl
-    append-nil' (o ∷ os) = ap (λ ps. o ∷ ps) (append-nil' os)
+    go : (b : Bool) → greatest (cond b (t ∷ []) []) ≡ max 0 (cond b t.coef 0)
+    go true = omega arith
+    go false = refl
+false_terms-push a (u ∷ ts) t = go (is_false a u.lit) (false_terms-push a ts t)
+  where
+    new : ℕ
+    new = cond (is_false a t.lit) t.coef 0
 
-pub explain-weakened : (a : ℕ → Option Bool) (ts : List Term) (i : ℕ) (t : Term) (start now next : List Op) (room : ℕ) → i < length ts → t ≡ get_or ts i t → is_false a t.lit ≡ false → now ≡ start ++ weakenings a (take i ts) → next ≡ now ++ Weaken t.lit.var ∷ [] → room ≡ open_weight a (take i ts) →
-    (next ≡ start ++ weakenings a (take (i + 1) ts)) × (room + t.coef ≡ open_weight a (take (i + 1) ts))
-explain-weakened a ts i t start now next room h e f w p r =
-    let m = explain-more a ts i t h e in
-    let m1 = rw f at m.1 in
-    (rw m.0 (rw f (p ∙ ap (λ os. os ++ Weaken t.lit.var ∷ []) w ∙ append_assoc start (weakenings a (take i ts)) (Weaken t.lit.var ∷ []))), omega arith)
+    go : (b : Bool) → greatest (false_terms a (ts ++ t ∷ [])) ≡ max (greatest (false_terms a ts)) new → greatest (cond b (u ∷ false_terms a (ts ++ t ∷ [])) (false_terms a (ts ++ t ∷ []))) ≡ max (greatest (cond b (u ∷ false_terms a ts) (false_terms a ts))) new
+    go true ih = ap (max u.coef) ih ∙ assoc u.coef (greatest (false_terms a ts)) new
+      where
+        assoc : (x y z : ℕ) → max x (max y z) ≡ max (max x y) z
+        assoc x y z = omega arith
+    go false ih = ih
 
-pub explain-end : (a : ℕ → Option Bool) (c : Linear) (id : ℕ) (start now : List Op) (room : ℕ) (ts : List Term) (i : ℕ) → ts ≡ c.terms → length ts ≤ i → now ≡ (start ++ Id id ∷ []) ++ weakenings a (take i ts) → room ≡ open_weight a (take i ts) →
-    (now ++ Saturate ∷ []) ++ Divide (c.degree - room) ∷ [] ≡ start ++ clause_ops id a c
-explain-end a c id start now room ts i e l w r =
+-- what an explanation has written of a constraint's first terms, and what it knows of them
+pub record Explains (a : ℕ → Option Bool) (ts : List Term) (start now : List Op) (room most : ℕ) : Type 0 where
+  pub written : now ≡ start ++ weakenings a ts
+  pub room_is : room ≡ open_weight a ts
+  pub most_is : most ≡ greatest (false_terms a ts)
+
+more-taken : (ts : List Term) (i : ℕ) (t : Term) → i < length ts → t ≡ get_or ts i t → take (i + 1) ts ≡ take i ts ++ t ∷ []
+more-taken ts i t h e = take_more ts i t h ∙ ap (λ (u : Term). take i ts ++ u ∷ []) (sym e)
+
+pub explain-kept : (a : ℕ → Option Bool) (ts : List Term) (i : ℕ) (t : Term) (start now : List Op) (room most next : ℕ) → i < length ts → t ≡ get_or ts i t → is_false a t.lit ≡ true → next ≡ max most t.coef → Explains a (take i ts) start now room most → Explains a (take (i + 1) ts) start now room next
+explain-kept a ts i t start now room most next h e f n x =
+    let more = more-taken ts i t h e in
+    let w = rw f at (ap (weakenings a) more ∙ weakenings-push a (take i ts) t) in
+    let o = rw f at (ap (open_weight a) more ∙ sum_by_push (λ (t : Term). cond (is_false a t.lit) 0 t.coef) (take i ts) t) in
+    let g = rw f at (ap (λ us. greatest (false_terms a us)) more ∙ false_terms-push a (take i ts) t) in
+    record {
+      written = x.written ∙ ap (λ os. start ++ os) (sym (w ∙ append-nil (weakenings a (take i ts))));
+      room_is = omega (arith, x.room_is, o);
+      most_is = n ∙ ap (λ m. max m t.coef) x.most_is ∙ sym g;
+    }
+
+pub explain-weakened : (a : ℕ → Option Bool) (ts : List Term) (i : ℕ) (t : Term) (start now next : List Op) (room most : ℕ) → i < length ts → t ≡ get_or ts i t → is_false a t.lit ≡ false → next ≡ now ++ Weaken t.lit.var ∷ [] → Explains a (take i ts) start now room most → Explains a (take (i + 1) ts) start next (room + t.coef) most
+explain-weakened a ts i t start now next room most h e f p x =
+    let more = more-taken ts i t h e in
+    let w = rw f at (ap (weakenings a) more ∙ weakenings-push a (take i ts) t) in
+    let o = rw f at (ap (open_weight a) more ∙ sum_by_push (λ (t : Term). cond (is_false a t.lit) 0 t.coef) (take i ts) t) in
+    let g = rw f at (ap (λ us. greatest (false_terms a us)) more ∙ false_terms-push a (take i ts) t) in
+    record {
+      written = p ∙ ap (λ os. os ++ Weaken t.lit.var ∷ []) x.written ∙ append_assoc start (weakenings a (take i ts)) (Weaken t.lit.var ∷ []) ∙ ap (λ os. start ++ os) (sym w);
+      room_is = omega (arith, x.room_is, o);
+      most_is = omega (arith, x.most_is, g);
+    }
+
+pub explain-end : (a : ℕ → Option Bool) (c : Linear) (id room most i : ℕ) (old now last : List Op) (ts : List Term) → ts ≡ c.terms → length ts ≤ i → Explains a (take i ts) (old ++ Id id ∷ []) now room most → last ≡ now ++ finishing (c.degree - room) most → last ≡ old ++ clause_ops id a c
+explain-end a c id room most i old now last ts e l x p =
     let all : take i ts ≡ c.terms = take_all i ts l ∙ e in
-    let r' : room ≡ open_weight a c.terms = r ∙ ap (open_weight a) all in
-    let w' : now ≡ (start ++ Id id ∷ []) ++ weakenings a c.terms = w ∙ ap (λ us. (start ++ Id id ∷ []) ++ weakenings a us) all in
-    ap (λ os. (os ++ Saturate ∷ []) ++ Divide (c.degree - room) ∷ []) w'
-    ∙ ap (λ m. (((start ++ Id id ∷ []) ++ weakenings a c.terms) ++ Saturate ∷ []) ++ Divide (c.degree - m) ∷ []) r'
-    ∙ simp append_assoc
+    let w = x.written ∙ ap (λ us. (old ++ Id id ∷ []) ++ weakenings a us) all in
+    let r = x.room_is ∙ ap (open_weight a) all in
+    let g = x.most_is ∙ ap (λ us. greatest (false_terms a us)) all in
+    let tail : List Op = finishing (c.degree - open_weight a c.terms) (greatest (false_terms a c.terms)) in
+    let same : finishing (c.degree - room) most ≡ tail = ap (λ (m : ℕ). finishing (c.degree - m) most) r ∙ ap (finishing (c.degree - open_weight a c.terms)) g in
+    p ∙ ap (λ os. os ++ finishing (c.degree - room) most) w ∙ ap (λ os. ((old ++ Id id ∷ []) ++ weakenings a c.terms) ++ os) same
+    ∙ append_assoc (old ++ Id id ∷ []) (weakenings a c.terms) tail ∙ append_assoc old (Id id ∷ []) (weakenings a c.terms ++ tail)
 
 -- one sign changed in a list
 pub signs-set : (items : List (Option Bool)) (x : ℕ) (o : Option Bool) → x < length items → (y : ℕ) → signs (set items x o) y ≡ cond (eqb x y) o (signs items y)
@@ -138,21 +162,6 @@ dropped-lower es items levels n x v b count h l lt a taken c e =
     let lv = h.level x v a in
     let none = (current-is es x b).1 (λ q. e (lv ∙ q)) in
     omega arith
-
--- flipping a sign in a list, and back
-pub signs-flipped : (items : List (Option Bool)) (l : Literal) → l.var < length items → signs (set items l.var (Some (not l.yes))) ≡ flipped (signs items) l
-signs-flipped items l h = fun_ext (λ y. signs-set items l.var (Some (not l.yes)) h y ∙ turn y (cases_eq l.var y))
-  where
-    turn : (y : ℕ) → (l.var ≡ y) ⊎ (l.var ≢ y) → cond (eqb l.var y) (Some (not l.yes)) (signs items y) ≡ flipped (signs items) l y
-    turn y (inl e) = (let t : eqb l.var y ≡ true = grind (arith, nat_tests) in let u : eqb y l.var ≡ true = grind (arith, nat_tests) in rw (t, u) refl)
-    turn y (inr n) = (let t : eqb l.var y ≡ false = grind (arith, nat_tests) in let u : eqb y l.var ≡ false = grind (arith, nat_tests) in rw (t, u) refl)
-
-pub signs-back : (items : List (Option Bool)) (x : ℕ) (o : Option Bool) → x < length items → signs items x ≡ None → x < length (set items x o) → signs (set (set items x o) x None) ≡ signs items
-signs-back items x o h free h' = fun_ext (λ y. signs-set (set items x o) x None h' y ∙ turn y (cases_eq x y))
-  where
-    turn : (y : ℕ) → (x ≡ y) ⊎ (x ≢ y) → cond (eqb x y) None (signs (set items x o) y) ≡ signs items y
-    turn y (inl e) = (let t : eqb x y ≡ true = grind (arith, nat_tests) in rw t (sym free ∙ ap (signs items) e))
-    turn y (inr n) = (let t : eqb x y ≡ false = grind (arith, nat_tests) in rw t (get_or-set_other items x y o None (λ q. n (sym q))))
 
 either-none : (o : Option Bool) → o ≡ either o None
 either-none None = refl

@@ -1,5 +1,5 @@
 -- Clauses as the sign of each variable's literal, and the operations that make one of a constraint in conflict.
-use Rattle.std.specs.Prelude.{ℕ, zero, suc, Bool, Option, Some, None, ◌+◌, ◌-◌, ◌==◌, List, [], ◌∷◌, ◌++◌, if◌then◌else◌}
+use Rattle.std.specs.Prelude.{ℕ, zero, suc, Bool, Option, Some, None, ◌+◌, ◌-◌, ◌==◌, nat_lt, max, List, [], ◌∷◌, ◌++◌, if◌then◌else◌}
 use Rattle.pb_rules.specs.declared.Term.{Term}
 use Rattle.pb_rules.specs.Linear.{Linear}
 use Rattle.pb_rules.specs.Partial.{is_false, open_weight}
@@ -35,6 +35,15 @@ abbrev pub weakenings : (ℕ → Option Bool) → List Term → List Op
 weakenings a [] = []
 weakenings a (t ∷ ts) = if is_false a t.lit then weakenings a ts else Weaken t.lit.var ∷ weakenings a ts
 
+-- the greatest coefficient, or 0 where there are no terms
+abbrev pub greatest : List Term → ℕ
+greatest [] = 0
+greatest (t ∷ ts) = max t.coef (greatest ts)
+
+-- a saturation and a division by the degree, each where it changes something
+abbrev pub finishing : ℕ → ℕ → List Op
+finishing degree most = (if nat_lt degree most then Saturate ∷ [] else []) ++ (if nat_lt 1 degree then Divide degree ∷ [] else [])
+
 -- from a constraint in conflict to the clause of its false literals
 abbrev pub clause_ops : ℕ → (ℕ → Option Bool) → Linear → List Op
-clause_ops id a c = Id id ∷ (weakenings a c.terms ++ Saturate ∷ Divide (c.degree - open_weight a c.terms) ∷ [])
+clause_ops id a c = Id id ∷ (weakenings a c.terms ++ finishing (c.degree - open_weight a c.terms) (greatest (false_terms a c.terms)))

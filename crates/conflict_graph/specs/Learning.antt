@@ -1,7 +1,8 @@
 -- How far an analysis has come. The clause is the sign of each variable's literal.
 use Rattle.std.specs.Prelude.{ℕ, Bool, Ok, Option, Some, None, true, not, ◌≡◌, ◌+◌, ◌<◌, ◌==◌, length, slice_index, slice_index_or, List, [], ◌∷◌, take, if◌then◌else◌, zero, suc}
 use Rattle.pb_constraints.specs.declared.ConId.{ConId}
-use Rattle.pb_rules.specs.Partial.{IsClosed}
+use Rattle.pb_rules.specs.Literal.{Literal}
+use Rattle.pb_rules.specs.Partial.{IsClosed, flipped}
 use Rattle.pb_rules.specs.declared.Op.{Op}
 use Rattle.pb_rules.specs.Operations.{Context, KnowsLive, apply_all}
 use Rattle.constraint_store.specs.Live.{Live, is_live, constraint_of}
@@ -12,6 +13,11 @@ use Rattle.conflict_graph.specs.Derives.{HasUnder}
 -- the value that a list gives a variable
 abbrev pub signs : List (Option Bool) → ℕ → Option Bool
 signs items x = slice_index_or items x None
+
+-- the values before a place of the trail, with one more literal made false where there is one
+abbrev pub seen : List Entry → ℕ → Option Literal → ℕ → Option Bool
+seen es place None = value_in (take place es)
+seen es place (Some l) = flipped (value_in (take place es)) l
 
 -- one sign, or else the other
 abbrev pub either : Option Bool → Option Bool → Option Bool

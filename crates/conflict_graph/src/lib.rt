@@ -8,8 +8,10 @@
 //!
 //! The steps, each in a file: `reasons` writes how a constraint is made a clause, `marks` keeps the literals of the
 //! clause and counts those of the current level, `resolution` walks the trail, and `clauses` writes the clause down and
-//! finds the level to jump back to. The levels are read where the trail has them, and its values are copied, since the
-//! walk takes them off one by one. Propagation is no part of this, and neither is what becomes of the clause.
+//! finds the level to jump back to. Values and levels are read where the trail has them: what a value was before a place
+//! is asked of the trail. What lives as long as one conflict stands in one arena: the signs of the clause and the
+//! operations. The clause is made outside it, before the arena is given up. Propagation is no part of this, and neither
+//! is what becomes of the clause.
 #![tactic(auto)]
 
 ghost use Rattle.std.specs.Prelude.{ℕ, List, ◌≡◌, ◌<◌, ◌^◌, IfOk, OnErr, length, None, Some};
@@ -29,6 +31,7 @@ mod marks;
 mod reasons;
 mod resolution;
 
+use bumpalo::Bump;
 use clauses::{clause_from, level_below};
 use constraint_store::Store;
 use pb_constraints::{ConId, Constraint};
@@ -54,22 +57,21 @@ pub fn law_of_frames()
     ensures stands { (live : List Live) (old new : LogValue) (clause : Linear) (f : Frame) (g : Given) → Derives live old new clause → IsFrame f → FitsFrom f old.first → given_by f old.lines ≡ Some g → next_id old < 2 ^ 63 → StandsUnder (context_of (with_derived g clause)) (next_id old) clause }
 {}
 
-/// Derives a clause from a conflict over tables of levels, values and signs.
+/// Derives a clause from a conflict over tables of levels and signs. The operations are collected in the arena,
+/// and the clause is made outside it.
 fn learn(
     alloc: Global,
+    bump: &Bump,
     trail: &Trail,
     store: &Store,
     conflict: ConId,
     levels: &[u64],
-    values: &mut [Option<bool>],
     clause: &mut [Option<bool>],
     log: &mut Log,
 ) -> Result<Learned, AllocError>
     requires levels { HasLevels trail.now.entries trail.now.variables levels.now }
-    requires values_length { length values.old ≡ trail.now.variables }
     requires clause_length { length clause.old ≡ trail.now.variables }
     requires few { trail.now.variables < 2 ^ 62 }
-    requires values { signs values.old ≡ value_in trail.now.entries }
     requires nothing { (x : ℕ) → signs clause.old x ≡ None }
     requires usable { IsUsable store.now trail.now.variables conflict }
     requires conflict { InConflict (value_in trail.now.entries) (constraint_of store.now conflict) }
@@ -82,8 +84,8 @@ fn learn(
     ensures back { IfOk result (λ l. IsLevelBelow trail.now.entries l.clause.terms l.back_level) }
     ensures err { OnErr result (log.new ≡ log.old) }
 {
-    let mut ops = Vec::new(alloc);
-    take_apart(trail, store, conflict, levels, values, clause, &mut ops)?;
+    let mut ops = Vec::new(bump);
+    take_apart(trail, store, conflict, levels, clause, &mut ops)?;
     let made = clause_from(alloc, clause)?;
     let back_level = level_below(trail, levels, &made);
     let proof_id = log.derive(ops.as_slice())?;
@@ -115,16 +117,16 @@ pub fn analyse(
     ensures back { IfOk result (λ l. IsLevelBelow trail.now.entries l.clause.terms l.back_level) }
     ensures err { OnErr result (log.new ≡ log.old) }
 {
-    let mut values = Vec::from_slice(alloc, trail.values())?;
-    let mut clause = Vec::new(alloc);
+    let bump = Bump::new(alloc);
+    let mut clause = Vec::new(&bump);
     clause.resize(trail.variables() as usize, None)?;
     learn(
         alloc,
+        &bump,
         trail,
         store,
         conflict,
         trail.levels(),
-        &mut values,
         &mut clause,
         log,
     )

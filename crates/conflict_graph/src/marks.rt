@@ -1,7 +1,7 @@
 //! The clause while it is learned, as the sign of each variable's literal, and how many of its literals are of the
 //! current level.
 
-ghost use Rattle.std.specs.Prelude.{ℕ, ◌≡◌, ◌<◌, ◌^◌, ◌==◌, Some, None, true, not, length, if◌then◌else◌};
+ghost use Rattle.std.specs.Prelude.{ℕ, ◌≡◌, ◌<◌, ◌^◌, ◌==◌, Some, None, true, not, length, take, if◌then◌else◌};
 ghost use Rattle.pb_rules.specs.Linear.{VarsBelow};
 ghost use Rattle.pb_rules.specs.Partial.{GoesOn};
 ghost use Rattle.conflict_graph.specs.Clauses.{false_signs};
@@ -42,28 +42,27 @@ fn add_literal(
     }
 }
 
-/// Adds the literals of a constraint that are false to the clause.
+/// Adds the literals of a constraint that are false before a place of the trail to the clause.
 pub fn mark(
     trail: &Trail,
     store: &Store,
     c: ConId,
+    place: usize,
     levels: &[u64],
-    values: &[Option<bool>],
     clause: &mut [Option<bool>],
     mut count: u64,
 ) -> u64
     requires levels { HasLevels trail.now.entries (length clause.old) levels.now }
     requires live { is_live store.now c ≡ true }
     requires in_range { VarsBelow (length clause.old) (constraint_of store.now c).terms }
-    requires same_length { length values.now ≡ length clause.old }
-    requires assigned { GoesOn (signs values.now) (value_in trail.now.entries) }
+    requires assigned { GoesOn (value_in (take place trail.now.entries)) (value_in trail.now.entries) }
     requires few { length clause.old < 2 ^ 62 }
     requires counted { count ≡ currents (length clause.old) 0 trail.now.entries (signs clause.old) }
-    ensures added { (y : ℕ) → signs clause.new y ≡ either (signs clause.old y) (false_signs (signs values.now) (constraint_of store.now c).terms y) }
+    ensures added { (y : ℕ) → signs clause.new y ≡ either (signs clause.old y) (false_signs (value_in (take place trail.now.entries)) (constraint_of store.now c).terms y) }
     ensures counted { result ≡ currents (length clause.old) 0 trail.now.entries (signs clause.new) }
 {
     for t in store.terms(c) {
-        if is_false(values, t.lit) {
+        if is_false(trail, place, t.lit) {
             count = add_literal(trail, levels, t.lit, clause, count);
         }
     }

@@ -12,6 +12,7 @@ ghost use Rattle.conflict_graph.specs.Learning.{signs, Learning, Learnt, HasLeve
 
 use crate::marks::{drop_literal, mark};
 use crate::reasons::{explain, explain_reason};
+use bumpalo::Bump;
 use constraint_store::Store;
 use pb_constraints::ConId;
 use pb_rules::Op;
@@ -24,32 +25,28 @@ fn resolve(
     store: &Store,
     levels: &[u64],
     place: usize,
-    values: &mut [Option<bool>],
     clause: &mut [Option<bool>],
     count: u64,
-    ops: &mut Vec<Op>,
+    ops: &mut Vec<Op, &Bump>,
 ) -> Result<u64, AllocError>
     requires levels { HasLevels trail.now.entries trail.now.variables levels.now }
-    requires values_length { length values.old ≡ trail.now.variables }
     requires clause_length { length clause.old ≡ trail.now.variables }
     requires few { trail.now.variables < 2 ^ 62 }
     requires place { place < length trail.now.entries }
-    requires values { signs values.old ≡ value_in (take place trail.now.entries) }
     requires marked { (d : Entry) → is_some (signs clause.old (slice_index_or trail.now.entries place d).lit.var) ≡ true }
     requires two { 0 < level_of trail.now.entries → 1 < count }
     requires forced { AllForced store.now trail.now.variables trail.now.entries }
     requires learning { Learning store.now trail.now.entries trail.now.variables (place + 1) (signs clause.old) count ops.old.items }
-    ensures learning { IfOk result (λ k. Learning store.now trail.now.entries trail.now.variables place (signs clause.new) k ops.new.items) }
-    ensures values { OnOk result (signs values.new ≡ signs values.old) }
+    ensures { IfOk result (λ k. Learning store.now trail.now.entries trail.now.variables place (signs clause.new) k ops.new.items) }
 {
     let _assigned = trail.assigned();
     let lit = trail.literals()[place];
     match trail.reason(lit.var()) {
         None => unreachable!(),
         Some(reason) => {
-            explain_reason(store, reason, lit, values, ops)?;
+            explain_reason(trail, place, store, reason, lit, ops)?;
             let rest = drop_literal(trail, levels, lit, clause, count);
-            Ok(mark(trail, store, reason, levels, values, clause, rest))
+            Ok(mark(trail, store, reason, place, levels, clause, rest))
         }
     }
 }
@@ -60,31 +57,26 @@ fn step_back(
     store: &Store,
     levels: &[u64],
     place: usize,
-    values: &mut [Option<bool>],
     clause: &mut [Option<bool>],
     count: u64,
-    ops: &mut Vec<Op>,
+    ops: &mut Vec<Op, &Bump>,
 ) -> Result<u64, AllocError>
     requires levels { HasLevels trail.now.entries trail.now.variables levels.now }
-    requires values_length { length values.old ≡ trail.now.variables }
     requires clause_length { length clause.old ≡ trail.now.variables }
     requires few { trail.now.variables < 2 ^ 62 }
     requires place { place < length trail.now.entries }
-    requires values { signs values.old ≡ value_in (take (place + 1) trail.now.entries) }
     requires two { 0 < level_of trail.now.entries → 1 < count }
     requires forced { AllForced store.now trail.now.variables trail.now.entries }
     requires learning { Learning store.now trail.now.entries trail.now.variables (place + 1) (signs clause.old) count ops.old.items }
-    ensures learning { IfOk result (λ k. Learning store.now trail.now.entries trail.now.variables place (signs clause.new) k ops.new.items) }
-    ensures values { OnOk result (signs values.new ≡ value_in (take place trail.now.entries)) }
+    ensures { IfOk result (λ k. Learning store.now trail.now.entries trail.now.variables place (signs clause.new) k ops.new.items) }
 {
     let _assigned = trail.assigned();
     let lit = trail.literals()[place];
     let var = lit.var() as usize;
-    values[var] = None;
     if clause[var].is_none() {
         return Ok(count);
     }
-    resolve(trail, store, levels, place, values, clause, count, ops)
+    resolve(trail, store, levels, place, clause, count, ops)
 }
 
 /// Whether an analysis goes on: at level 0 to the end, else until one literal of the current level is left.
@@ -101,15 +93,12 @@ pub fn take_apart(
     store: &Store,
     conflict: ConId,
     levels: &[u64],
-    values: &mut [Option<bool>],
     clause: &mut [Option<bool>],
-    ops: &mut Vec<Op>,
+    ops: &mut Vec<Op, &Bump>,
 ) -> Result<(), AllocError>
     requires levels { HasLevels trail.now.entries trail.now.variables levels.now }
-    requires values_length { length values.old ≡ trail.now.variables }
     requires clause_length { length clause.old ≡ trail.now.variables }
     requires few { trail.now.variables < 2 ^ 62 }
-    requires values { signs values.old ≡ value_in trail.now.entries }
     requires nothing { (x : ℕ) → signs clause.old x ≡ None }
     requires no_ops { ops.old.items ≡ [] }
     requires usable { IsUsable store.now trail.now.variables conflict }
@@ -118,16 +107,16 @@ pub fn take_apart(
     requires forced { AllForced store.now trail.now.variables trail.now.entries }
     ensures { OnOk result (Learnt store.now trail.now.entries trail.now.variables (signs clause.new) ops.new.items) }
 {
-    explain(store, conflict, values, ops)?;
-    let mut count = mark(trail, store, conflict, levels, values, clause, 0);
-    let level = trail.level();
     let mut place = trail.literals().len();
+    explain(trail, place, &None, store, conflict, ops)?;
+    let mut count = mark(trail, store, conflict, place, levels, clause, 0);
+    let level = trail.level();
     while place > 0 {
         if !goes_on(level, count) {
             return Ok(());
         }
         place -= 1;
-        count = step_back(trail, store, levels, place, values, clause, count, ops)?;
+        count = step_back(trail, store, levels, place, clause, count, ops)?;
     }
     Ok(())
 }

@@ -1,54 +1,104 @@
 -- Frames that agree with a solver: what a search says of them, and how given constraints are numbered.
-use Rattle.std.proofs.Common.{◌≡◌, ℕ, ◌+◌, ◌<◌, ◌^◌, Bool, true, Some, List, [], ◌∷◌, ◌++◌, length, get_or, map, refl, sym, ap, ◌∙◌, subst, arith, zero, suc, append_assoc}
-use Rattle.std.specs.Prelude.{All}
+use Rattle.std.proofs.Common.{◌≡◌, ℕ, ◌+◌, ◌<◌, ◌^◌, Bool, true, List, [], ◌∷◌, ◌++◌, length, get_or, map, take, refl, sym, ap, ◌∙◌, subst, arith, zero, suc, append_assoc}
+use Rattle.std.specs.Prelude.{All, Contains}
 use Rattle.std.specs.List.{list_all}
-use Rattle.std.proofs.lemmas.List.{map-append, get_or-map, length-map, length_push}
+use Rattle.std.proofs.lemmas.List.{map-append, length_push}
 use Rattle.std.proofs.lemmas.List.Elements.{All-push}
 use Rattle.pb_rules.specs.Literal.{Literal}
-use Rattle.pb_rules.specs.Linear.{Linear}
+use Rattle.pb_rules.specs.Linear.{Linear, IsModel, AreAmong, bits_of}
 use Rattle.pb_rules.specs.Operations.{Context, small_number}
-use Rattle.pb_rules.specs.Frames.{Line, cover, Frame, IsFrame, FitsFrom, Given, context_of, base_of, given_by, given_from, with_block, StandsUnder}
-use Rattle.pb_rules.proofs.Given.{given-append, given-stays, given-cover, under-at}
+use Rattle.pb_rules.specs.Frames.{Line, cover, Frame, IsFrame, FitsFrom, Given, context_of, base_of, given_by, derived_from, derived_by, with_block}
+use Rattle.pb_rules.proofs.Closed.{unabsorbed-among, among-append, among-front, among-back}
+use Rattle.pb_rules.proofs.Given.{given-append, given-cover, derived-append, under-at}
 use Rattle.proof_log.specs.Log.{LogValue}
 use Rattle.constraint_store.specs.Live.{Live, Content, content}
-use Rattle.conflict_graph.specs.Derives.{HasUnder}
 use Rattle.conflict_graph.specs.Learned.{constraints_in}
 use Rattle.ordered_solver.specs.declared.answer.Answer.{Answer}
-use Rattle.ordered_solver.specs.Answers.{AnswerSays, AnswersInFrames, LinesSay, new_lines}
-use Rattle.ordered_solver.specs.Lessons.{IsFound}
-use Rattle.ordered_solver.specs.Solver.{SolverValue, Agrees, StandsIn, constraints_of, numbered}
-use Rattle.ordered_solver.proofs.Loading.{live-all}
+use Rattle.ordered_solver.specs.declared.answer.Answer.TheVariants.{Model, Nothing, Budget}
+use Rattle.ordered_solver.specs.Answers.{AnswerSays, AnswersInFrames, AreHonestSteps, AreNewOverKept, AreNewSays, IsRefutation, LinesSay, new_lines}
+use Rattle.ordered_solver.specs.Engines.{given_of, kept_of}
+use Rattle.ordered_solver.specs.Lessons.{IsAnswered, IsFound}
+use Rattle.ordered_solver.specs.Solver.{SolverValue, Agrees, AreKept, AreLastDerived, StandsIn, constraints_of, numbered}
+use Rattle.ordered_solver.proofs.KeptOn.{stands-on}
+use Rattle.ordered_solver.proofs.Parts.{under-parts, model-all, model-given, given-among, both-among, all-among}
+use Rattle.ordered_solver.proofs.Shown.{shown-among}
 
--- the given constraints are those of the store
-pub given-are : (live : List Live) → constraints_of (map content live) ≡ constraints_in live
-given-are [] = refl
-given-are (e ∷ live) = ap (λ (cs : List Linear). e.constraint ∷ cs) (given-are live)
+-- lists with the same models have the same answer
+says-same : (cs ds : List Linear) (order : List Literal) (answer : Answer) → ((v : ℕ → Bool) → IsModel cs v → IsModel ds v) → ((v : ℕ → Bool) → IsModel ds v → IsModel cs v) → AnswerSays cs order answer → AnswerSays ds order answer
+says-same cs ds order (Model values) to from h = record {
+  one_each = h.one_each;
+  first = record { model = to (bits_of values.items) h.first.model; first = λ w m. h.first.first w (from w m) };
+}
+says-same cs ds order Nothing to from h = λ v m. h v (from v m)
+says-same cs ds order Budget to from h = tt
 
--- what stands in a frame by a solver's list stands there by its store
-under-given : (context : Context) (live : List Live) → All (StandsIn context) (map content live) → HasUnder context live
-under-given context live all c on = live-all (λ e. StandsUnder context e.proof_id e.constraint) live c (λ k d l.
-    (let len : length (map content live) ≡ length live = length-map live content in
-    subst (StandsIn context) (get_or-map content live k d (content d) l) (all k (content d) (omega arith)))) on
+-- a search's end, said of the given constraints
+pub says-given : (start : List Live) (log : LogValue) (order : List Literal) (answer : Answer) → AreKept (given_of log start) (kept_of log start) log → AnswerSays (constraints_in start) order answer → AnswerSays (constraints_of (given_of log start)) order answer
+says-given start log order answer keeps h = says-same (constraints_in start) (constraints_of (given_of log start)) order answer (λ v m. model-given v log start m) (λ v m. model-all v log start m (keeps.follow v m)) h
 
-stands-on : (f : Frame) (g h : Given) (ls : List Line) (given : List Content) → given_from f g ls ≡ Some h → All (StandsIn (context_of g)) given → All (StandsIn (context_of h)) given
-stands-on f g h ls given e all k d l =
-    let c : Content = get_or given k d in
-    given-stays f g h ls c.proof_id c.constraint e (all k d l)
+-- what is honest over a list is honest over a part of it
+steps-part : (f : Frame) (g : Given) (cs ds : List Linear) (ls : List Line) → AreAmong cs ds → AreHonestSteps f g ds ls → AreHonestSteps f g cs ls
+steps-part f g cs ds ls among h =
+    let w = h.honest in
+    let clauses : List Linear = derived_from f g ls in
+    record {
+      honest = record {
+        derived_each = w.derived_each;
+        after = w.after;
+        legal = w.legal;
+        honest = record {
+          clauses_each = w.honest.clauses_each;
+          unabsorbed = λ k d l.
+              (let earlier : List Linear = take k clauses in
+              unabsorbed-among (cs ++ earlier) (ds ++ earlier) (get_or clauses k d) (among-append cs earlier (ds ++ earlier) (λ x m. among-front ds earlier x (among x m)) (among-back ds earlier)) (w.honest.unabsorbed k d l));
+        };
+      };
+      no_contradiction = h.no_contradiction;
+    }
 
--- a search's end, said of the solver
-pub says-given : (start : List Live) (given : List Content) (old new : LogValue) (order : List Literal) (variables budget : ℕ) (answer : Answer) → map content start ≡ given → IsFound start old new order variables budget answer → AnswerSays (constraints_of given) order answer
-says-given start given old new order variables budget answer e h =
-    let P : List Linear → Type 0 = λ cs. AnswerSays cs order answer in
-    subst P (sym (given-are start) ∙ ap constraints_of e) h.says
+refutation-part : (f : Frame) (g : Given) (cs ds : List Linear) (ls : List Line) → AreAmong cs ds → IsRefutation f g ds ls → IsRefutation f g cs ls
+refutation-part f g cs ds ls among h = record { steps = h.steps; last = h.last; split = h.split; honest = steps-part f g cs ds h.steps among h.honest; contradicts = h.contradicts }
 
-pub in-frames : (start : List Live) (s t : SolverValue) (order : List Literal) (variables budget : ℕ) (answer : Answer) → map content start ≡ s.given → t.given ≡ s.given → IsFound start s.log t.log order variables budget answer → AnswersInFrames s t order answer
-in-frames start s t order variables budget answer e same h f a =
-    let S : List Content → Type 0 = λ cs. All (StandsIn (context_of a.given)) cs in
-    let w = h.shown f a.given a.frame a.fits a.legal (under-given (context_of a.given) start (subst S (sym e) a.stand)) in
+-- what is said of lines over all constraints, said over a part of them
+lines-part : (f : Frame) (g : Given) (cs ds : List Linear) (order : List Literal) (ls whole : List Line) (answer : Answer) → AreAmong cs ds → AreAmong (ds ++ derived_by f whole) (cs ++ derived_by f whole) → LinesSay f g ds order ls whole answer → LinesSay f g cs order ls whole answer
+lines-part f g cs ds order ls whole (Model values) among all h = record { honest = steps-part f g cs ds ls among h.honest; shows = shown-among (ds ++ derived_by f whole) (cs ++ derived_by f whole) order (bits_of values.items) all h.shows }
+lines-part f g cs ds order ls whole Nothing among all h = refutation-part f g cs ds ls among h
+lines-part f g cs ds order ls whole Budget among all h = steps-part f g cs ds ls among h
+
+new-part : (f : Frame) (g : Given) (cs ds : List Linear) (order : List Literal) (ls whole : List Line) (answer : Answer) → AreAmong cs ds → LinesSay f g ds order ls whole answer → AreNewSays f g cs ls answer
+new-part f g cs ds order ls whole (Model values) among h = steps-part f g cs ds ls among h.honest
+new-part f g cs ds order ls whole Nothing among h = refutation-part f g cs ds ls among h
+new-part f g cs ds order ls whole Budget among h = steps-part f g cs ds ls among h
+
+-- all constraints are among the given ones and what the whole log derives, where the kept clauses are
+derived-among : (cs gs ks earlier later ds : List Linear) → AreAmong cs (gs ++ ks) → ds ≡ (earlier ++ ks) ++ later → AreAmong (cs ++ ds) (gs ++ ds)
+derived-among cs gs ks earlier later ds among e =
+    let kept : AreAmong ks ds = λ c m. subst (λ (xs : List Linear). Contains xs c) (sym e) (among-front (earlier ++ ks) later c (among-back earlier ks c m)) in
+    let both : AreAmong (gs ++ ks) (gs ++ ds) = among-append gs ks (gs ++ ds) (among-front gs ds) (λ c m. among-back gs ds c (kept c m)) in
+    among-append cs ds (gs ++ ds) (λ c m. both c (among c m)) (among-back gs ds)
+
+-- in a frame that agrees with the solver before, what the search's end says of the lines
+answered : (start : List Live) (s : SolverValue) (new : LogValue) (order : List Literal) (variables budget : ℕ) (answer : Answer) (f : Frame) → s.given ≡ given_of s.log start → s.kept ≡ kept_of s.log start → AreKept (given_of s.log start) (kept_of s.log start) s.log → IsFound start s.log new order variables budget answer → (a : Agrees f s) → IsAnswered f a.given (constraints_in start) s.log new order answer × AreLastDerived f a.given s.log.lines (kept_of s.log start)
+answered start s new order variables budget answer f eg ek keeps h a =
+    let context : Context = context_of a.given in
+    let stand : All (StandsIn context) (given_of s.log start) = subst (λ (cs : List Content). All (StandsIn context) cs) eg a.stand in
+    let kp = keeps.last f a.given a.frame a.fits a.legal stand in
+    (h.shown f a.given a.frame a.fits a.legal (under-parts context s.log start stand kp.stand), kp)
+
+pub in-frames : (start : List Live) (s t : SolverValue) (order : List Literal) (variables budget : ℕ) (answer : Answer) → s.given ≡ given_of s.log start → s.kept ≡ kept_of s.log start → t.given ≡ s.given → AreKept (given_of s.log start) (kept_of s.log start) s.log → IsFound start s.log t.log order variables budget answer → AnswersInFrames s t order answer
+in-frames start s t order variables budget answer eg ek same keeps h f a =
+    let r = answered start s t.log order variables budget answer f eg ek keeps h a in
+    let w = r.0 in
+    let kp = r.1 in
     let lines : List Line = new_lines s.log t.log in
+    let whole : List Linear = derived_by f t.log.lines in
+    let gs : List Linear = constraints_of (given_of s.log start) in
+    let ks : List Linear = constraints_of (kept_of s.log start) in
     let first : s.log.first ≡ t.log.first = sym (ap (λ (v : LogValue). v.first) h.log.kept) in
-    let L : List Linear → Type 0 = λ cs. LinesSay f a.given cs order lines t.log.lines answer in
     let T : List Content → Type 0 = λ cs. All (StandsIn (context_of w.after)) cs in
+    let grown : whole ≡ (kp.earlier ++ ks) ++ derived_from f a.given lines = ap (λ (v : LogValue). derived_by f v.lines) h.log.kept ∙ derived-append f (base_of f) a.given s.log.lines lines a.legal ∙ ap (λ (cs : List Linear). cs ++ derived_from f a.given lines) kp.last in
+    let among = derived-among (constraints_in start) gs ks kp.earlier (derived_from f a.given lines) whole (all-among s.log start) grown in
+    let L : List Content → Type 0 = λ cs. LinesSay f a.given (constraints_of cs) order lines t.log.lines answer in
     record {
       agrees = record {
         frame = a.frame;
@@ -59,8 +109,18 @@ in-frames start s t order variables budget answer e same h f a =
       };
       before = a.given;
       legal_before = a.legal;
-      lines = subst L (sym (given-are start) ∙ ap constraints_of e) w.lines;
+      lines = subst L (sym eg) (lines-part f a.given gs (constraints_in start) order lines t.log.lines answer (given-among s.log start) among w.lines);
     }
+
+pub new-over-kept : (start : List Live) (s t : SolverValue) (order : List Literal) (variables budget : ℕ) (answer : Answer) → s.given ≡ given_of s.log start → s.kept ≡ kept_of s.log start → AreKept (given_of s.log start) (kept_of s.log start) s.log → IsFound start s.log t.log order variables budget answer → AreNewOverKept s t answer
+new-over-kept start s t order variables budget answer eg ek keeps h f a =
+    let r = answered start s t.log order variables budget answer f eg ek keeps h a in
+    let w = r.0 in
+    let lines : List Line = new_lines s.log t.log in
+    let both = new-part f a.given (constraints_of (given_of s.log start) ++ constraints_of (kept_of s.log start)) (constraints_in start) order lines t.log.lines answer (both-among s.log start) w.lines in
+    let G : List Content → Type 0 = λ cs. AreNewSays f a.given (constraints_of cs ++ constraints_of (kept_of s.log start)) lines answer in
+    let K : List Content → Type 0 = λ cs. AreNewSays f a.given (constraints_of s.given ++ constraints_of cs) lines answer in
+    subst K (sym ek) (subst G (sym eg) both)
 
 pub numbered-push : (id : ℕ) (cs : List Linear) (c : Linear) → numbered id (cs ++ c ∷ []) ≡ numbered id cs ++ record { constraint = c; proof_id = id + length cs } ∷ []
 numbered-push id [] c = ap (λ n. record { constraint = c; proof_id = n } ∷ []) (omega arith)
@@ -89,7 +149,7 @@ numbered-stands id early (c ∷ cs) e h (suc k) d l =
     let P : List Linear → Type 0 = λ xs. StandsIn (context_of (only xs)) (get_or (numbered (id + 1) cs) k d) in
     subst P (append_assoc early (c ∷ []) cs) rest
 
-pub agrees-new : (f : Frame) (variables : ℕ) (spent : Bool) → IsFrame f → length f.base + 1 < 2 ^ 62 → Agrees f (record { variables = variables; given = numbered 1 f.base; log = record { first = length f.base + 1; lines = [] }; spent = spent })
+pub agrees-new : (f : Frame) (variables : ℕ) (spent : Bool) → IsFrame f → length f.base + 1 < 2 ^ 62 → Agrees f (record { variables = variables; given = numbered 1 f.base; kept = []; log = record { first = length f.base + 1; lines = [] }; spent = spent })
 agrees-new f variables spent frame few = record { frame = frame; fits = refl; given = base_of f; legal = refl; stand = numbered-stands 1 [] f.base refl (omega arith) }
 
 pub agrees-constraint : (f : Frame) (s : SolverValue) (c : Content) (a : Agrees f s) → StandsIn (context_of a.given) c → Agrees f (record s { given = s.given ++ c ∷ [] })

@@ -54,50 +54,52 @@ honest-steps f g base ls h = record {
 }
 
 -- the budget is used up
-pub found-budget : (start live : List Live) (ids : List ConId) (old new : LogValue) (order : List Literal) (variables budget n : ℕ) (es : List Entry) → HasLearned start live ids old new n → n ≡ budget → IsCounted variables es n → IsFound start old new order variables budget Budget
-found-budget start live ids old new order variables budget n es h e counted =
-    let is = lines-are old new h.lines h.written in
+pub found-budget : (start live : List Live) (ids ids_after : List ConId) (old new : LogValue) (order : List Literal) (variables budget n : ℕ) (es : List Entry) → HasLearned start live ids ids_after old new n → n ≡ budget → IsCounted variables es n → IsFound start old new order variables budget Budget
+found-budget start live ids ids_after old new order variables budget n es h e counted =
+    let is = lines-are old new h.added.lines h.added.written in
     let len : length (new_lines old new) ≡ n = ap length is ∙ h.counted in
     let top = word-lt variables (marks es) in
     record {
       says = tt;
-      log = goes-derived old new h.lines h.written h.derived_each;
+      log = goes-derived old new h.added.lines h.added.written h.added.derived_each;
       count = (omega arith, omega arith);
       shown = λ f g frame fits legal under.
-          (let s = h.shown f g frame fits legal under in
+          (let s = h.added.shown f g frame fits legal under in
+          let new-ones = h.honest f g frame fits legal under in
           let L : List Line → Type 0 = λ ls. given_from f g ls ≡ Some s.after in
           let A : List Line → Type 0 = λ ls. AreHonestSteps f g (constraints_in start) ls in
-          record { after = s.after; legal = subst L (sym is) s.legal; lines = subst A (sym is) (honest-steps f g (constraints_in start) h.lines s.honest) });
+          record { after = s.after; legal = subst L (sym is) s.legal; lines = subst A (sym is) (honest-steps f g (constraints_in start) h.added.lines new-ones) });
     }
 
 -- there is no model
-pub found-nothing : (start live : List Live) (ids : List ConId) (old mid new : LogValue) (order : List Literal) (variables budget n : ℕ) (es : List Entry) → HasLearned start live ids old mid n → Refutes live mid new → n < budget → IsCounted variables es n → IsFound start old new order variables budget Nothing
-found-nothing start live ids old mid new order variables budget n es h r below counted =
+pub found-nothing : (start live after : List Live) (ids ids_after : List ConId) (old mid new : LogValue) (id : ConId) (order : List Literal) (variables budget n : ℕ) (es : List Entry) → HasLearned start live ids ids_after old mid n → Refutes live after mid new id → n < budget → IsCounted variables es n → IsFound start old new order variables budget Nothing
+found-nothing start live after ids ids_after old mid new id order variables budget n es h r below counted =
     let ops : List Op = (r.derives).ops in
     let last : Line = derived ops in
-    let lines : List Line = h.lines ++ last ∷ [] in
-    let written : new ≡ record old { lines = old.lines ++ lines } = (r.derives).one_more ∙ ap (λ (v : LogValue). record v { lines = v.lines ++ last ∷ [] }) h.written ∙ ap (λ (ls : List Line). record old { lines = ls }) (append_assoc old.lines h.lines (last ∷ [])) in
+    let lines : List Line = h.added.lines ++ last ∷ [] in
+    let written : new ≡ record old { lines = old.lines ++ lines } = (r.derives).one_more ∙ ap (λ (v : LogValue). record v { lines = v.lines ++ last ∷ [] }) h.added.written ∙ ap (λ (ls : List Line). record old { lines = ls }) (append_assoc old.lines h.added.lines (last ∷ [])) in
     let is = lines-are old new lines written in
-    let len : length (new_lines old new) ≡ n + 1 = ap length is ∙ length_push h.lines last ∙ ap (λ m. m + 1) h.counted in
+    let len : length (new_lines old new) ≡ n + 1 = ap length is ∙ length_push h.added.lines last ∙ ap (λ m. m + 1) h.counted in
     let top = word-lt variables (marks es) in
     record {
-      says = λ v m. no-model (constraints_in live) r.propagated v (h.follow v m);
-      log = goes-derived old new lines written (All-push IsDerived h.lines last h.derived_each refl);
+      says = λ v m. no-model (constraints_in live) r.propagated v (h.added.follow v m);
+      log = goes-derived old new lines written (All-push IsDerived h.added.lines last h.added.derived_each refl);
       count = (omega arith, (omega arith, omega arith));
       shown = λ f g frame fits legal under.
-          (let s = h.shown f g frame fits legal under in
+          (let s = h.added.shown f g frame fits legal under in
+          let new-ones = h.honest f g frame fits legal under in
           let gives = (r.derives).legal (context_of s.after) (given-knows s.after) s.under in
           let L : List Line → Type 0 = λ ls. given_from f g ls ≡ Some (with_derived s.after contradiction) in
           let A : List Line → Type 0 = λ ls. IsRefutation f g (constraints_in start) ls in
           record {
             after = with_derived s.after contradiction;
-            legal = subst L (sym is) (given-push f g s.after h.lines ops contradiction s.legal gives);
+            legal = subst L (sym is) (given-push f g s.after h.added.lines ops contradiction s.legal gives);
             lines = subst A (sym is) (record {
-              steps = h.lines;
+              steps = h.added.lines;
               last = last;
               split = refl;
-              honest = honest-steps f g (constraints_in start) h.lines s.honest;
-              contradicts = derived-push f g s.after h.lines ops contradiction s.legal gives;
+              honest = honest-steps f g (constraints_in start) h.added.lines new-ones;
+              contradicts = derived-push f g s.after h.added.lines ops contradiction s.legal gives;
             });
           });
     }
@@ -121,10 +123,10 @@ abbrev pub AreHeld : List Live → List Attached → Type 0
 AreHeld live held = (c : ConId) (k : Linear) → attached_at held c ≡ Some k → Contains (constraints_in live) k
 
 -- each variable has a value, and nothing is in conflict
-pub found-model : (start live : List Live) (ids : List ConId) (held : List Attached) (old new : LogValue) (order : List Literal) (variables budget n : ℕ) (es : List Entry) (values : Vec Bool) → HasLearned start live ids old new n → n < budget → IsCounted variables es n → length order ≡ variables → Covers order variables → All (IsAttached held) live → All (IsInRange variables) live → AreHeld live held → IsSearch held order es → IsFull order es → AllClosed held es → IsDistinct es → All (λ (e : Entry). e.lit.var < variables) es → HasValues variables es values.items → IsFound start old new order variables budget (Model values)
-found-model start live ids held old new order variables budget n es values h below counted every covers attached in_range among decided full closed distinct inside has =
+pub found-model : (start live : List Live) (ids ids_after : List ConId) (held : List Attached) (old new : LogValue) (order : List Literal) (variables budget n : ℕ) (es : List Entry) (values : Vec Bool) → HasLearned start live ids ids_after old new n → n < budget → IsCounted variables es n → length order ≡ variables → Covers order variables → All (IsAttached held) live → All (IsInRange variables) live → AreHeld live held → IsSearch held order es → IsFull order es → AllClosed held es → IsDistinct es → All (λ (e : Entry). e.lit.var < variables) es → HasValues variables es values.items → IsFound start old new order variables budget (Model values)
+found-model start live ids ids_after held old new order variables budget n es values h below counted every covers attached in_range among decided full closed distinct inside has =
     let v : ℕ → Bool = bits_of values.items in
-    let is = lines-are old new h.lines h.written in
+    let is = lines-are old new h.added.lines h.added.written in
     let len : length (new_lines old new) ≡ n = ap length is ∙ h.counted in
     let top = word-lt variables (marks es) in
     let takes = takes-values es variables values.items distinct inside has in
@@ -137,22 +139,23 @@ found-model start live ids held old new order variables budget n es values h bel
         one_each = has.one_each ∙ sym every;
         first = record {
           model = models-front v (constraints_in start) (constraints_in h.added.more) (subst M split model);
-          first = λ w m. first-of-shown (constraints_in live) order v w shown (h.follow w m);
+          first = λ w m. first-of-shown (constraints_in live) order v w shown (h.added.follow w m);
         };
       };
-      log = goes-derived old new h.lines h.written h.derived_each;
+      log = goes-derived old new h.added.lines h.added.written h.added.derived_each;
       count = (omega arith, omega arith);
       shown = λ f g frame fits legal under.
-          (let s = h.shown f g frame fits legal under in
+          (let s = h.added.shown f g frame fits legal under in
+          let new-ones = h.honest f g frame fits legal under in
           let L : List Line → Type 0 = λ ls. given_from f g ls ≡ Some s.after in
           let A : List Line → Type 0 = λ ls. AreHonestSteps f g (constraints_in start) ls in
-          let whole-derived : derived_by f new.lines ≡ derived_by f old.lines ++ constraints_in h.added.more = ap (λ (w : LogValue). derived_by f w.lines) h.written ∙ derived-append f (base_of f) g old.lines h.lines legal ∙ ap (λ (cs : List Linear). derived_by f old.lines ++ cs) s.gives in
+          let whole-derived : derived_by f new.lines ≡ derived_by f old.lines ++ constraints_in h.added.more = ap (λ (w : LogValue). derived_by f w.lines) h.added.written ∙ derived-append f (base_of f) g old.lines h.added.lines legal ∙ ap (λ (cs : List Linear). derived_by f old.lines ++ cs) s.gives in
           let all : AreAmong (constraints_in live) (constraints_in start ++ derived_by f new.lines) = live-among (constraints_in start) (derived_by f old.lines) (constraints_in h.added.more) (constraints_in live) (derived_by f new.lines) split whole-derived in
           record {
             after = s.after;
             legal = subst L (sym is) s.legal;
             lines = record {
-              honest = subst A (sym is) (honest-steps f g (constraints_in start) h.lines s.honest);
+              honest = subst A (sym is) (honest-steps f g (constraints_in start) h.added.lines new-ones);
               shows = shown-among (constraints_in live) (constraints_in start ++ derived_by f new.lines) order v all shown;
             };
           });

@@ -1,14 +1,16 @@
--- Given ids stay given ids when a log grows.
+-- Given ids stay given ids when a log grows, and kept clauses stay kept ones.
 use Rattle.std.proofs.Common.{◌≡◌, ℕ, ◌+◌, ◌<◌, Bool, true, false, cond, eqb, List, [], ◌∷◌, ◌++◌, length, get_or, map, refl, sym, ap, ◌∙◌, subst, arith, zero, suc}
-use Rattle.std.specs.Prelude.{All, ◌&&◌}
+use Rattle.std.specs.Prelude.{All, filter, not, ◌&&◌}
 use Rattle.std.proofs.lemmas.Bool.Decides.{nat_tests}
 use Rattle.std.proofs.lemmas.List.{map-append}
-use Rattle.std.proofs.lemmas.List.Elements.{All-push}
+use Rattle.std.proofs.lemmas.List.Elements.{All-push, All-head, All-tail}
 use Rattle.std.proofs.lemmas.List.Sums.{sum_by-cons, sum_by-append}
 use Rattle.pb_rules.specs.Linear.{Linear}
-use Rattle.pb_rules.specs.Frames.{Line, is_derived, ids_of, ids_in}
-use Rattle.proof_log.specs.Log.{LogValue}
+use Rattle.pb_rules.specs.declared.Op.{Op}
+use Rattle.pb_rules.specs.Frames.{Line, derived, is_derived, ids_of, ids_in}
+use Rattle.proof_log.specs.Log.{LogValue, next_id}
 use Rattle.constraint_store.specs.Live.{Live, Content, content}
+use Rattle.ordered_solver.specs.Engines.{IsKnown, is_kept, kept_in, given_in}
 use Rattle.ordered_solver.specs.Solver.{IsGivenId, HasGivenId, is_derived_id, numbered}
 
 neither : (b : Bool) → b && false ≡ false
@@ -59,6 +61,61 @@ given-ids-new log cs given e g =
     record { from_one = omega arith; before_next = omega arith; not_derived = refl }) in
     let P : LogValue → List Content → Type 0 = λ v xs. All (HasGivenId v) xs in
     subst (λ (v : LogValue). P v given) (sym e) (subst (P fresh) (sym g) all)
+
+or-true : (b : Bool) → cond b true true ≡ true
+or-true true = refl
+or-true false = refl
+
+-- the next id is that of a derived line which comes next
+derived-next : (first : ℕ) (ls : List Line) (ops : List Op) (id : ℕ) → id ≡ first + ids_in ls → is_derived_id first (ls ++ derived ops ∷ []) id ≡ true
+derived-next first [] ops id e =
+    let here : eqb id first ≡ true = grind (arith, nat_tests) in
+    ap (λ b. cond b true false) here
+derived-next first (l ∷ ls) ops id e =
+    let sum : ids_in (l ∷ ls) ≡ ids_of l + ids_in ls = sum_by-cons ids_of l ls in
+    ap (λ b. cond (is_derived l && eqb id first) true b) (derived-next (first + ids_of l) ls ops id (omega arith)) ∙ or-true (is_derived l && eqb id first)
+
+-- one learned clause more under the next id
+abbrev pub with_line : LogValue → List Op → LogValue
+with_line log ops = record log { lines = log.lines ++ derived ops ∷ [] }
+
+pub kept-more : (log : LogValue) (more : List Live) (x : Live) (ops : List Op) → x.proof_id ≡ next_id log → All (IsKnown log) more → All (λ e. is_kept log e ≡ true) more → All (λ e. is_kept (with_line log ops) e ≡ true) (more ++ x ∷ [])
+kept-more log more x ops next known all =
+    let K : Live → Type 0 = λ e. is_kept (with_line log ops) e ≡ true in
+    All-push K more x (λ k d l. derived-more log.first log.lines (derived ops ∷ []) (get_or more k d).proof_id (known k d l) ∙ all k d l) (derived-next log.first log.lines ops x.proof_id next)
+
+pub known-more : (log : LogValue) (more : List Live) (x : Live) (ops : List Op) → x.proof_id ≡ next_id log → All (IsKnown log) more → All (IsKnown (with_line log ops)) (more ++ x ∷ [])
+known-more log more x ops next known =
+    let sum : ids_in (log.lines ++ derived ops ∷ []) ≡ ids_in log.lines + ids_in (derived ops ∷ []) = sum_by-append ids_of log.lines (derived ops ∷ []) in
+    let one : ids_in (derived ops ∷ []) ≡ ids_of (derived ops) + ids_in [] = sum_by-cons ids_of (derived ops) [] in
+    All-push (IsKnown (with_line log ops)) more x (λ k d l. (let before = known k d l in omega arith)) (omega arith)
+
+-- what a longer log knows
+pub known-later : (log new : LogValue) (more : List Line) (live : List Live) → new ≡ record log { lines = log.lines ++ more } → All (IsKnown log) live → All (IsKnown new) live
+known-later log new more live e known =
+    let sum : ids_in (log.lines ++ more) ≡ ids_in log.lines + ids_in more = sum_by-append ids_of log.lines more in
+    subst (λ (v : LogValue). All (IsKnown v) live) (sym e) (λ k d l. (let before = known k d l in omega arith))
+
+-- tests that say the same of each element keep the same
+filter-same : (p q : Live → Bool) (live : List Live) → All (λ e. p e ≡ q e) live → filter p live ≡ filter q live
+filter-same p q [] h = refl
+filter-same p q (e ∷ live) h =
+    let here : p e ≡ q e = All-head (λ (x : Live). p x ≡ q x) e live h in
+    let rest = filter-same p q live (All-tail (λ (x : Live). p x ≡ q x) e live h) in
+    ap (λ b. cond b (e ∷ filter p live) (filter p live)) here ∙ ap (λ (ls : List Live). cond (q e) (e ∷ ls) ls) rest
+
+same-test : (log new : LogValue) (more : List Line) (live : List Live) → new ≡ record log { lines = log.lines ++ more } → All (IsKnown log) live → All (λ e. is_kept new e ≡ is_kept log e) live
+same-test log new more live e known =
+    subst (λ (v : LogValue). All (λ (x : Live). is_kept v x ≡ is_kept log x) live) (sym e) (λ k d l. derived-more log.first log.lines more (get_or live k d).proof_id (known k d l))
+
+-- in a longer log the same constraints are kept clauses, and the same are given
+pub kept-later : (log new : LogValue) (more : List Line) (live : List Live) → new ≡ record log { lines = log.lines ++ more } → All (IsKnown log) live → kept_in new live ≡ kept_in log live
+kept-later log new more live e known = filter-same (is_kept new) (is_kept log) live (same-test log new more live e known)
+
+pub given-later-in : (log new : LogValue) (more : List Line) (live : List Live) → new ≡ record log { lines = log.lines ++ more } → All (IsKnown log) live → given_in new live ≡ given_in log live
+given-later-in log new more live e known =
+    let same = same-test log new more live e known in
+    filter-same (λ x. not (is_kept new x)) (λ x. not (is_kept log x)) live (λ k d l. ap not (same k d l))
 
 -- one constraint more
 pub given-ids-more : (log : LogValue) (live after : List Live) (x : Live) → after ≡ live ++ x ∷ [] → IsGivenId log x.proof_id → All (HasGivenId log) (map content live) → All (HasGivenId log) (map content after)

@@ -1,17 +1,17 @@
 -- A search goes on by a lesson: the trail, the clauses and the lines stay as they have to be.
-use Rattle.std.proofs.Common.{◌≡◌, ℕ, ◌+◌, ◌<◌, ◌^◌, Bool, true, false, cond, eqb, Option, Some, List, [], ◌∷◌, ◌++◌, length, get_or, take, refl, sym, ap, ◌∙◌, subst, arith, inl, inr, IsTrue, append_assoc}
+use Rattle.std.proofs.Common.{◌≡◌, ℕ, ◌+◌, ◌<◌, ◌^◌, Bool, true, false, cond, eqb, Option, Some, List, [], ◌∷◌, ◌++◌, length, get_or, map, take, refl, sym, ap, ◌∙◌, subst, arith, inl, inr, IsTrue, append_assoc}
 use Rattle.std.specs.Prelude.{All, Ok}
-use Rattle.std.proofs.lemmas.Bool.{cases_lt, cases_eq, false≢true}
+use Rattle.std.proofs.lemmas.Bool.{cases_eq, false≢true}
 use Rattle.std.proofs.lemmas.Bool.Decides.{nat_tests}
-use Rattle.std.proofs.lemmas.List.{take_all, take-append-le, get_or_append_left, get_or_push, length_push, map-append}
+use Rattle.std.proofs.lemmas.List.{take_all, length_push, map-append}
 use Rattle.std.proofs.lemmas.List.Elements.{All-push, All-append, All-cons, All-nil, All-map}
 use Rattle.pb_constraints.specs.declared.ConId.{ConId}
 use Rattle.pb_rules.specs.declared.Op.{Op}
 use Rattle.pb_rules.specs.Literal.{Literal}
 use Rattle.pb_rules.specs.Linear.{Linear, Holds, IsModel}
 use Rattle.pb_rules.specs.Partial.{IsClosed, IsClosedFor, Forces}
-use Rattle.pb_rules.specs.Clauses.{IsClause}
-use Rattle.pb_rules.specs.Honest.{IsUnabsorbed, AreHonest}
+use Rattle.pb_rules.specs.Clauses.{IsClause, contradiction}
+use Rattle.pb_rules.specs.Honest.{IsUnabsorbed, IsPropagated, AreHonest}
 use Rattle.pb_rules.specs.Operations.{line_gives}
 use Rattle.pb_rules.specs.Frames.{Line, derived, Frame, IsFrame, FitsFrom, Given, base_of, given_by, given_from, derived_from, context_of, with_derived, is_derived, StandsUnder}
 use Rattle.pb_rules.proofs.Closed.{propagated-follows, honest-push}
@@ -24,11 +24,12 @@ use Rattle.trail_state.specs.Trail.{Entry, value_in, level_of, upto_level}
 use Rattle.propagate.specs.Attached.{Attached, attached_at, ChangesOnly}
 use Rattle.propagate.specs.Forced.{IsForcedAt, AllClosed}
 use Rattle.propagate.proofs.Attaching.{same_id}
-use Rattle.conflict_graph.specs.Derives.{HasUnder, GiveOver}
+use Rattle.conflict_graph.specs.Derives.{HasUnder, GiveOver, Derives}
 use Rattle.conflict_graph.specs.Learned.{constraints_in}
 use Rattle.ordered_solver.specs.Trails.{IsOrdered}
-use Rattle.ordered_solver.specs.Engines.{IsAttached, HasAdded, id_of}
-use Rattle.ordered_solver.specs.Lessons.{Learns, IsShown, HasLearned}
+use Rattle.ordered_solver.specs.Engines.{IsAttached, IsKnown, is_kept, id_of}
+use Rattle.ordered_solver.specs.Lessons.{Learns, Refutes, AreGiven, HasAdded, HasLearned}
+use Rattle.ordered_solver.proofs.Ids.{kept-more, known-more}
 use Rattle.ordered_solver.proofs.Steps.{IsWider, ordered-jump}
 use Rattle.ordered_solver.proofs.Asserting.{back-below, leaves-one, quiet-below}
 
@@ -66,25 +67,6 @@ ordered-learns live after held bs order es now log log_after id on h o l =
 pub constraints-append : (live more : List Live) → constraints_in (live ++ more) ≡ constraints_in live ++ constraints_in more
 constraints-append live more = map-append (λ (e : Live). e.constraint) live more
 
--- the clauses that were added
-abbrev pub added-more : (start live : List Live) (ids : List ConId) (x : Live) → HasAdded start live ids → is_live live x.id ≡ false → HasAdded start (live ++ x ∷ []) (ids ++ x.id ∷ [])
-added-more start live ids x h fresh =
-    let len = length_push h.more x in
-    record {
-      more = h.more ++ x ∷ [];
-      split = ap (λ (ls : List Live). ls ++ x ∷ []) h.split ∙ append_assoc start h.more (x ∷ []);
-      ids_are = ap (λ (is : List ConId). is ++ x.id ∷ []) h.ids_are ∙ sym (map-append id_of h.more (x ∷ []));
-      fresh = λ i d l. elim (cases_lt i (length h.more)) [
-        | inl lt ↦ (let t : take i (h.more ++ x ∷ []) ≡ take i h.more = take-append-le i h.more (x ∷ []) (omega arith) in
-            let g : get_or (h.more ++ x ∷ []) i d ≡ get_or h.more i d = get_or_append_left h.more (x ∷ []) d i lt in
-            ap (λ (ls : List Live). is_live (start ++ ls) (get_or (h.more ++ x ∷ []) i d).id) t ∙ ap (λ (e : Live). is_live (start ++ take i h.more) e.id) g ∙ h.fresh i d lt)
-        | inr ge ↦ (let at : i ≡ length h.more = omega arith in
-            let t : take i (h.more ++ x ∷ []) ≡ h.more = ap (λ n. take n (h.more ++ x ∷ [])) at ∙ take-append-le (length h.more) h.more (x ∷ []) (omega arith) ∙ take_all (length h.more) h.more (omega arith) in
-            let g : get_or (h.more ++ x ∷ []) i d ≡ x = get_or_push h.more x d i (sym at) in
-            ap (λ (ls : List Live). is_live (start ++ ls) (get_or (h.more ++ x ∷ []) i d).id) t ∙ ap (λ (e : Live). is_live (start ++ h.more) e.id) g ∙ ap (λ (ls : List Live). is_live ls x.id) (sym h.split) ∙ fresh)
-      ];
-    }
-
 -- under each level below the current one, the trail is closed for all live constraints
 pub closed-live : (live : List Live) (held : List Attached) (es : List Entry) → All (IsAttached held) live → AllClosed held es → IsClosedFor (constraints_in live) (value_in es)
 closed-live live held es attached closed = All-map (IsClosed (value_in es)) (λ (e : Live). e.constraint) live (λ i d l. closed (get_or live i d).id (get_or live i d).constraint (attached i d l))
@@ -119,71 +101,112 @@ under-more f h live x ops fresh small next gives under c on = elim (cases_eq x.i
     before true b e h = refl
     before false b e h = absurd (false≢true (sym e ∙ h))
 
--- in a frame, one lesson more
-shown-more : (f : Frame) (g : Given) (start live more : List Live) (ids : List ConId) (held : List Attached) (es : List Entry) (old log : LogValue) (lines : List Line) (x : Live) (ops : List Op) (back : ℕ) →
-    IsFrame f → FitsFrom f old.first → given_by f old.lines ≡ Some g → log ≡ record old { lines = old.lines ++ lines } → live ≡ start ++ more →
-    is_live live x.id ≡ false → x.proof_id ≡ next_id log → x.proof_id < 2 ^ 63 → IsClause x.constraint → IsUnabsorbed (constraints_in live) x.constraint → GiveOver live ops x.constraint →
-    IsShown f g start live more lines → IsShown f g start (live ++ x ∷ []) (more ++ x ∷ []) (lines ++ derived ops ∷ [])
-shown-more f g start live more ids held es old log lines x ops back frame fits legal written split fresh id small clause new derives s =
+pub contradiction-clause : IsClause contradiction
+contradiction-clause = record {
+  normal = record { positive = λ k d l. absurd (omega (arith, l)); rising = λ i j d a l. absurd (omega (arith, l)); small = omega arith; small_degree = omega arith };
+  unit = λ k d l. absurd (omega (arith, l));
+  degree = refl;
+}
+
+-- in a frame, one constraint more is given
+pub given-more : (f : Frame) (g : Given) (live more : List Live) (old log : LogValue) (lines : List Line) (x : Live) (ops : List Op) →
+    IsFrame f → FitsFrom f old.first → given_by f old.lines ≡ Some g → log ≡ record old { lines = old.lines ++ lines } →
+    is_live live x.id ≡ false → x.proof_id ≡ next_id log → x.proof_id < 2 ^ 63 → GiveOver live ops x.constraint →
+    AreGiven f g live more lines → AreGiven f g (live ++ x ∷ []) (more ++ x ∷ []) (lines ++ derived ops ∷ [])
+given-more f g live more old log lines x ops frame fits legal written fresh id small derives s =
     let h : Given = s.after in
+    let c : Linear = x.constraint in
     let gives = derives (context_of h) (given-knows h) s.under in
     let whole : given_by f log.lines ≡ Some h = ap (λ (v : LogValue). given_by f v.lines) written ∙ given-append f (base_of f) g old.lines lines legal ∙ s.legal in
     let count = given-ids f (base_of f) h log.lines frame whole in
     let first : log.first ≡ old.first = ap (λ (v : LogValue). v.first) written in
     let next : x.proof_id ≡ length h.constraints + 1 = omega arith in
-    let all : constraints_in start ++ derived_from f g lines ≡ constraints_in live = ap (λ (cs : List Linear). constraints_in start ++ cs) s.gives ∙ sym (constraints-append start more) ∙ ap constraints_in (sym split) in
-    let U : List Linear → Type 0 = λ cs. IsUnabsorbed cs x.constraint in
+    let one = given-push f h h [] ops c refl gives in
+    let Stands : Live → Type 0 = λ e. StandsUnder (context_of (with_derived h c)) e.proof_id e.constraint in
     record {
-      after = with_derived h x.constraint;
-      legal = given-push f g h lines ops x.constraint s.legal gives;
+      after = with_derived h c;
+      legal = given-push f g h lines ops c s.legal gives;
       under = under-more f h live x ops fresh small next gives s.under;
-      honest = honest-line f g h (constraints_in start) lines ops x.constraint s.honest s.legal gives clause (subst U (sym all) new);
-      gives = derived-push f g h lines ops x.constraint s.legal gives ∙ ap (λ (cs : List Linear). cs ++ x.constraint ∷ []) s.gives ∙ sym (constraints-append more (x ∷ []));
+      stand = All-push Stands more x (λ k d l. given-stays f h (with_derived h c) (derived ops ∷ []) (get_or more k d).proof_id (get_or more k d).constraint one (s.stand k d l)) (derived-stands h c x.proof_id small next);
+      gives = derived-push f g h lines ops c s.legal gives ∙ ap (λ (cs : List Linear). cs ++ c ∷ []) s.gives ∙ sym (constraints-append more (x ∷ []));
     }
 
--- at the beginning nothing is learned
-pub learned-none : (start : List Live) (log : LogValue) → HasLearned start start [] log log 0
-learned-none start log = record {
-  added = record { more = []; split = rest start; ids_are = refl; fresh = λ i d l. absurd (omega arith) };
+pub rest : {X : Type 0} → (xs : List X) → xs ≡ xs ++ []
+rest [] = refl
+rest (x ∷ xs) = ap (λ ys. x ∷ ys) (rest xs)
+
+-- at the beginning nothing is added
+abbrev pub added-none : (start : List Live) (ids : List ConId) (log : LogValue) → HasAdded start start ids ids log log
+added-none start ids log = record {
+  more = [];
+  split = rest start;
+  ids_are = rest ids;
   lines = [];
   written = ap (λ (ls : List Line). record log { lines = ls }) (rest log.lines);
   derived_each = All-nil IsDerived;
-  counted = refl;
+  one_each = refl;
+  derived_ids = All-nil (λ (e : Live). is_kept log e ≡ true);
+  known = All-nil (IsKnown log);
   follow = λ v m. m;
-  shown = λ f g frame fits legal under. record {
-    after = g;
-    legal = refl;
-    under = under;
-    honest = record { derived_each = All-nil IsDerived; after = g; legal = refl; honest = record { clauses_each = All-nil IsClause; unabsorbed = λ k d l. absurd (omega arith) } };
-    gives = refl;
-  };
+  shown = λ f g frame fits legal under. record { after = g; legal = refl; under = under; stand = λ k d l. absurd (omega (arith, l)); gives = refl };
 }
-  where
-    rest : {X : Type 0} → (xs : List X) → xs ≡ xs ++ []
-    rest [] = refl
-    rest (x ∷ xs) = ap (λ ys. x ∷ ys) (rest xs)
+
+-- one clause more, which the live constraints propagate
+abbrev pub added-more : (start live : List Live) (ids ids_after : List ConId) (old log log_after : LogValue) (x : Live) → HasAdded start live ids ids_after old log → is_live live x.id ≡ false → Derives live log log_after x.constraint → x.proof_id ≡ next_id log → x.proof_id < 2 ^ 63 → IsClause x.constraint → IsPropagated (constraints_in live) x.constraint → HasAdded start (live ++ x ∷ []) ids (ids_after ++ x.id ∷ []) old log_after
+added-more start live ids ids_after old log log_after x h fresh derives next small clause propagated =
+    let ops : List Op = derives.ops in
+    let written : log_after ≡ record old { lines = old.lines ++ (h.lines ++ derived ops ∷ []) } = derives.one_more ∙ ap (λ (v : LogValue). record v { lines = v.lines ++ derived ops ∷ [] }) h.written ∙ ap (λ (ls : List Line). record old { lines = ls }) (append_assoc old.lines h.lines (derived ops ∷ [])) in
+    record {
+      more = h.more ++ x ∷ [];
+      split = ap (λ (ls : List Live). ls ++ x ∷ []) h.split ∙ append_assoc start h.more (x ∷ []);
+      ids_are = ap (λ (is : List ConId). is ++ x.id ∷ []) h.ids_are ∙ append_assoc ids (map id_of h.more) (x.id ∷ []) ∙ ap (λ (is : List ConId). ids ++ is) (sym (map-append id_of h.more (x ∷ [])));
+      lines = h.lines ++ derived ops ∷ [];
+      written = written;
+      derived_each = All-push IsDerived h.lines (derived ops) h.derived_each refl;
+      one_each = length_push h.lines (derived ops) ∙ ap (λ (m : ℕ). m + 1) h.one_each ∙ sym (length_push h.more x);
+      derived_ids = subst (λ (v : LogValue). All (λ (e : Live). is_kept v e ≡ true) (h.more ++ x ∷ [])) (sym derives.one_more) (kept-more log h.more x ops next h.known h.derived_ids);
+      known = subst (λ (v : LogValue). All (IsKnown v) (h.more ++ x ∷ [])) (sym derives.one_more) (known-more log h.more x ops next h.known);
+      follow = λ v m.
+          (let before = h.follow v m in
+          let holds : Holds v x.constraint = propagated-follows (constraints_in live) x.constraint v clause propagated before in
+          let M : List Linear → Type 0 = λ cs. IsModel cs v in
+          subst M (sym (constraints-append live (x ∷ []))) (All-push (Holds v) (constraints_in live) x.constraint before holds));
+      shown = λ f g frame fits legal under. given-more f g live h.more old log h.lines x ops frame fits legal h.written fresh next small derives.legal (h.shown f g frame fits legal under);
+    }
+
+-- at the beginning nothing is learned
+pub learned-none : (start : List Live) (ids : List ConId) (log : LogValue) → HasLearned start start ids ids log log 0
+learned-none start ids log = record {
+  added = added-none start ids log;
+  counted = refl;
+  honest = λ f g frame fits legal under. record { derived_each = All-nil IsDerived; after = g; legal = refl; honest = record { clauses_each = All-nil IsClause; unabsorbed = λ k d l. absurd (omega arith) } };
+}
 
 -- one lesson more
-pub learned-more : (start live after : List Live) (ids : List ConId) (held bs : List Attached) (order : List Literal) (es now : List Entry) (old log log_after : LogValue) (n : ℕ) (id : ConId) → All (IsAttached held) live → 0 < level_of es → IsOrdered held order es → HasLearned start live ids old log n → Learns live after held bs es now log log_after id → HasLearned start after (ids ++ id ∷ []) old log_after (n + 1)
-learned-more start live after ids held bs order es now old log log_after n id attached h o s l =
+pub learned-more : (start live after : List Live) (ids ids_after : List ConId) (held bs : List Attached) (order : List Literal) (es now : List Entry) (old log log_after : LogValue) (n : ℕ) (id : ConId) → All (IsAttached held) live → 0 < level_of es → IsOrdered held order es → HasLearned start live ids ids_after old log n → Learns live after held bs es now log log_after id → HasLearned start after ids (ids_after ++ id ∷ []) old log_after (n + 1)
+learned-more start live after ids ids_after held bs order es now old log log_after n id attached h o s l =
     let x : Live = l.clause in
     let c : Linear = x.constraint in
+    let a = s.added in
     let below = back-below es c.terms l.back l.level_below h in
     let ops : List Op = (l.derives).ops in
     let closed = closed-live live held (upto_level l.back es) attached (o.closed_below l.back below) in
     let new : IsUnabsorbed (constraints_in live) c = record { assignment = value_in (upto_level l.back es); closed = closed; leaves_one = leaves-one live es c l.back l.learned l.level_below h } in
-    let ids-is : ids ++ x.id ∷ [] ≡ ids ++ id ∷ [] = ap (λ (i : ConId). ids ++ i ∷ []) l.under in
-    let P : List ConId → List Live → Type 0 = λ is ls. HasLearned start ls is old log_after (n + 1) in
-    subst (λ (ls : List Live). P (ids ++ id ∷ []) ls) (sym l.added) (subst (λ (is : List ConId). P is (live ++ x ∷ [])) ids-is (record {
-      added = added-more start live ids x s.added l.fresh;
-      lines = s.lines ++ derived ops ∷ [];
-      written = (l.derives).one_more ∙ ap (λ (v : LogValue). record v { lines = v.lines ++ derived ops ∷ [] }) s.written ∙ ap (λ (ls : List Line). record old { lines = ls }) (append_assoc old.lines s.lines (derived ops ∷ []));
-      derived_each = All-push IsDerived s.lines (derived ops) s.derived_each refl;
-      counted = length_push s.lines (derived ops) ∙ ap (λ m. m + 1) s.counted;
-      follow = λ v m.
-          (let before = s.follow v m in
-          let holds : Holds v c = propagated-follows (constraints_in live) c v l.learned.clause l.learned.propagated before in
-          let M : List Linear → Type 0 = λ cs. IsModel cs v in
-          subst M (sym (constraints-append live (x ∷ []))) (All-push (Holds v) (constraints_in live) c before holds));
-      shown = λ f g frame fits legal under. shown-more f g start live s.added.more ids held es old log s.lines x ops l.back frame fits legal s.written s.added.split l.fresh l.proof_id l.small l.learned.clause new (l.derives).legal (s.shown f g frame fits legal under);
+    let ids-is : ids_after ++ x.id ∷ [] ≡ ids_after ++ id ∷ [] = ap (λ (i : ConId). ids_after ++ i ∷ []) l.under in
+    let P : List ConId → List Live → Type 0 = λ is ls. HasLearned start ls ids is old log_after (n + 1) in
+    subst (λ (ls : List Live). P (ids_after ++ id ∷ []) ls) (sym l.added) (subst (λ (is : List ConId). P is (live ++ x ∷ [])) ids-is (record {
+      added = added-more start live ids ids_after old log log_after x a l.fresh l.derives l.proof_id l.small l.learned.clause l.learned.propagated;
+      counted = length_push a.lines (derived ops) ∙ ap (λ m. m + 1) s.counted;
+      honest = λ f g frame fits legal under.
+          (let w = a.shown f g frame fits legal under in
+          let gives = (l.derives).legal (context_of w.after) (given-knows w.after) w.under in
+          let all : constraints_in start ++ derived_from f g a.lines ≡ constraints_in live = ap (λ (cs : List Linear). constraints_in start ++ cs) w.gives ∙ sym (constraints-append start a.more) ∙ ap constraints_in (sym a.split) in
+          let U : List Linear → Type 0 = λ cs. IsUnabsorbed cs c in
+          honest-line f g w.after (constraints_in start) a.lines ops c (s.honest f g frame fits legal under) w.legal gives l.learned.clause (subst U (sym all) new));
     }))
+
+-- `0 >= 1` is one clause more
+abbrev pub added-refuted : (start live after : List Live) (ids ids_after : List ConId) (old log log_after : LogValue) (id : ConId) → HasAdded start live ids ids_after old log → Refutes live after log log_after id → HasAdded start after ids (ids_after ++ id ∷ []) old log_after
+added-refuted start live after ids ids_after old log log_after id h r =
+    let x : Live = record { id = id; constraint = contradiction; proof_id = r.proof_id } in
+    subst (λ (ls : List Live). HasAdded start ls ids (ids_after ++ id ∷ []) old log_after) (sym r.added) (added-more start live ids ids_after old log log_after x h r.fresh r.derives r.next r.small contradiction-clause r.propagated)

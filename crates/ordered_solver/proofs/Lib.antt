@@ -10,3 +10,8 @@ pub mod Orders
 pub mod Agreeing
 pub mod Ids
 pub mod Places
+pub mod Parts
+pub mod KeptOn
+pub mod Dropping
+pub mod Leaving
+pub mod Between

@@ -1,10 +1,10 @@
 -- Store, propagator and trail stay together: after one more constraint, after its removal, and over another trail.
-use Rattle.std.proofs.Common.{◌≡◌, ◌≢◌, ℕ, ◌+◌, ◌<◌, Bool, true, false, not, cond, eqb, Option, Some, None, List, [], ◌∷◌, ◌++◌, length, get_or, take, drop, map, refl, sym, ap, ◌∙◌, subst, arith, zero, suc, append_assoc, append-nil}
-use Rattle.std.specs.Prelude.{All, filter, is_some, IfNone}
+use Rattle.std.proofs.Common.{◌≡◌, ◌≢◌, ℕ, ◌<◌, Bool, true, false, cond, eqb, Option, Some, None, List, [], ◌∷◌, ◌++◌, length, get_or, take, drop, map, refl, sym, ap, ◌∙◌, subst, arith, zero, suc}
+use Rattle.std.specs.Prelude.{All, is_some, IfNone}
 use Rattle.std.proofs.lemmas.Bool.{false≢true}
 use Rattle.std.proofs.lemmas.Bool.Decides.{nat_tests}
-use Rattle.std.proofs.lemmas.List.{take_all, take_more, take-take, take-map, take-append-le, take-append-drop, get_or_append_left, get_or_push, get_or-take, get_or-map, length_push, length-take, length-map, map-append}
-use Rattle.std.proofs.lemmas.List.Elements.{All-push, filter-append}
+use Rattle.std.proofs.lemmas.List.{take-append-le, take-append-drop, length-take, map-append}
+use Rattle.std.proofs.lemmas.List.Elements.{All-push}
 use Rattle.pb_constraints.specs.declared.ConId.{ConId}
 use Rattle.pb_rules.specs.Literal.{Literal}
 use Rattle.pb_rules.specs.Linear.{Linear, VarsBelow}
@@ -12,12 +12,12 @@ use Rattle.constraint_store.specs.Live.{Live, is_live, live_at, constraint_of, w
 use Rattle.constraint_store.proofs.Laws.{is_live_added, live_at_new}
 use Rattle.trail_state.specs.Trail.{Entry, TrailView}
 use Rattle.propagate.specs.Attached.{Attached, ChangesOnly}
-use Rattle.propagate.specs.Propagator.{PropagatorView, IsReady, IsCounted}
-use Rattle.propagate.proofs.Ready.{ready-attach, ready-add, ready-trail, ready-remove}
+use Rattle.propagate.specs.Propagator.{PropagatorView, IsCounted}
+use Rattle.propagate.proofs.Ready.{ready-attach, ready-add, ready-trail}
 use Rattle.ordered_solver.specs.Trails.{GoesOnFrom}
-use Rattle.ordered_solver.specs.Engines.{IsAttached, IsInRange, IsLoaded, HasAdded, id_of}
+use Rattle.ordered_solver.specs.Engines.{IsAttached, IsInRange, IsLoaded}
 
-itself : (n : ℕ) → eqb n n ≡ true
+pub itself : (n : ℕ) → eqb n n ≡ true
 itself n = grind (arith, nat_tests)
 
 or-true : (b : Bool) → cond b true true ≡ true
@@ -85,30 +85,13 @@ loaded-trail live p q t u l attached variables same counted =
       in_range = subst R (sym same) l.in_range;
     }
 
-without-fresh : (live : List Live) (id : ConId) → is_live live id ≡ false → without id live ≡ live
+pub without-fresh : (live : List Live) (id : ConId) → is_live live id ≡ false → without id live ≡ live
 without-fresh [] id h = refl
 without-fresh (e ∷ live) id h = go (eqb e.id.0 id.0) refl (without-fresh live id)
   where
     go : (b : Bool) → eqb e.id.0 id.0 ≡ b → (is_live live id ≡ false → without id live ≡ live) → without id (e ∷ live) ≡ e ∷ live
     go true q ih = absurd (let a : is_live (e ∷ live) id ≡ true = rw q refl in false≢true (sym h ∙ a))
     go false q ih = (let a : is_live (e ∷ live) id ≡ is_live live id = rw q refl in rw q (ap (λ (ls : List Live). e ∷ ls) (ih (sym a ∙ h))))
-
--- the last constraint taken out again
-pub without-last : (live : List Live) (x : Live) → is_live live x.id ≡ false → without x.id (live ++ x ∷ []) ≡ live
-without-last live x fresh =
-    let p : Live → Bool = λ e. not (eqb e.id.0 x.id.0) in
-    let last : filter p (x ∷ []) ≡ [] = rw (itself x.id.0) refl in
-    filter-append p live (x ∷ []) ∙ ap (λ (ls : List Live). filter p live ++ ls) last ∙ append-nil (filter p live) ∙ without-fresh live x.id fresh
-
-pub loaded-remove : (live : List Live) (p q : PropagatorView) (t : TrailView) (x : Live) → IsLoaded (live ++ x ∷ []) p t → is_live live x.id ≡ false → ChangesOnly p.attached q.attached x.id None → q.variables ≡ p.variables → IsCounted q t → IsLoaded live q t
-loaded-remove live p q t x l fresh change variables counted =
-    let R : List Live → Type 0 = λ ls. IsReady q ls t in
-    let len = length_push live x in
-    record {
-      ready = subst R (without-last live x fresh) (ready-remove p q (live ++ x ∷ []) t x.id l.ready change variables counted);
-      attached = attached-change live p.attached q.attached x.id None fresh change (λ k d h. subst (IsAttached p.attached) (get_or_append_left live (x ∷ []) d k h) (l.attached k d (omega arith)));
-      in_range = λ k d h. subst (IsInRange t.variables) (get_or_append_left live (x ∷ []) d k h) (l.in_range k d (omega arith));
-    }
 
 -- the counted literals are those of a trail that goes on
 pub counted-goes : (p : PropagatorView) (t u : TrailView) → GoesOnFrom t.entries u.entries → IsCounted p t → IsCounted p u
@@ -123,50 +106,6 @@ counted-goes p t u g counted =
     let mapped : map lit u.entries ≡ a ++ map lit rest = ap (map lit) whole ∙ map-append lit t.entries rest in
     ap (take n) mapped ∙ take-append-le n a (map lit rest) (omega arith) ∙ counted
 
--- one learned clause fewer
-pub record HasLast (start live : List Live) (ids : List ConId) (id : ConId) : Type 0 where
-  pub rest : List Live
-  pub last : Live
-  pub under : last.id ≡ id
-  pub fresh : is_live rest last.id ≡ false
-  pub split : live ≡ rest ++ last ∷ []
-  pub added : HasAdded start rest ids
-
-pub last-added : (start live : List Live) (all ids : List ConId) (id : ConId) → HasAdded start live all → all ≡ ids ++ id ∷ [] → HasLast start live ids id
-last-added start live all ids id h q =
-    let d : Live = record { id = id; constraint = record { terms = []; degree = 0 }; proof_id = 0 } in
-    let n : ℕ = length ids in
-    let more : List Live = h.more in
-    let is : map id_of more ≡ ids ++ id ∷ [] = sym h.ids_are ∙ q in
-    let len : length more ≡ n + 1 = sym (length-map more id_of) ∙ ap length is ∙ length_push ids id in
-    let front : List Live = take n more in
-    let last : Live = get_or more n d in
-    let len' = length-take n more in
-    let parts : more ≡ front ++ last ∷ [] = sym (take_all (n + 1) more (omega arith)) ∙ take_more more n d (omega arith) in
-    let under : last.id ≡ id = sym (get_or-map id_of more n d id (omega arith)) ∙ ap (λ (is : List ConId). get_or is n id) is ∙ get_or_push ids id id n refl in
-    let kept : ids ≡ map id_of front = sym (take-append-le n ids (id ∷ []) (omega arith) ∙ take_all n ids (omega arith)) ∙ ap (take n) (sym is) ∙ take-map id_of n more in
-    record {
-      rest = start ++ front;
-      last = last;
-      under = under;
-      fresh = h.fresh n d (omega arith);
-      split = h.split ∙ ap (λ (ls : List Live). start ++ ls) parts ∙ sym (append_assoc start front (last ∷ []));
-      added = record {
-        more = front;
-        split = refl;
-        ids_are = kept;
-        fresh = λ i e l.
-            (let t : take i front ≡ take i more = take-take i n more (omega arith) in
-            let g : get_or front i e ≡ get_or more i e = get_or-take n more i e (omega arith) in
-            ap (λ (ls : List Live). is_live (start ++ ls) (get_or front i e).id) t ∙ ap (λ (x : Live). is_live (start ++ take i more) x.id) g ∙ h.fresh i e (omega arith));
-      };
-    }
-
-pub none-added : (start live : List Live) → HasAdded start live [] → live ≡ start
-none-added start live h =
-    let len : length h.more ≡ 0 = sym (length-map h.more id_of) ∙ ap length (sym h.ids_are) in
-    h.split ∙ ap (λ (ls : List Live). start ++ ls) (sym (take_all 0 h.more (omega arith))) ∙ append-nil start
-
 none-holds : (o : Option ConId) (P : Type 0) → is_some o ≡ false → IfNone o P → P
 none-holds None P e h = h
 none-holds (Some x) P e h = absurd (false≢true (sym e))
@@ -174,3 +113,9 @@ none-holds (Some x) P e h = absurd (false≢true (sym e))
 -- what holds where an answer is none
 pub closed-none : (o : Option ConId) (b : Bool) (P : Type 0) → b ≡ is_some o → b ≡ false → IfNone o P → P
 closed-none o b P e f h = none-holds o P (sym e ∙ f) h
+
+-- what was counted stays so where only the attached constraints change
+pub counted-same : (p q : PropagatorView) (t : TrailView) → q ≡ record p { attached = q.attached } → IsCounted p t → IsCounted q t
+counted-same p q t e counted =
+    let N : List Literal → Type 0 = λ ls. take (length ls) (map (λ (x : Entry). x.lit) t.entries) ≡ ls in
+    subst N (sym (ap (λ (x : PropagatorView). x.counted) e)) counted

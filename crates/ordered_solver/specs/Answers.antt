@@ -70,3 +70,13 @@ pub record IsAgreed (f : Frame) (old new : SolverValue) (order : List Literal) (
 
 abbrev pub AnswersInFrames : SolverValue → SolverValue → List Literal → Answer → Type 0
 AnswersInFrames old new order answer = (f : Frame) → Agrees f old → IsAgreed f old new order answer
+
+-- what an answer says of how new its lines are: no line's clause is absorbed by a base and the clauses before it, but where there is no model a last line gives `0 >= 1`
+abbrev pub AreNewSays : Frame → Given → List Linear → List Line → Answer → Type 0
+AreNewSays f before base ls (Model values) = AreHonestSteps f before base ls
+AreNewSays f before base ls Nothing = IsRefutation f before base ls
+AreNewSays f before base ls Budget = AreHonestSteps f before base ls
+
+-- in each frame that agrees with the solver before, over the given constraints and the clauses that were kept when the call began
+abbrev pub AreNewOverKept : SolverValue → SolverValue → Answer → Type 0
+AreNewOverKept old new answer = (f : Frame) (a : Agrees f old) → AreNewSays f a.given (constraints_of old.given ++ constraints_of old.kept) (new_lines old.log new.log) answer

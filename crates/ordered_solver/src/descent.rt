@@ -66,7 +66,7 @@ impl Engine {
         ensures variables { self.new.trail.variables ≡ self.old.trail.variables }
         ensures store { self.new.store ≡ self.old.store }
         ensures log { self.new.log ≡ self.old.log }
-        ensures learned { self.new.learned ≡ self.old.learned }
+        ensures kept { self.new.kept.items ≡ self.old.kept.items }
         ensures few { length self.new.trail.entries ≤ self.new.trail.variables }
     {
         loop {

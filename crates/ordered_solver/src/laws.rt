@@ -20,7 +20,7 @@ pub fn law_of_words()
 /// A frame whose base are a new solver's constraints agrees with it. It goes on agreeing when variables are added, when a
 /// constraint is that stands under its id, and when a cover of small numbers is.
 pub fn law_of_agreement()
-    ensures new { (f : Frame) (variables : ℕ) (spent : Bool) → IsFrame f → length f.base + 1 < 2 ^ 62 → Agrees f (record { variables = variables; given = numbered 1 f.base; log = record { first = length f.base + 1; lines = [] }; spent = spent }) }
+    ensures new { (f : Frame) (variables : ℕ) (spent : Bool) → IsFrame f → length f.base + 1 < 2 ^ 62 → Agrees f (record { variables = variables; given = numbered 1 f.base; kept = []; log = record { first = length f.base + 1; lines = [] }; spent = spent }) }
     ensures variables { (f : Frame) (s : SolverValue) (variables : ℕ) → Agrees f s → Agrees f (record s { variables = variables }) }
     ensures constraint { (f : Frame) (s : SolverValue) (c : Content) (a : Agrees f s) → StandsIn (context_of a.given) c → Agrees f (record s { given = s.given ++ c ∷ [] }) }
     ensures cover { (f : Frame) (s : SolverValue) (v : List ℕ) → Agrees f s → list_all small_number v ≡ true → Agrees f (record s { log = record s.log { lines = s.log.lines ++ cover v ∷ [] } }) }

@@ -1,8 +1,8 @@
 //! From a conflict to the next trail: the learned clause, the jump back, and the literal that the clause then forces.
 //!
 //! The analysis of the conflict is that of `conflict_graph`, which also writes the log's line. The clause is added and
-//! attached here, so that it stays live until the search ends. At level 0 the clause is `0 >= 1`, and there is nothing to
-//! go on with. Learning by jumps back is that of Marques-Silva and Sakallah.
+//! attached here, so that it stays live until the search ends, and its id is put last among the kept ones. At level 0 the
+//! clause is `0 >= 1`, and there is nothing to go on with. Learning by jumps back is that of Marques-Silva and Sakallah.
 
 ghost use Rattle.std.specs.Prelude.{◌≡◌, ◌<◌, ◌++◌, ◌∷◌, [], IfOk, OnOk};
 ghost use Rattle.pb_rules.specs.Partial.{InConflict};
@@ -43,7 +43,7 @@ impl Engine {
         requires current { HasCurrent self.old.trail.entries (constraint_of self.old.store conflict).terms }
         requires forced { AllForced self.old.store self.old.trail.variables self.old.trail.entries }
         ensures learns { IfOk result (Learns self.old.store self.new.store self.old.propagator.attached self.new.propagator.attached self.old.trail.entries self.new.trail.entries self.old.log self.new.log) }
-        ensures id { IfOk result (λ id. self.new.learned.items ≡ self.old.learned.items ++ id ∷ []) }
+        ensures id { IfOk result (λ id. self.new.kept.items ≡ self.old.kept.items ++ id ∷ []) }
         ensures loaded { OnOk result (IsLoaded self.new.store self.new.propagator self.new.trail) }
         ensures variables { self.new.trail.variables ≡ self.old.trail.variables }
     {
@@ -54,20 +54,25 @@ impl Engine {
         let lit = unassigned_literal(&lesson.clause, &self.trail);
         let id = self.add(lesson.clause, lesson.proof_id)?;
         self.trail.push(lit, id);
-        self.learned.push(id)?;
+        self.kept.push_back(id)?;
         Ok(id)
     }
 
-    /// Derives `0 >= 1` from a conflict at level 0.
-    pub fn refute(&mut self, alloc: Global, conflict: ConId) -> Result<(), AllocError>
+    /// Derives `0 >= 1` from a conflict at level 0, and adds it.
+    pub fn refute(&mut self, alloc: Global, conflict: ConId) -> Result<ConId, AllocError>
+        requires loaded { IsLoaded self.old.store self.old.propagator self.old.trail }
         requires usable { IsUsable self.old.store self.old.trail.variables conflict }
         requires conflict { InConflict (value_in self.old.trail.entries) (constraint_of self.old.store conflict) }
         requires level { level_of self.old.trail.entries ≡ 0 }
         requires forced { AllForced self.old.store self.old.trail.variables self.old.trail.entries }
-        ensures refutes { OnOk result (Refutes self.old.store self.old.log self.new.log) }
-        ensures same { self.new ≡ record self.old { log = self.new.log } }
+        ensures refutes { IfOk result (Refutes self.old.store self.new.store self.old.log self.new.log) }
+        ensures id { IfOk result (λ id. self.new.kept.items ≡ self.old.kept.items ++ id ∷ []) }
+        ensures loaded { OnOk result (IsLoaded self.new.store self.new.propagator self.new.trail) }
+        ensures trail { self.new.trail ≡ self.old.trail }
     {
-        analyse(alloc, &self.trail, &self.store, conflict, &mut self.log)?;
-        Ok(())
+        let lesson = analyse(alloc, &self.trail, &self.store, conflict, &mut self.log)?;
+        let id = self.add(lesson.clause, lesson.proof_id)?;
+        self.kept.push_back(id)?;
+        Ok(id)
     }
 }

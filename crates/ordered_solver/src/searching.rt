@@ -2,12 +2,12 @@
 //!
 //! Each conflict raises the trail's word, a binary number with a digit for each entry, which is 1 where the entry was
 //! forced and 0 where it was decided. So there are at most as many conflicts as words. The search changes its engine
-//! alone, whose learned clauses stay until `drop_learned`. The loop is that of Davis, Putnam, Logemann and Loveland, with
+//! alone, whose clauses all stay until it has ended. The loop is that of Davis, Putnam, Logemann and Loveland, with
 //! the learning of Marques-Silva and Sakallah.
 
 ghost use Rattle.std.specs.Prelude.{◌≡◌, ◌<◌, [], length, All, IfOk, OnOk};
-ghost use Rattle.ordered_solver.specs.Engines.{IsLoaded, IsIdle, HasAdded};
-ghost use Rattle.ordered_solver.specs.Lessons.{IsFound};
+ghost use Rattle.ordered_solver.specs.Engines.{IsLoaded, IsIdle, HasKeptIds};
+ghost use Rattle.ordered_solver.specs.Lessons.{IsFound, HasAdded, GoesOnKept};
 ghost use Rattle.ordered_solver.specs.Trails.{IsVarBelow, Covers, HasValues};
 
 use super::answer::Answer;
@@ -39,13 +39,12 @@ impl Engine {
     ) -> Result<Answer, AllocError>
         requires loaded { IsLoaded self.old.store self.old.propagator self.old.trail }
         requires nothing { self.old.trail.entries ≡ [] }
-        requires none_learned { self.old.learned.items ≡ [] }
         requires in_range { All (IsVarBelow self.old.trail.variables) order.now }
         requires covers { Covers order.now self.old.trail.variables }
         requires every { length order.now ≡ self.old.trail.variables }
         requires some { 0 < budget }
         ensures found { IfOk result (IsFound self.old.store self.old.log self.new.log order.now self.old.trail.variables budget) }
-        ensures added { OnOk result (HasAdded self.old.store self.new.store self.new.learned.items) }
+        ensures added { OnOk result (HasAdded self.old.store self.new.store self.old.kept.items self.new.kept.items self.old.log self.new.log) }
         ensures loaded { OnOk result (IsLoaded self.new.store self.new.propagator self.new.trail) }
         ensures variables { self.new.trail.variables ≡ self.old.trail.variables }
     {
@@ -68,20 +67,23 @@ impl Engine {
         }
     }
 
-    /// Searches, and then takes everything off the trail and drops what was learned.
+    /// Searches, and then takes everything off the trail and drops the oldest clauses.
     pub fn solve(&mut self, alloc: Global, order: &Order, budget: u64) -> Result<Answer, AllocError>
-        requires idle { IsIdle self.old.store self.old.propagator self.old.trail self.old.learned.items }
+        requires idle { IsIdle self.old.store self.old.propagator self.old.trail }
+        requires listed { HasKeptIds self.old.store self.old.kept.items self.old.log }
         requires every { length order.now ≡ self.old.trail.variables }
         requires some { 0 < budget }
         ensures found { IfOk result (IsFound self.old.store self.old.log self.new.log order.now self.old.trail.variables budget) }
-        ensures idle { OnOk result (IsIdle self.new.store self.new.propagator self.new.trail self.new.learned.items) }
-        ensures store { OnOk result (self.new.store ≡ self.old.store) }
+        ensures idle { OnOk result (IsIdle self.new.store self.new.propagator self.new.trail) }
+        ensures listed { OnOk result (HasKeptIds self.new.store self.new.kept.items self.new.log) }
+        ensures kept { OnOk result (GoesOnKept self.old.store self.new.store self.old.log self.new.log) }
         ensures variables { OnOk result (self.new.trail.variables ≡ self.old.trail.variables) }
     {
         let answer = self.search(alloc, order.literals(), budget)?;
         self.trail.clear();
         self.propagator.back(&self.trail);
-        self.drop_learned();
+        self.drop_oldest();
+        self.close_gaps();
         Ok(answer)
     }
 }

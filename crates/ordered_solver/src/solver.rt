@@ -1,16 +1,16 @@
 //! The solver: given constraints and the log of what was derived from them, over calls that ask for the first model.
 //!
-//! Between two calls a solver holds its given constraints alone, each under the id that the proof has for it. A call
-//! adds lines to the log and leaves the constraints as they were. After want of memory a solver is spent, and each later
+//! Between two calls a solver holds its given constraints, each under the id that the proof has for it, and the clauses
+//! of the last lines of its log. A call adds lines to the log and leaves the given constraints as they were. After want of memory a solver is spent, and each later
 //! call that could fail for want of memory does. What a frame is, and where a line is legal in it, `pb_rules` says; no
 //! specification is known here. The parts stand in `engine`, the search in `searching`.
 
-ghost use Rattle.std.specs.Prelude.{◌≡◌, ◌<◌, ◌^◌, ◌+◌, ◌++◌, ◌∷◌, [], true, false, length, All, IfOk, OnOk, OnErr};
+ghost use Rattle.std.specs.Prelude.{◌≡◌, ◌<◌, ◌^◌, ◌+◌, ◌++◌, ◌∷◌, [], true, false, length, min, All, IfOk, OnOk, OnErr};
 ghost use Rattle.pb_rules.specs.Linear.{VarsBelow};
-ghost use Rattle.pb_rules.specs.Frames.{cover};
+ghost use Rattle.pb_rules.specs.Frames.{cover, derived_count};
 ghost use Rattle.proof_log.specs.Log.{next_id};
-ghost use Rattle.ordered_solver.specs.Answers.{AnswerSays, AnswersInFrames, CountSays, GoesOnDerived, new_lines};
-ghost use Rattle.ordered_solver.specs.Solver.{constraints_of, numbered, IsGivenId, HasGivenId};
+ghost use Rattle.ordered_solver.specs.Answers.{AnswerSays, AnswersInFrames, AreNewOverKept, CountSays, GoesOnDerived, new_lines};
+ghost use Rattle.ordered_solver.specs.Solver.{constraints_of, numbered, kept_limit, AreKept, IsGivenId, HasGivenId};
 
 use super::answer::Answer;
 use super::engine::Engine;
@@ -23,7 +23,8 @@ use std::alloc::{AllocError, Global};
 use std::marker::Model;
 use trail_state::Trail;
 
-/// Given constraints, each with the id that the proof has for it, and the log of what was derived from them.
+/// Given constraints, each with the id that the proof has for it, the log of what was derived from them, and the clauses
+/// of its last lines.
 #[derive(Drop, Debug)]
 pub struct Solver {
     engine: Engine,
@@ -31,22 +32,20 @@ pub struct Solver {
 }
 
 impl Model for Solver {
-    ghost use Rattle.std.specs.Prelude.{map};
-    ghost use Rattle.constraint_store.specs.Live.{content};
-    ghost use Rattle.ordered_solver.specs.Engines.{IsSolver};
+    ghost use Rattle.ordered_solver.specs.Engines.{IsSolver, given_of, kept_of};
     ghost use Rattle.ordered_solver.specs.Solver.{SolverValue};
 
     ghost Value = { SolverValue };
 
-    ghost view = { λ s. record { variables = s.engine.trail.variables; given = map content s.engine.store; log = s.engine.log; spent = s.spent } };
+    ghost view = { λ s. record { variables = s.engine.trail.variables; given = given_of s.engine.log s.engine.store; kept = kept_of s.engine.log s.engine.store; log = s.engine.log; spent = s.spent } };
 
-    ghost invariant = { λ s. IsSolver s.engine.store s.engine.propagator s.engine.trail s.engine.learned.items s.engine.log s.spent };
+    ghost invariant = { λ s. IsSolver s.engine.store s.engine.propagator s.engine.trail s.engine.kept.items s.engine.log s.spent };
 }
 
 impl Solver {
     /// A solver over a set of constraints, which the proof has under the ids 1, 2 and so on. Its log begins after them.
     pub fn new(alloc: Global, set: Set) -> Result<Solver, AllocError>
-        ensures ok { IfOk result (λ s. s ≡ record { variables = set.variables; given = numbered 1 set.constraints; log = record { first = length set.constraints + 1; lines = [] }; spent = false }) }
+        ensures ok { IfOk result (λ s. s ≡ record { variables = set.variables; given = numbered 1 set.constraints; kept = []; log = record { first = length set.constraints + 1; lines = [] }; spent = false }) }
         ensures few { OnOk result (length set.constraints + 1 < 2 ^ 62) }
     {
         let variables = set.variables();
@@ -92,17 +91,18 @@ impl Solver {
             return Err(AllocError);
         }
         self.spent = true;
-        let copied = c.copy(*self.engine.learned.allocator())?;
+        let copied = c.copy(*self.engine.kept.allocator())?;
         self.engine.add(copied, proof_id)?;
         self.spent = false;
         Ok(())
     }
 
-    /// Writes a cover to the log, and answers the first id of its block.
+    /// Writes a cover to the log, and answers the first id of its block. All ids of the block are below 2^63.
     pub fn cover(&mut self, v: &[u64]) -> Result<u64, AllocError>
         ensures id { IfOk result (λ id. id ≡ next_id self.old.log) }
         ensures in_range { IfOk result (λ id. id < 2 ^ 63) }
         ensures ok { OnOk result (self.new ≡ record self.old { log = record self.old.log { lines = self.old.log.lines ++ cover v.now ∷ [] } }) }
+        ensures room { OnOk result (next_id self.new.log < 2 ^ 63) }
         ensures ready { OnOk result (self.old.spent ≡ false) }
         ensures spent { OnErr result (self.new.spent ≡ true) }
         ensures still { self.old.spent ≡ true → self.new ≡ self.old }
@@ -131,11 +131,22 @@ impl Solver {
         self.engine.log
     }
 
+    /// How many clauses of earlier calls are kept: one for each derived line of the log, but at most 4,096. They are the
+    /// last ones that were learned. Each stands under the id of its line, and each model of the given constraints
+    /// satisfies them.
+    pub fn kept(&self) -> usize
+        ensures count { self.now.spent ≡ false → result ≡ min kept_limit (derived_count self.now.log.lines) }
+        ensures kept { self.now.spent ≡ false → result ≡ length self.now.kept }
+        ensures are_kept { self.now.spent ≡ false → AreKept self.now.given self.now.kept self.now.log }
+    {
+        self.engine.kept.len()
+    }
+
     /// The first model of the given constraints in the order, or that there is none; or `Budget` once as many clauses
     /// were learned as the budget has. Each conflict adds one derived line to the log and nothing else does. In each frame
-    /// that agrees with the solver the lines are legal, each gives a clause that the given constraints and the clauses
-    /// before it do not absorb, and where there is no model the last one gives `0 >= 1`. After a model the log shows that
-    /// it is the first.
+    /// that agrees with the solver the lines are legal, each gives a clause that the given constraints, the kept clauses
+    /// and the clauses before it do not absorb, and where there is no model the last one gives `0 >= 1`. After a model
+    /// the log shows that it is the first. What was kept when the call begins changes none of this.
     pub fn solve(&mut self, alloc: Global, order: &Order, budget: u64) -> Result<Answer, AllocError>
         requires every { length order.now ≡ self.old.variables }
         requires some { 0 < budget }
@@ -143,7 +154,8 @@ impl Solver {
         ensures count { IfOk result (CountSays self.old.variables budget (length (new_lines self.old.log self.new.log))) }
         ensures log { OnOk result (GoesOnDerived self.old.log self.new.log) }
         ensures frames { IfOk result (AnswersInFrames self.old self.new order.now) }
-        ensures same { OnOk result (self.new ≡ record self.old { log = self.new.log }) }
+        ensures new { IfOk result (AreNewOverKept self.old self.new) }
+        ensures same { OnOk result (self.new ≡ record self.old { kept = self.new.kept; log = self.new.log }) }
         ensures ready { OnOk result (self.old.spent ≡ false) }
         ensures spent { OnErr result (self.new.spent ≡ true) }
         ensures still { self.old.spent ≡ true → self.new ≡ self.old }

@@ -98,33 +98,41 @@ Added-more slot ts i t lists mid new p h is lt e =
 abbrev pub is_other : ℕ → Occurrence → Bool
 is_other slot o = not (eqb o.slot slot)
 
-weight_at-filtered : (os : List Occurrence) (slot : ℕ) → weight_at slot (filter (is_other slot) os) ≡ 0
-weight_at-filtered [] slot = refl
-weight_at-filtered (o ∷ os) slot = go (eqb o.slot slot) refl (weight_at-filtered os slot)
+-- what a filter leaves of a slot, where it takes each of its occurrences or none
+pub weight_at-gone : (p : Occurrence → Bool) (i : ℕ) (os : List Occurrence) → ((o : Occurrence) → o.slot ≡ i → p o ≡ false) → weight_at i (filter p os) ≡ 0
+weight_at-gone p i [] h = refl
+weight_at-gone p i (o ∷ os) h = go (p o) refl (weight_at-gone p i os h)
   where
-    go : (b : Bool) → eqb o.slot slot ≡ b → weight_at slot (filter (is_other slot) os) ≡ 0 → weight_at slot (filter (is_other slot) (o ∷ os)) ≡ 0
-    go true q ih = rw q ih
-    go false q ih =
-        let a = sum_by-cons (λ (o : Occurrence). cond (eqb o.slot slot) o.coef 0) o (filter (is_other slot) os) in
-        let b : cond (eqb o.slot slot) o.coef 0 ≡ 0 = rw q refl in
-        let c : weight_at slot (o ∷ filter (is_other slot) os) ≡ 0 = omega (arith, a, b, ih) in
+    go : (b : Bool) → p o ≡ b → weight_at i (filter p os) ≡ 0 → weight_at i (filter p (o ∷ os)) ≡ 0
+    go false q ih = rw q ih
+    go true q ih =
+        let n : o.slot ≢ i = λ z. (let f = h o z in absurd (cc)) in
+        let a = sum_by-cons (λ (o : Occurrence). cond (eqb o.slot i) o.coef 0) o (filter p os) in
+        let b = ap (λ (x : Bool). cond x o.coef 0) (miss o.slot i n) in
+        let c : weight_at i (o ∷ filter p os) ≡ 0 = omega (arith, a, b, ih) in
         rw q c
 
-weight_at-kept : (os : List Occurrence) (slot i : ℕ) → i ≢ slot → weight_at i (filter (is_other slot) os) ≡ weight_at i os
-weight_at-kept [] slot i n = refl
-weight_at-kept (o ∷ os) slot i n = go (eqb o.slot slot) refl (weight_at-kept os slot i n)
+pub weight_at-kept : (p : Occurrence → Bool) (i : ℕ) (os : List Occurrence) → ((o : Occurrence) → o.slot ≡ i → p o ≡ true) → weight_at i (filter p os) ≡ weight_at i os
+weight_at-kept p i [] h = refl
+weight_at-kept p i (o ∷ os) h = go (p o) refl (weight_at-kept p i os h)
   where
-    go : (b : Bool) → eqb o.slot slot ≡ b → weight_at i (filter (is_other slot) os) ≡ weight_at i os → weight_at i (filter (is_other slot) (o ∷ os)) ≡ weight_at i (o ∷ os)
-    go true q ih =
-        let e : o.slot ≡ slot = grind (arith, nat_tests) in
-        let a = sum_by-cons (λ (o : Occurrence). cond (eqb o.slot i) o.coef 0) o os in
-        let b : cond (eqb o.slot i) o.coef 0 ≡ 0 = ap (λ (x : Bool). cond x o.coef 0) (miss o.slot i (λ z. n (sym z ∙ e))) in
-        let c : weight_at i (o ∷ os) ≡ weight_at i (filter (is_other slot) os) = omega (arith, a, b, ih) in
-        rw q (sym c)
+    go : (b : Bool) → p o ≡ b → weight_at i (filter p os) ≡ weight_at i os → weight_at i (filter p (o ∷ os)) ≡ weight_at i (o ∷ os)
     go false q ih =
+        let n : o.slot ≢ i = λ z. (let f = h o z in absurd (cc)) in
+        let a = sum_by-cons (λ (o : Occurrence). cond (eqb o.slot i) o.coef 0) o os in
+        let b = ap (λ (x : Bool). cond x o.coef 0) (miss o.slot i n) in
+        let c : weight_at i (o ∷ os) ≡ weight_at i (filter p os) = omega (arith, a, b, ih) in
+        rw q (sym c)
+    go true q ih =
         let f : Occurrence → ℕ = λ (o : Occurrence). cond (eqb o.slot i) o.coef 0 in
-        let c : weight_at i (o ∷ filter (is_other slot) os) ≡ weight_at i (o ∷ os) = sum_by-cons f o (filter (is_other slot) os) ∙ ap (λ (m : ℕ). f o + m) ih ∙ sym (sum_by-cons f o os) in
+        let c : weight_at i (o ∷ filter p os) ≡ weight_at i (o ∷ os) = sum_by-cons f o (filter p os) ∙ ap (λ (m : ℕ). f o + m) ih ∙ sym (sum_by-cons f o os) in
         rw q c
+
+is_other-own : (slot : ℕ) (o : Occurrence) → o.slot ≡ slot → is_other slot o ≡ false
+is_other-own slot o e = ap not (hit o.slot slot e)
+
+is_other-else : (slot i : ℕ) → i ≢ slot → (o : Occurrence) → o.slot ≡ i → is_other slot o ≡ true
+is_other-else slot i n o e = ap not (miss o.slot slot (λ z. n (sym e ∙ z)))
 
 pub Removed-none : (slot : ℕ) (ts : List Term) (lists : List (List Occurrence)) → ((k : ℕ) → weight_at slot (occurrences_of lists k) ≤ weight_of k ts) → Removed slot (drop 0 ts) lists lists
 Removed-none slot ts lists h = record { same_length = refl; own = λ k. h k; others = λ i k n. refl; inside = λ n k p. p }
@@ -142,7 +150,7 @@ Removed-more slot ts i t lists mid new p h is lt e =
       own = λ k. elim (cases_eq k k0) [
         | inl q ↦ (
             let Q : ℕ → Type 0 = λ j. weight_at slot (occurrences_of (set mid k0 os) j) ≤ weight_of j (drop (i + 1) ts) in
-            let a = ap (weight_at slot) (occurrences-same mid k0 os lt') ∙ weight_at-filtered (occurrences_of mid k0) slot in
+            let a = ap (weight_at slot) (occurrences-same mid k0 os lt') ∙ weight_at-gone (is_other slot) slot (occurrences_of mid k0) (is_other-own slot) in
             subst Q (sym q) (omega (arith, a)))
         | inr n ↦ (
             let a = ap (weight_at slot) (occurrences-other mid k0 k os n) in
@@ -154,7 +162,7 @@ Removed-more slot ts i t lists mid new p h is lt e =
       others = λ j k n. elim (cases_eq k k0) [
         | inl q ↦ (
             let Q : ℕ → Type 0 = λ m. weight_at j (occurrences_of (set mid k0 os) m) ≡ weight_at j (occurrences_of lists m) in
-            let a = ap (weight_at j) (occurrences-same mid k0 os lt') ∙ weight_at-kept (occurrences_of mid k0) slot j n ∙ p.others j k0 n in
+            let a = ap (weight_at j) (occurrences-same mid k0 os lt') ∙ weight_at-kept (is_other slot) j (occurrences_of mid k0) (is_other-else slot j n) ∙ p.others j k0 n in
             subst Q (sym q) a)
         | inr m ↦ (ap (weight_at j) (occurrences-other mid k0 k os m) ∙ p.others j k n)
       ];

@@ -1,5 +1,5 @@
 -- The conditions of `attach` and `run` are kept by each of the calls on propagator, store and trail.
-use Rattle.std.proofs.Common.{◌≡◌, ◌≢◌, ℕ, Bool, true, cond, eqb, Option, Some, None, List, [], ◌∷◌, ◌++◌, get_or, zero, suc, refl, sym, ap, ◌∙◌, subst, inl, inr, ◌⊎◌, IsTrue, ◌<◌, ◌≤◌, length, take, map, arith}
+use Rattle.std.proofs.Common.{◌≡◌, ◌≢◌, ℕ, Bool, true, cond, eqb, Option, Some, None, List, [], ◌∷◌, ◌++◌, get_or, zero, suc, refl, sym, ap, ◌∙◌, subst, inl, inr, ◌⊎◌, IsTrue, length, take, map, arith}
 use Rattle.std.proofs.lemmas.Bool.{cases_eq, cases_lt}
 use Rattle.std.proofs.lemmas.List.{take-map, take-take}
 use Rattle.pb_constraints.specs.declared.ConId.{ConId}
@@ -8,8 +8,9 @@ use Rattle.pb_rules.specs.Linear.{Linear}
 use Rattle.constraint_store.specs.Live.{Live, is_live, constraint_of, without, Content, new_id, IsOneToOne, IsRenaming}
 use Rattle.constraint_store.proofs.Laws.{is_live_added, live_at_added, live_at_removed, live_at_renamed}
 use Rattle.trail_state.specs.Trail.{Entry, TrailView}
-use Rattle.propagate.specs.Attached.{Attached, attached_at, ChangesOnly, IsMoved}
+use Rattle.propagate.specs.Attached.{Attached, attached_at, ChangesOnly, Drops, IsMoved}
 use Rattle.propagate.specs.Propagator.{PropagatorView, IsCounted, IsAlong, IsReady}
+use Rattle.propagate.proofs.Dropping.{among, drops-gone}
 use Rattle.propagate.proofs.Attaching.{same_id}
 
 abbrev other_number : (c d : ConId) → d.0 ≢ c.0 → d ≢ c
@@ -95,6 +96,27 @@ ready-remove p q store t c r change variables counted = record {
 
     before : (d : ConId) (k : Linear) → attached_at q.attached d ≡ Some k → d.0 ≢ c.0 → attached_at p.attached d ≡ Some k
     before d k h n = sym (change.others d (other_number c d n)) ∙ h
+
+-- after a constraint that isn't attached was removed from the store
+pub ready-free : (p : PropagatorView) (store : List Live) (t : TrailView) (c : ConId) → IsReady p store t → attached_at p.attached c ≡ None → IsReady p (without c store) t
+ready-free p store t c r h = ready-remove p p store t c r (record { here = h; others = λ d n. refl }) refl r.counted
+
+-- after constraints were detached
+pub ready-drop : (p q : PropagatorView) (store : List Live) (t : TrailView) (ids : List ConId) → IsReady p store t → Drops ids p.attached q.attached → q.variables ≡ p.variables → IsCounted q t → IsReady q store t
+ready-drop p q store t ids r drops variables counted = record {
+  variables = variables ∙ r.variables;
+  live = λ d k h. r.live d k (before d k h);
+  stored = λ d k h. r.stored d k (before d k h);
+  counted = counted;
+}
+  where
+    before : (d : ConId) (k : Linear) → attached_at q.attached d ≡ Some k → attached_at p.attached d ≡ Some k
+    before d k h = elim (among ids d) [
+      | inl w ↦ (
+          let gone : attached_at q.attached d ≡ None = drops-gone ids p.attached q.attached d drops w in
+          absurd (cc))
+      | inr n ↦ sym (drops.others d n) ∙ h
+    ]
 
 -- an id that one goes to, or that none goes to
 reached : (ids : List (Option ConId)) (d : ConId) → ((n : ℕ) × (get_or ids n None ≡ Some d)) ⊎ ((n : ℕ) → get_or ids n None ≢ Some d)

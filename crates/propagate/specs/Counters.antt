@@ -1,5 +1,5 @@
 -- Rooms that are kept up to date, and what may be left unlooked at.
-use Rattle.std.specs.Prelude.{ℕ, Bool, Option, Some, None, false, ◌≡◌, ◌≢◌, ◌==◌, ◌+◌, ◌*◌, ◌<◌, ◌≤◌, ◌^◌, ◌⊎◌, List, [], ◌∷◌, All, sum_by, take, length, slice_index_or, unwrap_or, if◌then◌else◌}
+use Rattle.std.specs.Prelude.{ℕ, Bool, Option, Some, None, false, ◌≡◌, ◌≢◌, ◌==◌, ◌+◌, ◌*◌, ◌<◌, ◌≤◌, ◌^◌, ◌⊎◌, List, [], ◌∷◌, All, sum_by, take, drop, length, slice_index_or, unwrap_or, is_some, if◌then◌else◌}
 use Rattle.pb_constraints.specs.declared.ConId.{ConId}
 use Rattle.pb_rules.specs.declared.Term.{Term}
 use Rattle.pb_rules.specs.Literal.{Literal}
@@ -45,6 +45,10 @@ weight_at i os = sum_by (λ o. if o.slot == i then o.coef else 0) os
 abbrev pub occurrences_of : List (List Occurrence) → ℕ → List Occurrence
 occurrences_of lists k = slice_index_or lists k []
 
+-- whether the slot of an occurrence is filled
+abbrev pub is_filled : List (Option Linear) → Occurrence → Bool
+is_filled slots o = is_some (slice_index_or slots o.slot None)
+
 -- each slot is below n
 abbrev pub SlotsBelow : ℕ → List Occurrence → Type 0
 SlotsBelow n os = All (λ o. o.slot < n) os
@@ -58,6 +62,11 @@ pub record IsLimited (limit : ℕ) (c : Linear) : Type 0 where
 pub record IsQuiet (room : ℕ) (q : ℕ → Option Bool) (c : Linear) : Type 0 where
   pub no_conflict : c.degree ≤ room
   pub none_forced : All (λ t. q t.lit.var ≡ None → c.degree + t.coef ≤ room) c.terms
+
+-- the same, but for forcing literals that were taken off
+pub record IsQuietBut (room : ℕ) (q : ℕ → Option Bool) (off : List Literal) (c : Linear) : Type 0 where
+  pub no_conflict : c.degree ≤ room
+  pub none_forced : All (λ t. q t.lit.var ≡ None → value_of off t.lit.var ≢ Some t.lit.yes → c.degree + t.coef ≤ room) c.terms
 
 -- the lists of occurrences and the limits are those of the slots
 pub record IsBuilt (n : ℕ) (slots : List (Option Linear)) (limits : List ℕ) (lists : List (List Occurrence)) : Type 0 where
@@ -86,6 +95,14 @@ pub record IsInStep (n : ℕ) (slots : List (Option Linear)) (rooms : List ℕ) 
   pub below : All (λ l. l.var < n) ls
   pub quiet : (i : ℕ) → is_waiting waiting i ≡ false → IsQuiet (slice_index_or rooms i 0) q (linear_at slots i)
 
+-- the rooms are those under the counted literals, and each constraint that doesn't wait is quiet but for forcing literals that were taken off
+pub record IsGivenBack (n : ℕ) (slots : List (Option Linear)) (rooms : List ℕ) (waiting : List Bool) (ls off : List Literal) : Type 0 where
+  pub sums : (i : ℕ) → slice_index_or rooms i 0 ≡ open_weight (value_of ls) (linear_at slots i).terms
+  pub distinct : AreDistinct ls
+  pub below : All (λ l. l.var < n) ls
+  pub off_below : All (λ l. l.var < n) off
+  pub quiet : (i : ℕ) → is_waiting waiting i ≡ false → IsQuietBut (slice_index_or rooms i 0) (value_of ls) off (linear_at slots i)
+
 -- the counted literals
 abbrev pub counted_of : Counters → List Literal
 counted_of c = take c.used c.lits.items
@@ -100,6 +117,14 @@ pub record AreBuilt (c : Counters) : Type 0 where
 -- and how far they have counted
 abbrev pub AreInStep : Counters → (ℕ → Option Bool) → Type 0
 AreInStep c q = IsInStep c.variables c.slots.items c.rooms.items c.waiting (counted_of c) q
+
+-- what these literals took was given back, and nobody is woken yet that may force them anew
+abbrev pub AreGivenBack : List Literal → Counters → Type 0
+AreGivenBack off c = IsGivenBack c.variables c.slots.items c.rooms.items c.waiting (counted_of c) off
+
+-- the literals that were taken off, where so many were counted before
+abbrev pub taken_off : ℕ → Counters → List Literal
+taken_off top c = drop c.used (take top c.lits.items)
 
 -- the rooms are those under the counted literals
 abbrev pub AreSummed : Counters → Type 0
@@ -140,6 +165,12 @@ pub record Removed (slot : ℕ) (ts : List Term) (lists lists' : List (List Occu
 pub record IsPut (slot : ℕ) (o : Option Linear) (old new : List (Option Linear)) : Type 0 where
   pub here : slice_index_or new slot None ≡ o
   pub others : (i : ℕ) → i ≢ slot → slice_index_or new i None ≡ slice_index_or old i None
+
+-- each slot is as before, with its room, or is empty without any
+pub record AreCleared (slots slots' : List (Option Linear)) (rooms rooms' : List ℕ) : Type 0 where
+  pub same_slots : length slots' ≡ length slots
+  pub same_rooms : length rooms' ≡ length rooms
+  pub each : (i : ℕ) → ((slice_index_or slots' i None ≡ slice_index_or slots i None) × (slice_index_or rooms' i 0 ≡ slice_index_or rooms i 0)) ⊎ ((slice_index_or slots' i None ≡ None) × (slice_index_or rooms' i 0 ≡ 0))
 
 -- an occurrence of one slot in another
 abbrev pub moved_to : ℕ → ℕ → Occurrence → Occurrence

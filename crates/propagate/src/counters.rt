@@ -8,22 +8,25 @@
 //! under the trail. A constraint in conflict goes on waiting.
 //!
 //! The counters are those of Chai and Kuehlmann; the list of those that wait takes no memory during a run.
-ghost use Rattle.std.specs.Prelude.{◌≡◌, ◌≢◌, ◌<◌, ◌≤◌, ◌^◌, ◌+◌, ◌*◌, ℕ, Bool, [], ◌++◌, ◌∷◌, All, map, take, length, slice_index_or, slice_set, true, false, Some, None, IsTrue, is_some, IfOk, OnOk, OnErr, IfSome, IfNone};
+ghost use Rattle.std.specs.Prelude.{◌≡◌, ◌≢◌, ◌<◌, ◌≤◌, ◌^◌, ◌+◌, ◌*◌, ℕ, Bool, [], ◌++◌, ◌∷◌, List, All, map, take, length, slice_index_or, slice_set, true, false, Some, None, IsTrue, is_some, IfOk, OnOk, OnErr, IfSome, IfNone};
 ghost use Rattle.pb_rules.specs.Linear.{VarsBelow, total};
 ghost use Rattle.pb_rules.specs.Partial.{open_weight};
+ghost use Rattle.pb_rules.specs.Literal.{Literal};
 ghost use Rattle.pb_constraints.specs.declared.ConId.{ConId};
 ghost use Rattle.constraint_store.specs.Live.{new_id};
 ghost use Rattle.trail_state.specs.Trail.{value_in};
+ghost use Rattle.propagate.specs.Attached.{Drops};
 ghost use Rattle.propagate.specs.Forced.{Appends, IsConflict};
-ghost use Rattle.propagate.specs.Counters.{IsQuiet, IsLimited, SlotsBelow, weight_at, TookRooms, GaveRooms, Woke, AreBuilt, AreInStep, AreSummed, counted_of, value_of, linear_at, attached_from, occurrences_of, weight_of, IsPut, IsMovedSlot, IsOneMoved, AreMoved};
+ghost use Rattle.propagate.specs.Counters.{IsQuiet, IsLimited, SlotsBelow, weight_at, TookRooms, GaveRooms, Woke, AreBuilt, AreInStep, AreGivenBack, AreSummed, AreDistinct, taken_off, counted_of, value_of, linear_at, attached_from, occurrences_of, weight_of, IsPut, IsMovedSlot, IsOneMoved, AreMoved, AreCleared};
 ghost use Rattle.propagate.specs.Flags.{is_waiting};
 
 use super::filling::{add_all, grow_empty, grow_literals, grow_zeros, remove_all, rename_all};
 use super::occurrences::{Occurrence, Occurrences};
+use super::ranked::{Ranked, is_filled};
 use super::scan::{push_forced, room_of};
 use super::waiting::Waiting;
 use constraint_store::Moves;
-use pb_constraints::{ConId, Constraint, Lit, Term};
+use pb_constraints::{ConId, Lit, Term};
 use std::alloc::{AllocError, Global};
 use trail_state::Trail;
 
@@ -33,7 +36,7 @@ pub struct Counters {
     /// How many variables there are.
     pub variables: u64,
     /// What is attached under the id of each number.
-    pub slots: Vec<Option<Constraint>>,
+    pub slots: Vec<Option<Ranked>>,
     /// The room of each slot under the counted literals.
     pub rooms: Vec<u64>,
     /// The degree of each slot with its greatest coefficient. At a room that isn't below it nothing is forced.
@@ -94,7 +97,7 @@ fn wake(rooms: &[u64], limits: &[u64], waiting: &mut Waiting, occurrences: &[Occ
 }
 
 /// The degree and the greatest coefficient.
-fn limit_of(c: &Constraint) -> u64
+fn limit_of(c: &Ranked) -> u64
     ensures { IsLimited result c.now }
 {
     let degree = c.degree();
@@ -154,13 +157,15 @@ impl Counters {
         }
     }
 
-    /// Takes the last counted literal off.
-    fn uncount(&mut self)
+    /// Takes the last counted literal off, and gives what it took back to the rooms.
+    fn give_last(&mut self)
         requires built { AreBuilt self.old }
-        requires step { AreInStep self.old (value_of (counted_of self.old)) }
+        requires sums { AreSummed self.old }
+        requires distinct { AreDistinct (counted_of self.old) }
+        requires below { All (λ l. l.var < self.old.variables) (counted_of self.old) }
         requires some { 0 < self.old.used }
         ensures built { AreBuilt self.new }
-        ensures step { AreInStep self.new (value_of (counted_of self.new)) }
+        ensures given { (top : ℕ) → self.old.used ≤ top → top ≤ length self.old.lits.items → AreGivenBack (taken_off top self.old) self.old → AreGivenBack (taken_off top self.new) self.new }
         ensures lits { self.new.lits ≡ self.old.lits }
         ensures used { self.new.used + 1 ≡ self.old.used }
         ensures slots { self.new.slots ≡ self.old.slots }
@@ -169,6 +174,36 @@ impl Counters {
         self.used -= 1;
         let lit = self.lits[self.used];
         give_rooms(&mut self.rooms, self.occurrences.of(lit.opposite()));
+    }
+
+    /// Takes counted literals off until so many are left, and gives what they took back to the rooms.
+    fn give_back_to(&mut self, kept: usize)
+        requires built { AreBuilt self.old }
+        requires step { AreInStep self.old (value_of (counted_of self.old)) }
+        requires fewer { kept ≤ self.old.used }
+        ensures built { AreBuilt self.new }
+        ensures given { AreGivenBack (taken_off self.old.used self.new) self.new }
+        ensures lits { self.new.lits ≡ self.old.lits }
+        ensures used { self.new.used ≡ kept }
+        ensures slots { self.new.slots ≡ self.old.slots }
+        ensures variables { self.new.variables ≡ self.old.variables }
+    {
+        while self.used > kept {
+            self.give_last();
+        }
+    }
+
+    /// Those that may force a literal that was taken off are to be looked at.
+    fn wake_for(&mut self, lit: Lit)
+        requires built { AreBuilt self.old }
+        requires below { lit.var < self.old.variables }
+        ensures built { AreBuilt self.new }
+        ensures woke { (off : List Literal) → AreGivenBack (lit ∷ off) self.old → AreGivenBack off self.new }
+        ensures lits { self.new.lits ≡ self.old.lits }
+        ensures used { self.new.used ≡ self.old.used }
+        ensures slots { self.new.slots ≡ self.old.slots }
+        ensures variables { self.new.variables ≡ self.old.variables }
+    {
         wake(
             &self.rooms,
             &self.limits,
@@ -177,7 +212,27 @@ impl Counters {
         );
     }
 
-    /// Takes counted literals off until so many are left.
+    /// The same for all literals that were taken off, where so many were counted before.
+    fn wake_upto(&mut self, top: usize)
+        requires built { AreBuilt self.old }
+        requires given { AreGivenBack (taken_off top self.old) self.old }
+        requires more { self.old.used ≤ top }
+        requires there { top ≤ length self.old.lits.items }
+        ensures built { AreBuilt self.new }
+        ensures step { AreInStep self.new (value_of (counted_of self.new)) }
+        ensures lits { self.new.lits ≡ self.old.lits }
+        ensures used { self.new.used ≡ self.old.used }
+        ensures slots { self.new.slots ≡ self.old.slots }
+        ensures variables { self.new.variables ≡ self.old.variables }
+    {
+        for place in self.used..top {
+            let lit = self.lits[place];
+            self.wake_for(lit);
+        }
+    }
+
+    /// Takes counted literals off until so many are left. All rooms are given back before anybody is woken: most
+    /// constraints that a literal was forced by then have room enough to stay quiet.
     pub fn uncount_to(&mut self, kept: usize)
         requires built { AreBuilt self.old }
         requires step { AreInStep self.old (value_of (counted_of self.old)) }
@@ -189,9 +244,9 @@ impl Counters {
         ensures slots { self.new.slots ≡ self.old.slots }
         ensures variables { self.new.variables ≡ self.old.variables }
     {
-        while self.used > kept {
-            self.uncount();
-        }
+        let top = self.used;
+        self.give_back_to(kept);
+        self.wake_upto(top);
     }
 
     /// Looks at what stands in a slot, once all literals are counted: whether it is in conflict, and if not, pushes
@@ -278,7 +333,7 @@ impl Counters {
     }
 
     /// Puts a constraint into a slot that is there and empty.
-    fn fill(&mut self, slot: usize, c: Constraint, trail: &Trail) -> Result<(), AllocError>
+    fn fill(&mut self, slot: usize, c: Ranked, trail: &Trail) -> Result<(), AllocError>
         requires built { AreBuilt self.old }
         requires step { AreInStep self.old (value_of (counted_of self.old)) }
         requires here { slot < length self.old.slots.items }
@@ -344,15 +399,11 @@ impl Counters {
     pub fn is_filled(&self, slot: usize) -> bool
         ensures { result ≡ is_some (slice_index_or self.now.slots.items slot None) }
     {
-        if slot < self.slots.len() {
-            self.slots[slot].is_some()
-        } else {
-            false
-        }
+        is_filled(&self.slots, slot)
     }
 
     /// Puts a constraint into an empty slot. An `Err` leaves what is attached and what is counted.
-    pub fn attach(&mut self, slot: usize, c: Constraint, trail: &Trail) -> Result<(), AllocError>
+    pub fn attach(&mut self, slot: usize, c: Ranked, trail: &Trail) -> Result<(), AllocError>
         requires built { AreBuilt self.old }
         requires step { AreInStep self.old (value_of (counted_of self.old)) }
         requires variables { self.old.variables ≡ trail.now.variables }
@@ -404,6 +455,46 @@ impl Counters {
                 self.slots[slot] = None;
             }
         }
+    }
+
+    /// Empties a slot, and leaves its occurrences.
+    fn clear(&mut self, slot: usize)
+        requires rooms { length self.old.slots.items ≤ length self.old.rooms.items }
+        ensures slots { IsPut slot None self.old.slots.items self.new.slots.items }
+        ensures cleared { AreCleared self.old.slots.items self.new.slots.items self.old.rooms.items self.new.rooms.items }
+        ensures same { self.new ≡ record self.old { slots = self.new.slots; rooms = self.new.rooms } }
+    {
+        if slot < self.slots.len() {
+            self.slots[slot] = None;
+            self.rooms[slot] = 0;
+        }
+    }
+
+    /// Empties the slots of ids, and leaves their occurrences.
+    fn clear_each(&mut self, dropped: &[ConId])
+        requires rooms { length self.old.slots.items ≤ length self.old.rooms.items }
+        ensures attached { Drops dropped.now (attached_from 0 self.old.slots.items) (attached_from 0 self.new.slots.items) }
+        ensures cleared { AreCleared self.old.slots.items self.new.slots.items self.old.rooms.items self.new.rooms.items }
+        ensures same { self.new ≡ record self.old { slots = self.new.slots; rooms = self.new.rooms } }
+    {
+        for c in dropped {
+            self.clear(c.0 as usize);
+        }
+    }
+
+    /// Takes out what stands in the slots of ids, by one pass over all lists of occurrences.
+    pub fn empty_each(&mut self, dropped: &[ConId])
+        requires built { AreBuilt self.old }
+        requires step { AreInStep self.old (value_of (counted_of self.old)) }
+        ensures built { AreBuilt self.new }
+        ensures step { AreInStep self.new (value_of (counted_of self.new)) }
+        ensures lits { self.new.lits ≡ self.old.lits }
+        ensures used { self.new.used ≡ self.old.used }
+        ensures variables { self.new.variables ≡ self.old.variables }
+        ensures attached { Drops dropped.now (attached_from 0 self.old.slots.items) (attached_from 0 self.new.slots.items) }
+    {
+        self.clear_each(dropped);
+        self.occurrences.keep_filled(&self.slots);
     }
 
     /// Moves what stands in a slot to a lower one, which is empty.

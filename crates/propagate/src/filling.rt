@@ -3,7 +3,8 @@ ghost use Rattle.std.specs.Prelude.{◌≡◌, ◌<◌, ◌≤◌, ◌⊎◌, �
 ghost use Rattle.propagate.specs.Counters.{number_of, weight_at, weight_of, occurrences_of, Added, Removed, Renamed, attached_from};
 
 use super::occurrences::{Occurrence, Occurrences};
-use pb_constraints::{Constraint, Lit, Term};
+use super::ranked::Ranked;
+use pb_constraints::{Lit, Term};
 use std::alloc::AllocError;
 
 /// Takes out the occurrences of a slot, which are among those of terms.
@@ -47,7 +48,7 @@ pub fn grow_zeros(numbers: &mut Vec<u64>, count: usize) -> Result<(), AllocError
 }
 
 /// Makes a list of slots at least so long, by empty ones.
-pub fn grow_empty(slots: &mut Vec<Option<Constraint>>, count: usize) -> Result<(), AllocError>
+pub fn grow_empty(slots: &mut Vec<Option<Ranked>>, count: usize) -> Result<(), AllocError>
     ensures same { (i : ℕ) → slice_index_or slots.new.items i None ≡ slice_index_or slots.old.items i None }
     ensures attached { attached_from 0 slots.new.items ≡ attached_from 0 slots.old.items }
     ensures longer { length slots.old.items ≤ length slots.new.items }

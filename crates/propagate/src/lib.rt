@@ -8,8 +8,8 @@
 //!
 //! Rooms are kept and not summed up anew: a literal that becomes false is taken off the rooms of the constraints that
 //! it occurs in, and given back where it is taken off the trail. So a run costs what was newly assigned. `counters`
-//! keeps the rooms, `occurrences` the constraints of each literal, `waiting` those that are to be looked at, `scan`
-//! pushes what one of them forces, `filling` makes and takes lists, and `propagator` has the public type. Beside its
+//! keeps the rooms, `occurrences` the constraints of each literal, `waiting` those that are to be looked at, `ranked`
+//! the terms of one of them by falling coefficient, `scan` pushes what it forces, `filling` makes and takes lists, and `propagator` has the public type. Beside its
 //! answer a run changes nothing but the end of the trail and what is counted. The trail itself stands in
 //! `trail_state`, the constraints that are attached in `constraint_store`, and what follows a conflict in
 //! `conflict_graph`.
@@ -19,6 +19,7 @@ mod counters;
 mod filling;
 mod occurrences;
 mod propagator;
+mod ranked;
 mod scan;
 mod waiting;
 

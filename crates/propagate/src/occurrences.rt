@@ -1,9 +1,10 @@
 //! Where each literal occurs: the slots of the constraints that have it, each with its coefficient there.
 //!
 //! The lists stand by the literals' numbers, two for each variable.
-ghost use Rattle.std.specs.Prelude.{◌≡◌, ◌<◌, ◌≤◌, ℕ, ◌++◌, [], ◌∷◌, not, ◌==◌, filter, map, length, slice_set, OnOk, OnErr};
-ghost use Rattle.propagate.specs.Counters.{number_of, occurrences_of, moved_to};
+ghost use Rattle.std.specs.Prelude.{◌≡◌, ◌<◌, ◌≤◌, ℕ, ◌++◌, [], ◌∷◌, not, ◌==◌, filter, map, length, slice_set, vec_items, OnOk, OnErr};
+ghost use Rattle.propagate.specs.Counters.{number_of, occurrences_of, moved_to, is_filled};
 
+use super::ranked::{Ranked, is_filled};
 use pb_constraints::Lit;
 use std::alloc::{AllocError, Global};
 use std::marker::Model;
@@ -94,6 +95,13 @@ impl Occurrences {
     {
         rename_in(&mut self.lists[number_of(lit)], from, to);
     }
+
+    /// Takes out those of empty slots, by one pass over all lists.
+    pub fn keep_filled(&mut self, slots: &[Option<Ranked>])
+        ensures { self.new ≡ map (filter (is_filled slots.now)) self.old }
+    {
+        keep_each(&mut self.lists, slots);
+    }
 }
 
 /// Makes the occurrences of one slot those of another.
@@ -104,5 +112,21 @@ fn rename_in(list: &mut [Occurrence], from: usize, to: usize)
         if one.slot == from {
             one.slot = to;
         }
+    }
+}
+
+/// Takes out the occurrences of empty slots.
+fn keep_in(list: &mut Vec<Occurrence>, slots: &[Option<Ranked>])
+    ensures { list.new.items ≡ filter (is_filled slots.now) list.old.items }
+{
+    list.retain(|one| is_filled(slots, one.slot));
+}
+
+/// Takes them out of each list.
+fn keep_each(lists: &mut [Vec<Occurrence>], slots: &[Option<Ranked>])
+    ensures { map vec_items lists.new ≡ map (filter (is_filled slots.now)) (map vec_items lists.old) }
+{
+    for list in lists.iter_mut() {
+        keep_in(list, slots);
     }
 }

@@ -6,11 +6,12 @@
 ghost use Rattle.std.specs.Prelude.{◌≡◌, ◌+◌, [], IfOk, OnOk, OnErr, IfSome, IfNone, IsTrue, Some, None};
 ghost use Rattle.pb_rules.specs.Linear.{VarsBelow};
 ghost use Rattle.constraint_store.specs.Live.{is_live, constraint_of, new_id};
-ghost use Rattle.propagate.specs.Attached.{ChangesOnly, IsMoved};
+ghost use Rattle.propagate.specs.Attached.{ChangesOnly, Drops, IsMoved};
 ghost use Rattle.propagate.specs.Propagator.{IsReady, IsCounted, IsAlong};
 ghost use Rattle.propagate.specs.Forced.{Appends, IsConflict, AllClosed};
 
 use super::counters::Counters;
+use super::ranked::Ranked;
 use constraint_store::{Moves, Store};
 use pb_constraints::{ConId, Constraint};
 use std::alloc::{AllocError, Global};
@@ -19,6 +20,9 @@ use trail_state::Trail;
 
 /// There are fewer variables than this.
 const VARIABLE_LIMIT: u64 = 1 << 62;
+
+/// A constraint that is taken out by itself costs about as much as a pass costs for so many slots.
+const SLOTS_FOR_ONE: usize = 64;
 
 /// The attached constraints under their ids.
 #[derive(Drop, Debug)]
@@ -79,9 +83,10 @@ impl Propagator {
         if c.0 == u64::MAX {
             return Err(AllocError);
         }
-        let terms = Vec::from_slice(*self.counters.slots.allocator(), store.terms(c))?;
-        let constraint = Constraint::of_normal(terms, store.degree(c));
-        self.counters.attach(c.0 as usize, constraint, trail)
+        let alloc = *self.counters.slots.allocator();
+        let terms = Vec::from_slice(alloc, store.terms(c))?;
+        let ranked = Ranked::new(alloc, Constraint::of_normal(terms, store.degree(c)))?;
+        self.counters.attach(c.0 as usize, ranked, trail)
     }
 
     /// Takes out the constraint that is attached under an id. Where there is none, it changes nothing.
@@ -90,6 +95,27 @@ impl Propagator {
         ensures same { self.new ≡ record self.old { attached = self.new.attached } }
     {
         self.counters.empty(c.0 as usize);
+    }
+
+    /// Takes out the constraints that are attached under these ids. Where there is none under one, that changes nothing.
+    pub fn detach_each(&mut self, dropped: &[ConId])
+        ensures attached { Drops dropped.now self.old.attached self.new.attached }
+        ensures same { self.new ≡ record self.old { attached = self.new.attached } }
+    {
+        if dropped.len() < self.counters.slots.len() / SLOTS_FOR_ONE {
+            return self.detach_singly(dropped);
+        }
+        self.counters.empty_each(dropped);
+    }
+
+    /// The same, one after another.
+    fn detach_singly(&mut self, dropped: &[ConId])
+        ensures attached { Drops dropped.now self.old.attached self.new.attached }
+        ensures same { self.new ≡ record self.old { attached = self.new.attached } }
+    {
+        for c in dropped {
+            self.detach(*c);
+        }
     }
 
     /// Gives each attached constraint its new id, and takes out those that have none.

@@ -9,7 +9,8 @@ ghost use Rattle.trail_state.specs.Trail.{Entry, value_in};
 ghost use Rattle.propagate.specs.Forced.{Appends};
 ghost use Rattle.propagate.specs.Counters.{IsQuiet};
 
-use pb_constraints::{ConId, Constraint, Lit, Term};
+use super::ranked::Ranked;
+use pb_constraints::{ConId, Lit, Term};
 use trail_state::Trail;
 
 /// Whether a literal is false on the trail.
@@ -54,8 +55,8 @@ fn push_if_forced(t: Term, slack: u64, id: ConId, trail: &mut Trail) -> bool
     false
 }
 
-/// Pushes the literals that a constraint of this room forces.
-pub fn push_forced(c: &Constraint, id: ConId, room: u64, trail: &mut Trail)
+/// Pushes the literals that a constraint of this room forces. It ends where no coefficient is greater than the slack.
+pub fn push_forced(c: &Ranked, id: ConId, room: u64, trail: &mut Trail)
     requires in_range { VarsBelow trail.old.variables c.now.terms }
     requires room { room ≡ open_weight (value_in trail.old.entries) c.now.terms }
     requires no_conflict { c.now.degree ≤ room }
@@ -64,7 +65,10 @@ pub fn push_forced(c: &Constraint, id: ConId, room: u64, trail: &mut Trail)
     ensures quiet { IsQuiet room (value_in trail.new.entries) c.now }
 {
     let slack = room - c.degree();
-    for t in c.terms() {
+    for t in c.by_falling() {
+        if t.coef <= slack {
+            return;
+        }
         let _pushed = push_if_forced(*t, slack, id, trail);
     }
 }

@@ -110,17 +110,18 @@ log_later s old new order answer tie goes h = record {
 }
 
 -- a solver of the specification stays one
-pub solver_later : (s : SpecValue) (old new : SolverValue) (order : List Literal) (answer : Answer) → IsSolverOf s old → new ≡ record old { log = new.log } → GoesOnDerived old.log new.log → AnswersInFrames old new order answer → IsSolverOf s new
+pub solver_later : (s : SpecValue) (old new : SolverValue) (order : List Literal) (answer : Answer) → IsSolverOf s old → new ≡ record old { kept = new.kept; log = new.log } → GoesOnDerived old.log new.log → AnswersInFrames old new order answer → IsSolverOf s new
 solver_later s old new order answer tie same goes h = record {
   variables_are = ap (λ (v : SolverValue). v.variables) same ∙ tie.variables_are;
   given_are = ap (λ (v : SolverValue). v.given) same ∙ tie.given_are;
+  not_spent = ap (λ (v : SolverValue). v.spent) same ∙ tie.not_spent;
   log_of = log_later s old new order answer tie goes h;
   agrees = λ f frame. (let a = h f (tie.agrees f frame) in a.agrees);
 }
 
 -- a new solver over constraints
 abbrev solver_over : ℕ → List Linear → SolverValue
-solver_over variables cs = record { variables = variables; given = numbered 1 cs; log = record { first = length cs + 1; lines = [] }; spent = false }
+solver_over variables cs = record { variables = variables; given = numbered 1 cs; kept = []; log = record { first = length cs + 1; lines = [] }; spent = false }
 
 agrees_first : (s : SpecValue) (f : Frame) → IsFrameOf s f → length (encoding s) + 1 < 2 ^ 62 → Agrees f (solver_over (all_variables s) (encoding s))
 agrees_first s f h few =
@@ -131,6 +132,7 @@ solver_first : (s : SpecValue) → length (encoding s) + 1 < 2 ^ 62 → IsSolver
 solver_first s few = record {
   variables_are = refl;
   given_are = refl;
+  not_spent = refl;
   log_of = record {
     first_after = refl;
     derived_each = λ i d l. absurd (omega (arith, l));
@@ -140,7 +142,7 @@ solver_first s few = record {
 }
 
 -- a solver that was made of the encoding is a solver of the specification
-pub solver_new : (s : SpecValue) (set : SetValue) (solver : SolverValue) → set.variables ≡ all_variables s → set.constraints ≡ encoding s → length set.constraints + 1 < 2 ^ 62 → solver ≡ record { variables = set.variables; given = numbered 1 set.constraints; log = record { first = length set.constraints + 1; lines = [] }; spent = false } → IsSolverOf s solver
+pub solver_new : (s : SpecValue) (set : SetValue) (solver : SolverValue) → set.variables ≡ all_variables s → set.constraints ≡ encoding s → length set.constraints + 1 < 2 ^ 62 → solver ≡ record { variables = set.variables; given = numbered 1 set.constraints; kept = []; log = record { first = length set.constraints + 1; lines = [] }; spent = false } → IsSolverOf s solver
 solver_new s set solver ev ec few e =
     let is : solver ≡ solver_over (all_variables s) (encoding s) = e ∙ (ap (λ (n : ℕ). solver_over n set.constraints) ev ∙ ap (solver_over (all_variables s)) ec) in
     subst (IsSolverOf s) (sym is) (solver_first s (subst (λ (cs : List Linear). length cs + 1 < 2 ^ 62) ec few))

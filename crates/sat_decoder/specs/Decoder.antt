@@ -1,5 +1,5 @@
 -- What a decoder is seen as, and the frames in which its log is legal.
-use Rattle.std.specs.Prelude.{ℕ, Bool, true, Some, ◌≡◌, ◌+◌, List, length, All}
+use Rattle.std.specs.Prelude.{ℕ, Bool, true, false, Some, ◌≡◌, ◌+◌, List, length, All}
 use Rattle.pb_rules.specs.Frames.{Line, Frame, IsFrame, Given, given_by, is_derived}
 use Rattle.proof_log.specs.Log.{LogValue}
 use Rattle.spec_model.specs.Spec.{SpecValue, all_variables}
@@ -28,9 +28,10 @@ pub record IsLogOf (s : SpecValue) (log : LogValue) : Type 0 where
   pub derived_each : All (λ l. is_derived l ≡ true) log.lines
   pub legal : (f : Frame) → IsFrameOf s f → IsLegal f log.lines
 
--- a solver of a specification: it has the encoding under the ids 1, 2 and so on and each of its variables, and each frame of the specification agrees with it
+-- a solver of a specification: it has the encoding under the ids 1, 2 and so on and each of its variables, it didn't run out of memory, and each frame of the specification agrees with it
 pub record IsSolverOf (s : SpecValue) (solver : SolverValue) : Type 0 where
   pub variables_are : solver.variables ≡ all_variables s
   pub given_are : solver.given ≡ numbered 1 (encoding s)
+  pub not_spent : solver.spent ≡ false
   pub log_of : IsLogOf s solver.log
   pub agrees : (f : Frame) → IsFrameOf s f → Agrees f solver

@@ -1,12 +1,14 @@
 //! The decoder over calls: a specification, and a solver that has its encoding.
 //!
-//! Between two calls the solver holds the encoding alone, so that no answer depends on the calls before it; the log goes
-//! on from call to call. After want of memory a decoder is spent, and each later call fails for want of memory too.
+//! Between two calls the solver holds the encoding and clauses that follow from it, so that no answer depends on the calls
+//! before it; the log goes on from call to call, and the clauses of its last lines are kept. After want of memory a decoder is spent, and each later call fails for want of memory too.
 
-ghost use Rattle.std.specs.Prelude.{◌≡◌, ◌<◌, ◌+◌, [], true, false, length, IfOk, OnOk, OnErr};
+ghost use Rattle.std.specs.Prelude.{◌≡◌, ◌<◌, ◌+◌, [], true, false, length, min, IfOk, OnOk, OnErr};
+ghost use Rattle.pb_rules.specs.Frames.{derived_count};
 ghost use Rattle.spec_model.specs.Spec.{design_variables};
 ghost use Rattle.encode_model.specs.Encoding.{encoding};
 ghost use Rattle.ordered_solver.specs.Answers.{GoesOnDerived, new_lines};
+ghost use Rattle.ordered_solver.specs.Solver.{kept_limit};
 ghost use Rattle.sat_decoder.specs.Decoder.{IsLogOf, IsSolverOf};
 ghost use Rattle.sat_decoder.specs.Decoding.{DecodedSays, LineCountSays, IsShown};
 
@@ -106,6 +108,13 @@ impl<'a> Decoder<'a> {
         let decoded = decode_by(alloc, self.spec, &mut self.solver, g, budget)?;
         self.spent = false;
         Ok(decoded)
+    }
+
+    /// How many clauses of earlier calls are kept: one for each line of the log, but at most 4,096.
+    pub fn kept(&self) -> usize
+        ensures count { self.now.spent ≡ false → result ≡ min kept_limit (derived_count self.now.log.lines) }
+    {
+        self.solver.kept()
     }
 
     /// The log. All its lines are derived ones, legal in each frame of the specification.

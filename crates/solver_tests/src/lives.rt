@@ -1,8 +1,9 @@
 //! Lives of a propagator, each a list of calls. A plain program goes through the same calls on a trail of its own, and
 //! after each run both have found a conflict, or the same values.
-ghost use Rattle.std.specs.Prelude.{◌↔◌, IsTrue, OnOk, IfOk};
+ghost use Rattle.std.specs.Prelude.{◌≡◌, ◌↔◌, None, IsTrue, OnOk, IfOk};
 ghost use Rattle.pb_rules.specs.Linear.{VarsBelow};
 ghost use Rattle.constraint_store.specs.Live.{is_live};
+ghost use Rattle.propagate.specs.Attached.{attached_at};
 ghost use Rattle.propagate.specs.Propagator.{IsReady};
 
 use crate::scanning::scan;
@@ -21,6 +22,7 @@ enum Call {
     Jump(u64),
     Attach(usize),
     Remove(usize),
+    RemoveBoth(usize, usize),
     Remap,
 }
 
@@ -128,6 +130,40 @@ impl Pair {
         self.store.remove(id);
     }
 
+    /// Removes a live constraint that isn't attached from the store.
+    fn free(&mut self, id: ConId)
+        requires ready { IsReady self.old.propagator self.old.store self.old.trail }
+        requires live { IsTrue (is_live self.old.store id) }
+        requires free { attached_at self.old.propagator.attached id ≡ None }
+        ensures ready { IsReady self.new.propagator self.new.store self.new.trail }
+        ensures same { self.new.propagator ≡ self.old.propagator }
+    {
+        self.store.remove(id);
+    }
+
+    /// The same where it is live.
+    fn forget(&mut self, id: ConId)
+        requires ready { IsReady self.old.propagator self.old.store self.old.trail }
+        requires free { attached_at self.old.propagator.attached id ≡ None }
+        ensures ready { IsReady self.new.propagator self.new.store self.new.trail }
+        ensures same { self.new.propagator ≡ self.old.propagator }
+    {
+        if self.store.is_live(id) {
+            self.free(id);
+        }
+        self.attached.retain(|one| *one != id);
+    }
+
+    /// Takes two constraints out of the propagator by one call, and then of the store.
+    fn remove_both(&mut self, one: ConId, other: ConId)
+        requires { IsReady self.old.propagator self.old.store self.old.trail }
+        ensures { IsReady self.new.propagator self.new.store self.new.trail }
+    {
+        self.propagator.detach_each(&[one, other]);
+        self.forget(one);
+        self.forget(other);
+    }
+
     fn remove(&mut self, id: ConId, place: usize)
         requires { IsReady self.old.propagator self.old.store self.old.trail }
         ensures { IsReady self.new.propagator self.new.store self.new.trail }
@@ -196,6 +232,11 @@ impl Pair {
                     self.remove(id, place);
                 }
             }
+            Call::RemoveBoth(one, other) => {
+                if let (Some(a), Some(b)) = (self.at(one), self.at(other)) {
+                    self.remove_both(a, b);
+                }
+            }
             Call::Remap => self.remap()?,
         }
         Ok(true)
@@ -219,8 +260,8 @@ fn add(
     Ok(id)
 }
 
-/// The table's constraints: one with unlike coefficients, clauses, one of which is made false by two decisions, and one
-/// whose greatest coefficient is its degree.
+/// The table's constraints: one with unlike coefficients, clauses, one of which is made false by two decisions, one whose
+/// greatest coefficient is its degree, and one whose coefficients neither rise nor fall with the variables.
 fn table(alloc: Global, store: &mut Store) -> Result<Vec<Option<ConId>>, Fail> {
     let mut known = Vec::new(alloc);
     let heavy = [(2, 0, true), (1, 1, true), (1, 2, true)];
@@ -235,6 +276,8 @@ fn table(alloc: Global, store: &mut Store) -> Result<Vec<Option<ConId>>, Fail> {
     known.push(Some(add(alloc, store, &two_of_three, 2)?))?;
     let last = [(1, 2, true), (1, 4, true)];
     known.push(Some(add(alloc, store, &last, 1)?))?;
+    let steep = [(1, 0, true), (3, 1, false), (2, 2, true), (5, 3, true)];
+    known.push(Some(add(alloc, store, &steep, 6)?))?;
     Ok(known)
 }
 
@@ -356,6 +399,55 @@ fn detaches_and_remaps(rt: HostRuntime) -> Result<(), Fail> {
         Call::Decide(x4.opposite()),
         Call::Run,
         Call::Remove(5),
+        Call::Jump(0),
+        Call::Run,
+    ];
+    assert_eq!(rt; agree_for(rt.alloc(), &calls)?, calls.len());
+    Ok(())
+}
+
+#[test]
+fn detaches_two_by_one_call(rt: HostRuntime) -> Result<(), Fail> {
+    let (x0, x4) = (Lit::yes(0), Lit::yes(4));
+    let calls = [
+        Call::Attach(0),
+        Call::Attach(2),
+        Call::Attach(3),
+        Call::Attach(5),
+        Call::Decide(x0.opposite()),
+        Call::Run,
+        Call::RemoveBoth(0, 3),
+        Call::Run,
+        Call::Jump(0),
+        Call::Decide(x4.opposite()),
+        Call::Run,
+        Call::Attach(1),
+        Call::RemoveBoth(5, 5),
+        Call::Jump(0),
+        Call::Decide(x0.opposite()),
+        Call::Run,
+    ];
+    assert_eq!(rt; agree_for(rt.alloc(), &calls)?, calls.len());
+    Ok(())
+}
+
+#[test]
+fn forces_by_unlike_coefficients(rt: HostRuntime) -> Result<(), Fail> {
+    let (x0, x1, x2, x3) = (Lit::yes(0), Lit::yes(1), Lit::yes(2), Lit::yes(3));
+    let calls = [
+        Call::Attach(6),
+        Call::Decide(x1),
+        Call::Run,
+        Call::Jump(0),
+        Call::Decide(x0),
+        Call::Run,
+        Call::Decide(x2.opposite()),
+        Call::Run,
+        Call::Jump(1),
+        Call::Decide(x3.opposite()),
+        Call::Run,
+        Call::Attach(3),
+        Call::Run,
         Call::Jump(0),
         Call::Run,
     ];

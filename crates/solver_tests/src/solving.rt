@@ -1,4 +1,4 @@
-//! The four clauses over two variables and their first two, and a solver that grows between its calls.
+//! The four clauses over two variables and their first two, with what is kept of them.
 
 ghost use Rattle.std.specs.Prelude.{◌≡◌, ◌<◌, IfOk, length};
 
@@ -88,21 +88,14 @@ fn three_solvers(rt: HostRuntime) -> Result<(), Fail> {
 }
 
 #[test]
-fn grows_between_calls(rt: HostRuntime) -> Result<(), Fail> {
+fn keeps_between_calls(rt: HostRuntime) -> Result<(), Fail> {
     let alloc = rt.alloc();
-    let mut solver = Solver::new(alloc, Set::new(alloc, 1))?;
-    solver.add_variables(1)?;
     let order = natural(alloc, 2)?;
-    let id = solver.cover(&[7])?;
-    assert_eq!(rt; id, 1);
-    let c = clause(alloc, Lit::yes(0), Lit::yes(1))?;
-    if c.terms().iter().all(|t| t.lit.var() < 2) {
-        solver.add_constraint(&c, id)?;
-    }
-    let answer = solver.solve(alloc, &order, 9)?;
-    assert!(rt;
-        matches!(answer, Answer::Model(ref values) if values.as_slice() == [false, true].as_slice())
-    );
-    assert_eq!(rt; solver.into_log().steps(), 1);
+    let mut solver = Solver::new(alloc, clauses(alloc, true)?)?;
+    assert_eq!(rt; solver.solve(alloc, &order, 1)?, Answer::Budget);
+    assert_eq!(rt; solver.kept(), 1);
+    assert_eq!(rt; solver.solve(alloc, &order, 2)?, Answer::Nothing);
+    assert_eq!(rt; solver.log().learned(), 2);
+    assert_eq!(rt; solver.kept(), 2);
     Ok(())
 }

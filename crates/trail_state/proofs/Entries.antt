@@ -1,4 +1,4 @@
-use Rattle.std.proofs.Common.{◌≡◌, ◌≢◌, ℕ, ◌+◌, ◌<◌, ◌≤◌, Bool, true, false, cond, eqb, Option, Some, None, List, [], ◌∷◌, ◌++◌, length, get_or, take, refl, sym, ap, ◌∙◌, arith, zero, suc, inl, inr}
+use Rattle.std.proofs.Common.{◌≡◌, ◌≢◌, ℕ, ◌+◌, ◌<◌, ◌≤◌, Bool, true, false, cond, eqb, Option, Some, None, List, [], ◌∷◌, ◌++◌, length, get_or, take, refl, sym, ap, ◌∙◌, arith, is_some, zero, suc, inl, inr}
 use Rattle.std.proofs.lemmas.List.{take_more, take-take}
 use Rattle.std.proofs.lemmas.Bool.{cases_eq}
 use Rattle.std.proofs.lemmas.Bool.Decides.{nat_tests}
@@ -120,3 +120,18 @@ value_in-with_reason x reason (e ∷ es) y = go (eqb e.lit.var x) refl (value_in
     go : (b : Bool) → eqb e.lit.var x ≡ b → value_in (with_reason x reason es) y ≡ value_in es y → value_in (with_reason x reason (e ∷ es)) y ≡ value_in (e ∷ es) y
     go true q ih = rw (q, ih) refl
     go false q ih = rw (q, ih) refl
+
+-- a value among the first entries is the value
+pub take-known : (es : List Entry) (k x : ℕ) → is_some (value_in (take k es) x) ≡ true → value_in es x ≡ value_in (take k es) x
+take-known es k x h = go (value_in (take k es) x) refl h
+  where
+    go : (o : Option Bool) → value_in (take k es) x ≡ o → is_some o ≡ true → value_in es x ≡ o
+    go None e h = absurd (cc)
+    go (Some b) e h = GoesOn-take es k x b e
+
+pub take-unknown : (es : List Entry) (k x : ℕ) → is_some (value_in (take k es) x) ≡ false → value_in (take k es) x ≡ None
+take-unknown es k x h = go (value_in (take k es) x) h
+  where
+    go : (o : Option Bool) → is_some o ≡ false → o ≡ None
+    go None h = refl
+    go (Some b) h = absurd (cc)

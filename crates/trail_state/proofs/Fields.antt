@@ -1,4 +1,4 @@
-use Rattle.std.proofs.Common.{◌≡◌, ◌≢◌, ℕ, ◌+◌, ◌<◌, ◌≤◌, ◌^◌, Bool, true, false, cond, eqb, Option, Some, None, List, [], ◌∷◌, ◌++◌, length, get_or, set, take, refl, sym, ap, ◌∙◌, subst, arith, is_some, is_none, map, replicate, count_by, ◌-◌, length-take, length-set, zero, suc, get_or-set_same, get_or-set_other, inl, inr}
+use Rattle.std.proofs.Common.{◌≡◌, ◌≢◌, ℕ, ◌+◌, ◌<◌, ◌≤◌, ◌^◌, Bool, true, false, cond, eqb, ltb, Option, Some, None, List, [], ◌∷◌, ◌++◌, length, get_or, set, take, refl, sym, ap, ◌∙◌, subst, arith, is_some, is_none, map, replicate, count_by, ◌-◌, length-take, length-set, zero, suc, get_or-set_same, get_or-set_other, inl, inr}
 use Rattle.std.proofs.lemmas.List.{length-replicate, take_more, take_more_set, get_or-take, ext_get_or, get_or-map, length-map, length-append, take-append-le, take-take, take_all, get_or_past, get_or_push}
 use Rattle.std.proofs.lemmas.List.Sums.{sum_by-set, count_by-le-length, sum_by_push, sum_by-append}
 use Rattle.std.proofs.lemmas.List.Folds.{sum_by-replicate}
@@ -483,3 +483,43 @@ IsTrail-reason ls rs ps n level t x k r e some =
       same_var = t.same_var;
       level_is = t.level_is ∙ sym (ap level_of (entries-reason ls rs ps n level t x k r e) ∙ level_of-with_reason x r es (was-pushed ls rs ps n level t x some));
     }
+
+-- a variable with a place is among the first entries where its place is
+pub among_first : (ls : List Literal) (rs : List (Option ConId)) (ps : List (Option ℕ)) (n level : ℕ) → IsTrail ls rs ps n level → (x k count : ℕ) → get_or ps x None ≡ Some k → ltb k count ≡ is_some (value_in (take count (entries_of ls rs n)) x)
+among_first ls rs ps n level t x k count e = elim (cases_lt k count) [
+  | inl lt ↦ (
+      let at : get_or (take count es) k f ≡ get_or es k f = get_or-take count es k f lt in
+      let w = value_in-at (take count es) x k f (omega (arith, length-take count es, here)) (ap (λ (g : Entry). g.lit.var) at ∙ var-is f) (λ j g l q. only j g (omega (arith, length-take count es, l)) (sym (ap (λ (g : Entry). g.lit.var) (get_or-take count es j g (omega (arith, length-take count es, l)))) ∙ q)) in
+      let test : ltb k count ≡ true = grind (arith, nat_tests) in
+      test ∙ sym (ap is_some w.0))
+  | inr ge ↦ (
+      let none = value_in-none (take count es) x (λ j g l q. (
+      let z = only j g (omega (arith, length-take count es, l)) (sym (ap (λ (g : Entry). g.lit.var) (get_or-take count es j g (omega (arith, length-take count es, l)))) ∙ q) in
+      omega (arith, length-take count es, l, ge, z))) in
+      let test : ltb k count ≡ false = grind (arith, nat_tests) in
+      test ∙ sym (ap is_some none))
+]
+  where
+    es : List Entry
+    es = entries_of ls rs n
+
+    f : Entry
+    f = record { lit = record { var = 0; yes = true }; reason = None }
+
+    b : HasRoom ls rs ps n
+    b = room ls rs ps n level t
+
+    here : k < length es
+    here = omega (arith, t.within x k e, b.entries)
+
+    var-is : (d : Entry) → (get_or es k d).lit.var ≡ x
+    var-is d = ap (λ (g : Entry). g.lit.var) (get_or-entries ls rs n k d b.lits b.reasons (t.within x k e)) ∙ t.same_var x k d.lit e
+
+    only : (j : ℕ) (g : Entry) → j < length es → (get_or es j g).lit.var ≡ x → j ≡ k
+    only j g l q =
+        let lt : j < n = omega (arith, l, b.entries) in
+        let at-j = get_or-entries ls rs n j g b.lits b.reasons lt in
+        let p : get_or ps (get_or ls j g.lit).var None ≡ Some j = t.placed j g.lit lt in
+        let v : (get_or ls j g.lit).var ≡ x = sym (ap (λ (g : Entry). g.lit.var) at-j) ∙ q in
+        let s : get_or ps x None ≡ Some j = rw (← v) p in
+        cc

@@ -2,7 +2,7 @@
 //!
 //! All lists are at least as long as there are variables, with a count of how much is used, so that only `grow` takes
 //! memory. Values and levels by variable are kept beside it, by `Trail`.
-ghost use Rattle.std.specs.Prelude.{ℕ, ◌≡◌, ◌<◌, ◌≤◌, ◌^◌, ◌++◌, [], ◌∷◌, length, OnOk, OnErr, IsSome, Option, Some, None, map, All};
+ghost use Rattle.std.specs.Prelude.{ℕ, ◌≡◌, ◌<◌, ◌≤◌, ◌^◌, ◌++◌, [], ◌∷◌, length, OnOk, OnErr, IsSome, Option, Some, None, map, All, take, is_some};
 ghost use Rattle.pb_constraints.specs.declared.ConId.{ConId};
 ghost use Rattle.trail_state.specs.Trail.{Entry, level_of, level_in, value_in, reason_in, with_reason, IsDistinct};
 
@@ -95,6 +95,20 @@ impl Stack {
             }
         } else {
             None
+        }
+    }
+
+    /// Whether a variable is assigned among the first entries.
+    pub fn is_among_first(&self, var: u64, count: usize) -> bool
+        ensures { result ≡ is_some (value_in (take count self.now.entries) var) }
+    {
+        if var < self.places.len() as u64 {
+            match self.places[var as usize] {
+                None => false,
+                Some(place) => place < count,
+            }
+        } else {
+            false
         }
     }
 

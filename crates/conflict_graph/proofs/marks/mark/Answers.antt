@@ -1,8 +1,9 @@
-use Rattle.std.proofs.Common.{◌≡◌, ◌∙◌, sym, ap, refl, Bool, true, false, List, length, subst, Option}
+use Rattle.std.proofs.Common.{◌≡◌, ◌∙◌, sym, ap, refl, Bool, true, false, List, length, subst, take, Option}
 use Rattle.pb_rules.specs.declared.Term.{Term}
 use Rattle.pb_rules.specs.Linear.{IsNormal}
 use Rattle.pb_rules.specs.Partial.{is_false}
 use Rattle.constraint_store.specs.Live.{constraint_of}
+use Rattle.trail_state.specs.Trail.{value_in}
 use Rattle.conflict_graph.specs.Learning.{signs}
 use Rattle.conflict_graph.proofs.Writing.{mark-false, mark-kept, counted-join}
 use Rattle.conflict_graph.proofs.marks.mark.Goals as goal
@@ -10,7 +11,7 @@ use Rattle.conflict_graph.proofs.marks.mark.Goals.{then-is_false, else-is_false}
 
 pub loop-t-preserved : goal.loop-t-preserved
 loop-t-preserved c =
-    let a = signs c.args.values.now in
+    let a = value_in (take c.args.place c.args.trail.now.entries) in
     let ts = c.terms-t-items.result.now in
     let i = c.loop-t.t-index in
     let t = c.t-item.result in

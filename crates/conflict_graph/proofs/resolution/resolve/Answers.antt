@@ -1,7 +1,6 @@
-use Rattle.std.proofs.Common.{◌≡◌, ◌++◌, ◌∷◌, [], ◌∙◌, sym, ap, arith, Bool, get_or, List, length, subst, Option, ℕ, take}
+use Rattle.std.proofs.Common.{◌≡◌, ◌++◌, ◌∷◌, [], ◌∙◌, refl, sym, ap, arith, Bool, get_or, List, length, subst, Option, ℕ, take}
 use Rattle.pb_rules.specs.Literal.{Literal}
 use Rattle.pb_rules.specs.Linear.{Linear, VarsBelow}
-use Rattle.pb_rules.specs.Partial.{InConflict}
 use Rattle.conflict_graph.specs.Clauses.{clause_ops}
 use Rattle.pb_rules.specs.declared.Op.{Op}
 use Rattle.pb_rules.specs.declared.Op.TheVariants.{Add, Saturate}
@@ -32,27 +31,10 @@ mark-requires-clause-live c =
     let k = can-resolve c.args.store.now c.args.trail.now.entries c.args.trail.now.variables c.args.place c.index-literals-place.result c.in-Some.reason (signs c.args.clause.now) c.args.count c.args.ops.now.items c.requires.place c.requires.few c.assigned-assigned.ensures.distinct (c.index-literals-place.is ∙ ap (λ (ls : List Literal). get_or ls c.args.place c.index-literals-place.result) c.literals.ensures) c.requires.forced c.requires.marked c.requires.two c.requires.learning (ap (reason_in c.args.trail.now.entries) (sym c.var.ensures.value) ∙ sym c.reason.ensures ∙ c.in-Some.is) in
     (k.usable).live_there
 
-pub explain_reason-requires-clause-in_range : goal.explain_reason-requires-clause-in_range
-explain_reason-requires-clause-in_range c =
-    let k = can-resolve c.args.store.now c.args.trail.now.entries c.args.trail.now.variables c.args.place c.index-literals-place.result c.in-Some.reason (signs c.args.clause.now) c.args.count c.args.ops.now.items c.requires.place c.requires.few c.assigned-assigned.ensures.distinct (c.index-literals-place.is ∙ ap (λ (ls : List Literal). get_or ls c.args.place c.index-literals-place.result) c.literals.ensures) c.requires.forced c.requires.marked c.requires.two c.requires.learning (ap (reason_in c.args.trail.now.entries) (sym c.var.ensures.value) ∙ sym c.reason.ensures ∙ c.in-Some.is) in
-    let len = c.requires.values_length in
-    let Q : ℕ → Type 0 = λ m. VarsBelow m (constraint_of c.args.store.now c.in-Some.reason).terms in
-    subst Q (sym len) (k.usable).in_range
-
-pub explain_reason-requires-clause-var_in_range : goal.explain_reason-requires-clause-var_in_range
-explain_reason-requires-clause-var_in_range c =
-    let a = (at-place c.args.trail.now.entries c.args.trail.now.variables c.args.place c.index-literals-place.result c.requires.place c.assigned-assigned.ensures.distinct c.assigned-assigned.ensures.in_range (c.index-literals-place.is ∙ ap (λ (ls : List Literal). get_or ls c.args.place c.index-literals-place.result) c.literals.ensures)).0 in
-    let l = c.requires.values_length in omega arith
-
-pub explain_reason-requires-clause-free : goal.explain_reason-requires-clause-free
-explain_reason-requires-clause-free c =
-    (ap (λ (q : ℕ → Option Bool). q c.index-literals-place.result.var) c.requires.values ∙ (at-place c.args.trail.now.entries c.args.trail.now.variables c.args.place c.index-literals-place.result c.requires.place c.assigned-assigned.ensures.distinct c.assigned-assigned.ensures.in_range (c.index-literals-place.is ∙ ap (λ (ls : List Literal). get_or ls c.args.place c.index-literals-place.result) c.literals.ensures)).1)
-
 pub explain_reason-requires-clause-conflict : goal.explain_reason-requires-clause-conflict
 explain_reason-requires-clause-conflict c =
     let k = can-resolve c.args.store.now c.args.trail.now.entries c.args.trail.now.variables c.args.place c.index-literals-place.result c.in-Some.reason (signs c.args.clause.now) c.args.count c.args.ops.now.items c.requires.place c.requires.few c.assigned-assigned.ensures.distinct (c.index-literals-place.is ∙ ap (λ (ls : List Literal). get_or ls c.args.place c.index-literals-place.result) c.literals.ensures) c.requires.forced c.requires.marked c.requires.two c.requires.learning (ap (reason_in c.args.trail.now.entries) (sym c.var.ensures.value) ∙ sym c.reason.ensures ∙ c.in-Some.is) in
-    let Q : (ℕ → Option Bool) → Type 0 = λ a. InConflict (flipped a c.index-literals-place.result) (constraint_of c.args.store.now c.in-Some.reason) in
-    subst Q (sym c.requires.values) (forced-flip (value_in (take c.args.place c.args.trail.now.entries)) (constraint_of c.args.store.now c.in-Some.reason) c.index-literals-place.result k.forces)
+    forced-flip (value_in (take c.args.place c.args.trail.now.entries)) (constraint_of c.args.store.now c.in-Some.reason) c.index-literals-place.result k.forces
 
 pub drop_literal-rest-requires-clause-in_range : goal.drop_literal-rest-requires-clause-in_range
 drop_literal-rest-requires-clause-in_range c =
@@ -76,22 +58,20 @@ mark-requires-clause-in_range c =
 
 pub mark-requires-clause-assigned : goal.mark-requires-clause-assigned
 mark-requires-clause-assigned c =
-    before-goes-on c.args.trail.now.entries c.args.place (signs c.explain_reason.new.values) (c.in_ok-explain_reason-in-Some.ensures.values ∙ c.requires.values)
+    before-goes-on c.args.trail.now.entries c.args.place (value_in (take c.args.place c.args.trail.now.entries)) refl
 
-pub returns-clause-learning : goal.returns-clause-learning
-returns-clause-learning c =
+pub returns : goal.returns
+returns c =
     let k = can-resolve c.args.store.now c.args.trail.now.entries c.args.trail.now.variables c.args.place c.index-literals-place.result c.in-Some.reason (signs c.args.clause.now) c.args.count c.args.ops.now.items c.requires.place c.requires.few c.assigned-assigned.ensures.distinct (c.index-literals-place.is ∙ ap (λ (ls : List Literal). get_or ls c.args.place c.index-literals-place.result) c.literals.ensures) c.requires.forced c.requires.marked c.requires.two c.requires.learning (ap (reason_in c.args.trail.now.entries) (sym c.var.ensures.value) ∙ sym c.reason.ensures ∙ c.in-Some.is) in
     let at = at-place c.args.trail.now.entries c.args.trail.now.variables c.args.place c.index-literals-place.result c.requires.place c.assigned-assigned.ensures.distinct c.assigned-assigned.ensures.in_range (c.index-literals-place.is ∙ ap (λ (ls : List Literal). get_or ls c.args.place c.index-literals-place.result) c.literals.ensures) in
     let es = c.args.trail.now.entries in
     let n = c.args.trail.now.variables in
     let a : ℕ → Option Bool = value_in (take c.args.place es) in
-    let b : ℕ → Option Bool = signs c.explain_reason.new.values in
-    let same : b ≡ a = c.in_ok-explain_reason-in-Some.ensures.values ∙ c.requires.values in
     let con : Linear = constraint_of c.args.store.now c.in-Some.reason in
     let f : ℕ → Option Bool = signs c.args.clause.now in
     let mid : ℕ → Option Bool = signs c.drop_literal-rest.new.clause in
     let h : ℕ → Option Bool = signs c.mark.new.clause in
-    let is = is-resolvent a b con.terms n c.index-literals-place.result.var f mid h (k.usable).in_range same at.1 c.drop_literal-rest.ensures.dropped
+    let is = is-resolvent a a con.terms n c.index-literals-place.result.var f mid h (k.usable).in_range refl at.1 c.drop_literal-rest.ensures.dropped
     c.mark.ensures.added in
     let len : length c.drop_literal-rest.new.clause ≡ n = c.drop_literal-rest.auto.clause ∙ c.requires.clause_length in
     let count : c.mark.result ≡ currents n 0 es h = c.mark.ensures.counted ∙ ap (λ (m : ℕ). currents m 0 es h) len in
@@ -99,5 +79,5 @@ returns-clause-learning c =
     let old = c.args.ops.now.items in
     let pid = proof_id_of c.args.store.now c.in-Some.reason in
     let F : (ℕ → Option Bool) → List Op = λ a. old ++ (clause_ops pid (flipped a lit) con ++ Add ∷ Saturate ∷ []) in
-    let ops = c.in_ok-explain_reason-in-Some.ensures.ops ∙ ap F c.requires.values in
+    let ops = c.in_ok-explain_reason-in-Some.ensures.ops in
     learning-same c.args.store.now es n c.args.place c.mark.result h (F a) c.explain_reason.new.ops.items count ops (k.step c.in_ok-explain_reason-in-Some.ensures.normal h is)

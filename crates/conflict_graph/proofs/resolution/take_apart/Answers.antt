@@ -1,5 +1,5 @@
 use Rattle.std.proofs.Common.{◌≡◌, ◌++◌, ◌∙◌, sym, ap, refl, arith, Bool, List, length, subst, Option, ℕ, take}
-use Rattle.std.proofs.lemmas.List.{take_all, length-map}
+use Rattle.std.proofs.lemmas.List.{length-map}
 use Rattle.pb_rules.specs.Literal.{Literal}
 use Rattle.pb_rules.specs.Linear.{Linear}
 use Rattle.pb_rules.specs.Partial.{InConflict}
@@ -10,16 +10,18 @@ use Rattle.trail_state.specs.Trail.{Entry, value_in}
 use Rattle.conflict_graph.specs.Learning.{signs, current_at, currents, Learning}
 use Rattle.conflict_graph.proofs.Counts.{currents-none}
 use Rattle.conflict_graph.proofs.Steps.{learning-start, learnt-one, learnt-none}
-use Rattle.conflict_graph.proofs.Resolving.{start-same, marked-start}
+use Rattle.conflict_graph.proofs.Resolving.{start-same, marked-start, before-goes-on, whole-trail}
 use Rattle.conflict_graph.proofs.resolution.take_apart.Goals as goal
 
 pub explain-requires-clause-conflict : goal.explain-requires-clause-conflict
 explain-requires-clause-conflict c =
-    let Q : (ℕ → Option Bool) → Type 0 = λ a. InConflict a (constraint_of c.args.store.now c.args.conflict) in
-    subst Q (sym c.requires.values) c.requires.conflict
+    let Q : List Entry → Type 0 = λ fs. InConflict (value_in fs) (constraint_of c.args.store.now c.args.conflict) in
+    subst Q (sym (whole-trail c.args.trail.now.entries c.literals-place.result.now c.literals-place.ensures)) c.requires.conflict
 
 pub mark-count-requires-clause-assigned : goal.mark-count-requires-clause-assigned
-mark-count-requires-clause-assigned c = λ x b s. ap (λ (a : ℕ → Option Bool). a x) (sym c.requires.values) ∙ s
+mark-count-requires-clause-assigned c =
+    let es = c.args.trail.now.entries in
+    before-goes-on es (length c.literals-place.result.now) (value_in (take (length c.literals-place.result.now) es)) refl
 
 pub mark-count-requires-clause-counted : goal.mark-count-requires-clause-counted
 mark-count-requires-clause-counted c =
@@ -32,17 +34,17 @@ loop-place-init c =
     let live = c.args.store.now in
     let con : Linear = constraint_of live c.args.conflict in
     let len : length c.literals-place.result.now ≡ length es = ap (λ (ls : List Literal). length ls) c.literals-place.ensures ∙ length-map es (λ (e : Entry). e.lit) in
-    let all : take (length c.literals-place.result.now) es ≡ es = take_all (length c.literals-place.result.now) es (omega arith) in
+    let b : ℕ → Option Bool = value_in (take (length c.literals-place.result.now) es) in
+    let all : b ≡ value_in es = ap value_in (whole-trail es c.literals-place.result.now c.literals-place.ensures) in
     let f : ℕ → Option Bool = signs c.mark-count.new.clause in
-    let f-is : f ≡ false_signs (value_in es) con.terms = marked-start (value_in es) (signs c.args.values.now) con.terms con.terms (signs c.args.clause.now) f c.requires.nothing c.requires.values refl c.mark-count.ensures.added in
+    let f-is : f ≡ false_signs (value_in es) con.terms = marked-start (value_in es) b con.terms con.terms (signs c.args.clause.now) f c.requires.nothing all refl c.mark-count.ensures.added in
     let count : c.mark-count.result ≡ currents n 0 es f = c.mark-count.ensures.counted ∙ ap (λ (m : ℕ). currents m 0 es f) c.requires.clause_length in
     let pid : ℕ = proof_id_of live c.args.conflict in
     let ops : c.explain.new.ops.items ≡ clause_ops pid (value_in es) con = c.in_ok-explain.ensures.written
-    ∙ ap (λ (old : List Op). old ++ clause_ops pid (signs c.args.values.now) con) c.requires.no_ops
-    ∙ ap (λ (a : ℕ → Option Bool). clause_ops pid a con) c.requires.values in
+    ∙ ap (λ (old : List Op). old ++ clause_ops pid b con) c.requires.no_ops
+    ∙ ap (λ (a : ℕ → Option Bool). clause_ops pid a con) all in
     record {
       place = omega arith;
-      values = c.requires.values ∙ sym (ap value_in all);
       learning = start-same live es n (length c.literals-place.result.now) c.mark-count.result f (false_signs (value_in es) con.terms) (clause_ops pid (value_in es) con) c.explain.new.ops.items len f-is count ops (learning-start live es n c.args.conflict c.requires.few c.requires.usable c.in_ok-explain.ensures.normal c.requires.conflict c.requires.current);
     }
 

@@ -88,5 +88,5 @@ loop-conflict-preserved c =
       goes_on = goes-trans c.args.self.now.trail.entries mid now (goes-trans c.args.self.now.trail.entries es mid i.goes_on (goes-appends held es mid appends)) goes;
       store = i.store;
       log = i.log;
-      learned = i.learned;
+      kept = i.kept;
     }

@@ -14,7 +14,7 @@ invariant-loop-conflict l = record {
   goes_on : GoesOnFrom l.fn.self.trail.entries l.self.trail.entries;
   store : l.self.store ≡ l.fn.self.store;
   log : l.self.log ≡ l.fn.self.log;
-  learned : l.self.learned ≡ l.fn.self.learned;
+  kept : l.self.kept.items ≡ l.fn.self.kept.items;
 }
 
 abbrev pub decreases-loop-conflict : goal.decreases-loop-conflict

@@ -1,4 +1,4 @@
-use Rattle.std.proofs.Common.{◌∙◌, ◌+◌, ◌++◌, ◌∷◌, [], List, ap, sym, map, append_assoc, vec_items}
+use Rattle.std.proofs.Common.{◌∙◌, ◌+◌, ◌++◌, ◌∷◌, [], List, ap, sym, map, append_assoc}
 use Rattle.std.proofs.lemmas.List.{length_push}
 use Rattle.std.specs.Vec.Iter.{into_iter_items}
 use Rattle.pb_rules.specs.Linear.{Linear}
@@ -16,11 +16,11 @@ loop-c-preserved c =
       idle = record {
         loaded = a.loaded;
         nothing = ap (λ (t : TrailView). t.entries) a.trail ∙ i.idle.nothing;
-        none_learned = ap vec_items a.learned ∙ i.idle.none_learned;
       };
       given = ap (map content) a.added ∙ numbered-last c.loop-c.yielded c.loop-c.self.store x i.numbered i.given;
       numbered = ap (λ n. n + 1) (i.numbered ∙ sym (length_push c.loop-c.yielded c.in-Some.c));
       parts = i.parts ∙ ap (λ (cs : List Linear). c.loop-c.yielded ++ cs) c.in-Some.ensures.steps.0 ∙ sym (append_assoc c.loop-c.yielded (c.in-Some.c ∷ []) (into_iter_items c.next.new.self));
       variables = ap (λ (t : TrailView). t.variables) a.trail ∙ i.variables;
       log = a.log ∙ i.log;
+      kept = a.kept ∙ i.kept;
     }

@@ -1,4 +1,4 @@
-use Rattle.std.proofs.Common.{◌≡◌, ◌∙◌, ◌<◌, ◌+◌, ℕ, sym, ap, subst, refl, arith, List, length, vec_items}
+use Rattle.std.proofs.Common.{◌≡◌, ◌∙◌, ◌<◌, ◌+◌, ℕ, sym, ap, subst, refl, arith, List, length}
 use Rattle.std.specs.Vec.{with_items}
 use Rattle.std.proofs.lemmas.List.{with_items_is}
 use Rattle.pb_constraints.specs.declared.ConId.{ConId}
@@ -6,10 +6,10 @@ use Rattle.trail_state.specs.Trail.{level_of}
 use Rattle.propagate.specs.Attached.{Attached}
 use Rattle.propagate.specs.Forced.{IsConflict, AllClosed}
 use Rattle.ordered_solver.specs.declared.answer.Answer.TheVariants.{Model}
-use Rattle.ordered_solver.specs.Lessons.{HasLearned, IsCounted, IsFound}
+use Rattle.ordered_solver.specs.Lessons.{HasAdded, IsCounted, IsFound}
 use Rattle.ordered_solver.specs.Trails.{IsOrdered, ArePassed, Covers}
 use Rattle.ordered_solver.proofs.Ends.{found-budget, found-nothing, found-model}
-use Rattle.ordered_solver.proofs.Lessons.{learned-none}
+use Rattle.ordered_solver.proofs.Lessons.{learned-none, added-refuted}
 use Rattle.ordered_solver.proofs.Places.{passed-start, passed-learns}
 use Rattle.ordered_solver.proofs.Turns.{usable, all-forced, current, are-held, learned-same, turn-learned, turn-ordered, turn-word, turn-smaller, turn-counted, still-counted, empty-ordered}
 use Rattle.ordered_solver.proofs.engine.Engine.search.Goals as goal
@@ -17,7 +17,6 @@ use Rattle.ordered_solver.proofs.engine.Engine.search.Goals as goal
 pub loop-conflict-init : goal.loop-conflict-init
 loop-conflict-init c =
     let s = c.args.self.now in
-    let P : List ConId → Type 0 = λ is. HasLearned s.store s.store is s.log s.log 0 in
     let many = c.variables.ensures.value in
     let enough = c.in_ok-places.ensures.long in
     let long : s.trail.variables < length c.in_ok-places.places.items = omega arith in
@@ -27,7 +26,7 @@ loop-conflict-init c =
       ordered = empty-ordered s.propagator.attached c.args.order.now s.trail.entries c.requires.nothing;
       passed = passed-start c.args.order.now s.trail.entries c.in_ok-places.places.items c.in_ok-places.ensures.start;
       long = long;
-      learned = subst P (sym c.requires.none_learned) (learned-none s.store s.log);
+      learned = learned-none s.store s.kept.items s.log;
       counted = omega arith;
       below = c.requires.some;
     }
@@ -79,14 +78,14 @@ returns-in_default-clause-found c =
     let held : List Attached = s.propagator.attached in
     let v : ℕ = s.trail.variables in
     let many : v ≡ start.trail.variables = d.variables ∙ i.variables in
-    let learned = learned-same start.store l.store s.store l.learned.items s.learned.items start.log l.log s.log n d.store (ap vec_items d.learned) d.log i.learned in
+    let learned = learned-same start.store l.store s.store start.kept.items l.kept.items s.kept.items start.log l.log s.log n d.store (d.kept) d.log i.learned in
     let O : List Attached → Type 0 = λ h. IsOrdered h order s.trail.entries in
     let C : List Attached → Type 0 = λ h. AllClosed h s.trail.entries in
     let F : ℕ → Type 0 = λ m. IsFound start.store start.log s.log order m c.args.budget (Model c.in_ok-values_of.field-0) in
     let V : ℕ → Type 0 = λ m. Covers order m in
     let below = i.below in
     let every = c.requires.every in
-    subst F many (found-model start.store s.store s.learned.items held start.log s.log order v c.args.budget n s.trail.entries c.in_ok-values_of.field-0 learned below
+    subst F many (found-model start.store s.store start.kept.items s.kept.items held start.log s.log order v c.args.budget n s.trail.entries c.in_ok-values_of.field-0 learned below
     (still-counted l.trail.variables v l.trail.entries s.trail.entries n d.variables d.goes_on i.counted) (c.requires.every ∙ sym many) (subst V (sym many) c.requires.covers)
     d.loaded.attached d.loaded.in_range (are-held s.store s.propagator s.trail d.loaded) (subst O (sym d.attached) d.ordered).search c.in_default.ensures.full (subst C (sym d.attached) c.in_default.ensures.closed)
     c.assigned-assigned.ensures.distinct c.assigned-assigned.ensures.in_range c.in_ok-values_of.ensures)
@@ -99,10 +98,32 @@ returns-then-level-eq0-clause-found c =
     let d = c.descend.ensures in
     let start = c.args.self.now in
     let n = c.loop-conflict.conflicts in
-    let learned = learned-same start.store l.store s.store l.learned.items s.learned.items start.log l.log s.log n d.store (ap vec_items d.learned) d.log i.learned in
+    let learned = learned-same start.store l.store s.store start.kept.items l.kept.items s.kept.items start.log l.log s.log n d.store (d.kept) d.log i.learned in
     let K : ℕ → Type 0 = λ m. IsCounted m l.trail.entries n in
     let below = i.below in
-    found-nothing start.store s.store s.learned.items start.log s.log c.refute.new.self.log c.args.order.now start.trail.variables c.args.budget n l.trail.entries learned c.in_ok-refute.ensures.refutes below (subst K i.variables i.counted)
+    found-nothing start.store s.store c.refute.new.self.store start.kept.items s.kept.items start.log s.log c.refute.new.self.log c.in_ok-refute.field-0 c.args.order.now start.trail.variables c.args.budget n l.trail.entries learned c.in_ok-refute.ensures.refutes below (subst K i.variables i.counted)
+
+pub returns-in_default-clause-added : goal.returns-in_default-clause-added
+returns-in_default-clause-added c =
+    let l = c.loop-conflict.self in
+    let s = c.descend.new.self in
+    let i = c.loop-conflict.invariant in
+    let d = c.descend.ensures in
+    let start = c.args.self.now in
+    let learned = learned-same start.store l.store s.store start.kept.items l.kept.items s.kept.items start.log l.log s.log c.loop-conflict.conflicts d.store d.kept d.log i.learned in
+    learned.added
+
+pub returns-then-level-eq0-clause-added : goal.returns-then-level-eq0-clause-added
+returns-then-level-eq0-clause-added c =
+    let l = c.loop-conflict.self in
+    let s = c.descend.new.self in
+    let w = c.refute.new.self in
+    let i = c.loop-conflict.invariant in
+    let d = c.descend.ensures in
+    let start = c.args.self.now in
+    let learned = learned-same start.store l.store s.store start.kept.items l.kept.items s.kept.items start.log l.log s.log c.loop-conflict.conflicts d.store d.kept d.log i.learned in
+    let A : List ConId → Type 0 = λ is. HasAdded start.store w.store start.kept.items is start.log w.log in
+    subst A (sym c.in_ok-refute.ensures.id) (added-refuted start.store s.store w.store start.kept.items s.kept.items start.log s.log w.log c.in_ok-refute.field-0 learned.added c.in_ok-refute.ensures.refutes)
 
 pub returns-then-conflicts-budget-clause-found : goal.returns-then-conflicts-budget-clause-found
 returns-then-conflicts-budget-clause-found c =
@@ -117,15 +138,15 @@ returns-then-conflicts-budget-clause-found c =
     let not-zero = c.if-level-eq0.false in
     let is = c.level.ensures in
     let high : 0 < level_of s.trail.entries = omega arith in
-    let learned = learned-same start.store l.store s.store l.learned.items s.learned.items start.log l.log s.log n d.store (ap vec_items d.learned) d.log i.learned in
+    let learned = learned-same start.store l.store s.store start.kept.items l.kept.items s.kept.items start.log l.log s.log n d.store (d.kept) d.log i.learned in
     let O : List Attached → Type 0 = λ h. IsOrdered h order s.trail.entries in
     let ordered = subst O (sym d.attached) d.ordered in
-    let more = turn-learned start.store s.store w.store s.learned.items w.learned.items s.propagator s.trail w.propagator.attached order w.trail.entries start.log s.log w.log n c.in_ok-learn.field-0 d.loaded ordered high learned c.in_ok-learn.ensures.learns c.in_ok-learn.ensures.id in
+    let more = turn-learned start.store s.store w.store start.kept.items s.kept.items w.kept.items s.propagator s.trail w.propagator.attached order w.trail.entries start.log s.log w.log n c.in_ok-learn.field-0 d.loaded ordered high learned c.in_ok-learn.ensures.learns c.in_ok-learn.ensures.id in
     let few = d.few in
     let vars = d.variables in
     let rise = turn-word s.store w.store s.propagator.attached w.propagator.attached l.trail.entries s.trail.entries w.trail.entries s.log w.log c.in_ok-learn.field-0 l.trail.variables d.goes_on (omega arith) high c.in_ok-learn.ensures.learns in
     let counted = turn-counted l.trail.variables start.trail.variables l.trail.entries w.trail.entries n (sym i.variables) rise i.counted in
-    found-budget start.store w.store w.learned.items start.log w.log order start.trail.variables c.args.budget (n + 1) w.trail.entries more c.if-conflicts-budget.true counted
+    found-budget start.store w.store start.kept.items w.kept.items start.log w.log order start.trail.variables c.args.budget (n + 1) w.trail.entries more c.if-conflicts-budget.true counted
 
 pub returns-then-conflicts-budget-clause-added : goal.returns-then-conflicts-budget-clause-added
 returns-then-conflicts-budget-clause-added c =
@@ -140,10 +161,10 @@ returns-then-conflicts-budget-clause-added c =
     let not-zero = c.if-level-eq0.false in
     let is = c.level.ensures in
     let high : 0 < level_of s.trail.entries = omega arith in
-    let learned = learned-same start.store l.store s.store l.learned.items s.learned.items start.log l.log s.log n d.store (ap vec_items d.learned) d.log i.learned in
+    let learned = learned-same start.store l.store s.store start.kept.items l.kept.items s.kept.items start.log l.log s.log n d.store (d.kept) d.log i.learned in
     let O : List Attached → Type 0 = λ h. IsOrdered h order s.trail.entries in
     let ordered = subst O (sym d.attached) d.ordered in
-    let more = turn-learned start.store s.store w.store s.learned.items w.learned.items s.propagator s.trail w.propagator.attached order w.trail.entries start.log s.log w.log n c.in_ok-learn.field-0 d.loaded ordered high learned c.in_ok-learn.ensures.learns c.in_ok-learn.ensures.id in
+    let more = turn-learned start.store s.store w.store start.kept.items s.kept.items w.kept.items s.propagator s.trail w.propagator.attached order w.trail.entries start.log s.log w.log n c.in_ok-learn.field-0 d.loaded ordered high learned c.in_ok-learn.ensures.learns c.in_ok-learn.ensures.id in
     more.added
 
 pub loop-conflict-smaller : goal.loop-conflict-smaller
@@ -173,7 +194,7 @@ loop-conflict-preserved c =
     let not-zero = c.if-level-eq0.false in
     let is = c.level.ensures in
     let high : 0 < level_of s.trail.entries = omega arith in
-    let learned = learned-same start.store l.store s.store l.learned.items s.learned.items start.log l.log s.log n d.store (ap vec_items d.learned) d.log i.learned in
+    let learned = learned-same start.store l.store s.store start.kept.items l.kept.items s.kept.items start.log l.log s.log n d.store (d.kept) d.log i.learned in
     let O : List Attached → Type 0 = λ h. IsOrdered h order s.trail.entries in
     let ordered = subst O (sym d.attached) d.ordered in
     let few = d.few in
@@ -193,7 +214,7 @@ loop-conflict-preserved c =
       ordered = turn-ordered s.store w.store s.propagator s.trail w.propagator.attached order w.trail.entries s.log w.log c.in_ok-learn.field-0 d.loaded ordered high c.in_ok-learn.ensures.learns;
       passed = subst S (sym items) (passed-learns s.store w.store s.propagator.attached w.propagator.attached order c.descend.new.places s.trail.entries w.trail.entries s.log w.log c.in_ok-learn.field-0 c.in_ok-learn.ensures.learns high d.passed);
       long = subst N (sym items) (omega arith);
-      learned = turn-learned start.store s.store w.store s.learned.items w.learned.items s.propagator s.trail w.propagator.attached order w.trail.entries start.log s.log w.log n c.in_ok-learn.field-0 d.loaded ordered high learned c.in_ok-learn.ensures.learns c.in_ok-learn.ensures.id;
+      learned = turn-learned start.store s.store w.store start.kept.items s.kept.items w.kept.items s.propagator s.trail w.propagator.attached order w.trail.entries start.log s.log w.log n c.in_ok-learn.field-0 d.loaded ordered high learned c.in_ok-learn.ensures.learns c.in_ok-learn.ensures.id;
       counted = turn-counted l.trail.variables w.trail.variables l.trail.entries w.trail.entries n (c.learn.ensures.variables ∙ d.variables) rise i.counted;
       below = omega arith;
     }

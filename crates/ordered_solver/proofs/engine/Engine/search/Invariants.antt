@@ -12,7 +12,7 @@ invariant-loop-conflict l = record {
   ordered : IsOrdered l.self.propagator.attached l.order l.self.trail.entries;
   passed : ArePassed l.order l.self.trail.entries l.places.items;
   long : l.self.trail.variables < length l.places.items;
-  learned : HasLearned l.fn.self.store l.self.store l.self.learned.items l.fn.self.log l.self.log l.conflicts;
+  learned : HasLearned l.fn.self.store l.self.store l.fn.self.kept.items l.self.kept.items l.fn.self.log l.self.log l.conflicts;
   counted : IsCounted l.self.trail.variables l.self.trail.entries l.conflicts;
   below : l.conflicts < l.budget;
 }

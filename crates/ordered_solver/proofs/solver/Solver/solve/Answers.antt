@@ -1,31 +1,53 @@
-use Rattle.std.proofs.Common.{sym, ap, subst, List, map, false, refl}
-use Rattle.std.specs.Prelude.{All}
-use Rattle.constraint_store.specs.Live.{Live, content}
-use Rattle.ordered_solver.specs.Answers.{AnswersInFrames, new_lines}
-use Rattle.ordered_solver.specs.Solver.{SolverValue, HasGivenId}
-use Rattle.ordered_solver.proofs.Ids.{given-ids-later}
-use Rattle.ordered_solver.proofs.Agreeing.{says-given, in-frames}
+use Rattle.std.proofs.Common.{◌∙◌, sym, ap, subst, false, refl}
+use Rattle.ordered_solver.specs.Answers.{AnswerSays, AnswersInFrames, AreNewOverKept}
+use Rattle.ordered_solver.specs.Engines.{given_of, kept_of}
+use Rattle.ordered_solver.specs.Solver.{SolverValue, constraints_of}
+use Rattle.ordered_solver.proofs.Agreeing.{says-given, in-frames, new-over-kept}
+use Rattle.ordered_solver.proofs.Between.{between-on, same-value}
+use Rattle.ordered_solver.proofs.KeptOn.{given-on}
 use Rattle.ordered_solver.proofs.solver.Solver.solve.Goals as goal
 
 pub returns-clause-answer : goal.returns-clause-answer
 returns-clause-answer c =
     let e = c.self.inside.engine in
-    says-given e.store c.args.self.now.given e.log c.solve.new.self.log c.args.order.now e.trail.variables c.args.budget c.in_ok-answer.answer (ap (λ (s : SolverValue). s.given) c.self.view_is) c.in_ok-answer.ensures.found
+    let b = c.self.invariant c.if-self.false in
+    let S : SolverValue → Type 0 = λ v. AnswerSays (constraints_of v.given) c.args.order.now c.in_ok-answer.answer in
+    subst S c.self.view_is (says-given e.store e.log c.args.order.now c.in_ok-answer.answer b.keeps c.in_ok-answer.ensures.found.says)
 
 pub returns-clause-frames : goal.returns-clause-frames
 returns-clause-frames c =
     let e = c.self.inside.engine in
     let w = c.solve.new.self in
-    let before : SolverValue = record { variables = e.trail.variables; given = map content e.store; log = e.log; spent = c.self.inside.spent } in
-    let after : SolverValue = record { variables = w.trail.variables; given = map content w.store; log = w.log; spent = false } in
+    let b = c.self.invariant c.if-self.false in
+    let before : SolverValue = record { variables = e.trail.variables; given = given_of e.log e.store; kept = kept_of e.log e.store; log = e.log; spent = c.self.inside.spent } in
+    let after : SolverValue = record { variables = w.trail.variables; given = given_of w.log w.store; kept = kept_of w.log w.store; log = w.log; spent = false } in
     let P : SolverValue → Type 0 = λ s. AnswersInFrames s after c.args.order.now c.in_ok-answer.answer in
-    subst P c.self.view_is (in-frames e.store before after c.args.order.now e.trail.variables c.args.budget c.in_ok-answer.answer refl (ap (map content) c.in_ok-answer.ensures.store) c.in_ok-answer.ensures.found)
+    let same = given-on e.store w.store e.log w.log b.listed.known c.in_ok-answer.ensures.kept in
+    subst P c.self.view_is (in-frames e.store before after c.args.order.now e.trail.variables c.args.budget c.in_ok-answer.answer refl refl same b.keeps c.in_ok-answer.ensures.found)
+
+pub returns-clause-new : goal.returns-clause-new
+returns-clause-new c =
+    let e = c.self.inside.engine in
+    let w = c.solve.new.self in
+    let b = c.self.invariant c.if-self.false in
+    let before : SolverValue = record { variables = e.trail.variables; given = given_of e.log e.store; kept = kept_of e.log e.store; log = e.log; spent = c.self.inside.spent } in
+    let after : SolverValue = record { variables = w.trail.variables; given = given_of w.log w.store; kept = kept_of w.log w.store; log = w.log; spent = false } in
+    let P : SolverValue → Type 0 = λ s. AreNewOverKept s after c.in_ok-answer.answer in
+    subst P c.self.view_is (new-over-kept e.store before after c.args.order.now e.trail.variables c.args.budget c.in_ok-answer.answer refl refl b.keeps c.in_ok-answer.ensures.found)
 
 pub invariant_of-self-2 : goal.invariant_of-self-2
 invariant_of-self-2 c = λ _.
-    (let kept = c.self.invariant c.if-self.false in
+    (let e = c.self.inside.engine in
+    let w = c.solve.new.self in
+    between-on e.store w.store e.propagator w.propagator e.trail w.trail e.kept.items w.kept.items e.log w.log (c.self.invariant c.if-self.false) c.in_ok-answer.ensures.idle c.in_ok-answer.ensures.listed c.in_ok-answer.ensures.kept)
+
+pub returns-clause-same : goal.returns-clause-same
+returns-clause-same c =
     let e = c.self.inside.engine in
     let w = c.solve.new.self in
-    let later = given-ids-later e.log w.log (new_lines e.log w.log) (map content e.store) c.in_ok-answer.ensures.found.log.kept kept.given_ids in
-    let P : List Live → Type 0 = λ ls. All (HasGivenId w.log) (map content ls) in
-    record { idle = c.in_ok-answer.ensures.idle; given_ids = subst P (sym c.in_ok-answer.ensures.store) later })
+    let b = c.self.invariant c.if-self.false in
+    let goes-on : SolverValue → SolverValue = λ s. record s { kept = kept_of w.log w.store; log = w.log } in
+    let before : SolverValue = record { variables = e.trail.variables; given = given_of e.log e.store; kept = kept_of e.log e.store; log = e.log; spent = c.self.inside.spent } in
+    let after : SolverValue = record { variables = w.trail.variables; given = given_of w.log w.store; kept = kept_of w.log w.store; log = w.log; spent = false } in
+    let same = given-on e.store w.store e.log w.log b.listed.known c.in_ok-answer.ensures.kept in
+    same-value after (goes-on before) c.in_ok-answer.ensures.variables same refl refl (sym c.if-self.false) ∙ ap goes-on c.self.view_is

@@ -20,8 +20,8 @@ returns-clause-ok c =
     let old = c.self.inside.counters.slots.items in
     let new = c.attach.new.self.slots.items in
     let k = constraint_of c.args.store.now c.args.c in
-    let is : c.of_normal-constraint.result ≡ k = same_parts k c.in_ok-terms.terms.items c.degree.result c.of_normal-constraint.result c.of_normal-constraint.ensures.value (c.in_ok-terms.ensures.items ∙ c.terms.ensures.value) c.degree.ensures.value in
+    let is : c.in_ok-ranked.ranked ≡ k = c.in_ok-ranked.ensures ∙ same_parts k c.in_ok-terms.terms.items c.degree.result c.of_normal.result c.of_normal.ensures.value (c.in_ok-terms.ensures.items ∙ c.terms.ensures.value) c.degree.ensures.value in
     let held : attached_from 0 old ≡ c.args.self.now.attached = ap (λ (v : PropagatorView). v.attached) c.self.view_is in
     let P : List Attached → Type 0 = λ us. ChangesOnly us (attached_from 0 new) c.args.c (Some k) in
     let Q : Linear → Type 0 = λ l. IsPut c.args.c.0 (Some l) old new in
-    on-ok_map c.attach.result (IsPut c.args.c.0 (Some c.of_normal-constraint.result) old new) (P c.args.self.now.attached) (λ p. subst P held (changes-put old new c.args.c (Some k) (subst Q is p))) c.attach.ensures.ok
+    on-ok_map c.attach.result (IsPut c.args.c.0 (Some c.in_ok-ranked.ranked) old new) (P c.args.self.now.attached) (λ p. subst P held (changes-put old new c.args.c (Some k) (subst Q is p))) c.attach.ensures.ok
