@@ -5,3 +5,4 @@ pub mod Spelling
 pub mod Indexed
 pub mod Firsts
 pub mod Written
+pub mod Filling

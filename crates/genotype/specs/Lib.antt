@@ -3,3 +3,4 @@ pub mod Order
 pub mod Placing
 pub mod Statements
 pub mod Spelling
+pub mod Draws

@@ -4,6 +4,7 @@ pub mod Back
 pub mod Decide
 pub mod Numbers
 pub mod Rows
+pub mod Scheduled
 pub mod Pieces
 pub mod VariableWeights
 pub mod InRange

@@ -5,4 +5,5 @@ pub mod Walks
 pub mod Vectors
 pub mod Genotypes
 pub mod WellFormed
+pub mod Schedule
 pub mod Laws

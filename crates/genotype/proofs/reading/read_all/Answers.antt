@@ -1,11 +1,10 @@
 use Rattle.std.proofs.Common.{◌≡◌, ◌++◌, ◌∷◌, [], length, List, ℕ, Bor, refl, sym, ap, ◌∙◌, Option, Some}
 use Rattle.std.proofs.lemmas.List.{length-replicate}
-use Rattle.line_words.specs.Rules.{Words, Statement, Test, first_broken}
+use Rattle.line_words.specs.Rules.{Words, Statement, Test, first_broken, said}
 use Rattle.line_words.specs.declared.refusals.Why.{Why}
 use Rattle.line_words.specs.declared.refusals.Why.TheVariants.{NoHeader}
 use Rattle.line_words.specs.declared.refusals.FileTag.TheVariants.{Genotype}
 use Rattle.line_words.specs.declared.refusals.Stop.TheVariants.{Broken}
-use Rattle.file_bricks.specs.Words.{said}
 use Rattle.file_bricks.specs.Headed.{after_header, end_after_header}
 use Rattle.line_words.proofs.Steps.{goes_on, stops_here, refused_alone, ends_well, ends_broken}
 use Rattle.file_bricks.proofs.Headed.{header_wrong, header_right}

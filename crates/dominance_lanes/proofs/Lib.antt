@@ -1,0 +1,4 @@
+pub mod ColumnEdits
+pub mod OneGroup
+pub mod Rows
+pub mod WeightedSums

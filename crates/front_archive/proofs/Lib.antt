@@ -1,0 +1,4 @@
+pub mod Bests
+pub mod Offering
+pub mod Retained
+pub mod Places

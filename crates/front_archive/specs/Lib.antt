@@ -1,0 +1,4 @@
+pub mod AtMost
+pub mod Best
+pub mod Members
+pub mod Offers
