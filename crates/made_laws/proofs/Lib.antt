@@ -1,0 +1,9 @@
+pub mod Spelled
+pub mod Short
+pub mod Small
+pub mod Names
+pub mod Steps
+pub mod Lines
+pub mod Parts
+pub mod Whole
+pub mod Numbers
