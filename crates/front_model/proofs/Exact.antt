@@ -25,7 +25,7 @@ use Rattle.result_text.specs.Answers.{EntryValue}
 use Rattle.result_text.specs.Fronts.{FrontValue}
 use Rattle.front_model.specs.Fronts.{vector_in, vectors_of, IsEntry, IsClaim, IsFrontOf}
 use Rattle.front_model.specs.Proofs.{HasBelow, MayStand, IsClash, Refute}
-use Rattle.front_model.specs.Laws.{AcceptedIsFront, AcceptedTextIsFront}
+use Rattle.front_model.specs.Laws.{ClaimIsFront, AcceptedIsFront, AcceptedTextIsFront}
 
 -- the vector of a design has a number for each objective
 pub vector_long : (s : SpecValue) (f : Bits) → length (vector_of s f) ≡ length s.objectives
@@ -38,7 +38,7 @@ before_all u us w h =
     let e : suc h.0 ≡ h.0 + 1 = omega arith in
     (h.0 + 1, omega (arith, h.1), subst (λ (n : ℕ). get_or (u ∷ us) n w ≡ w) e h.2)
 
-split : (u : List ℕ) (us : List (List ℕ)) (w : List ℕ) → Contains (u ∷ us) w → (u ≡ w) ⊎ Contains us w
+pub split : (u : List ℕ) (us : List (List ℕ)) (w : List ℕ) → Contains (u ∷ us) w → (u ≡ w) ⊎ Contains us w
 split u us w (zero, l, e) = inl e
 split u us w (suc k, l, e) = inr (k, omega (arith, l), e)
 
@@ -98,7 +98,7 @@ reached s us ls x wf r valid =
 
 -- ---- the front
 
-module _ (s : SpecValue) (front : FrontValue) (wf : IsWellFormed s) (claim : IsClaim s front) (ls : List Line) (r : Refute s (vectors_of front) ls) where
+module _ (s : SpecValue) (front : FrontValue) (claim : IsClaim s front) (below_each : (x : Bits) → IsValid s x → HasBelow (vectors_of front) (vector_of s x)) where
   abbrev us : List (List ℕ)
   us = vectors_of front
 
@@ -133,7 +133,7 @@ module _ (s : SpecValue) (front : FrontValue) (wf : IsWellFormed s) (claim : IsC
         design = bits_of x.0.design;
         valid = x.1.valid;
         vector = x.1.stated ∙ x.2;
-        undominated = λ g valid d. (let b = reached s us ls g wf r valid in
+        undominated = λ g valid d. (let b = below_each g valid in
             let same : b.vector ≡ w = apart b.vector w b.there h (at_most_through b.vector (vector_of s g) w b.below d.0) in
             let back : IsAtMost w (vector_of s g) = subst (λ (y : List ℕ). IsAtMost y (vector_of s g)) same b.below in
             d.1 (at_most_both (vector_of s g) w (vector_long s g ∙ sym (long w h)) d.0 back));
@@ -141,7 +141,7 @@ module _ (s : SpecValue) (front : FrontValue) (wf : IsWellFormed s) (claim : IsC
 
   each_one : (w : List ℕ) → IsInFront s w → Contains us w
   each_one w h =
-      let b = reached s us ls h.design wf r h.valid in
+      let b = below_each h.design h.valid in
       let below : IsAtMost b.vector w = subst (λ (y : List ℕ). IsAtMost b.vector y) h.vector b.below in
       let x = entry_of b.vector b.there in
       let vector : vector_of s (bits_of x.0.design) ≡ b.vector = x.1.stated ∙ x.2 in
@@ -159,8 +159,11 @@ module _ (s : SpecValue) (front : FrontValue) (wf : IsWellFormed s) (claim : IsC
         claim.apart i j d (omega arith) many (λ q. absurd (omega (arith, q, lt))) (subst (λ (y : List ℕ). IsAtMost (get_or us i d) y) e (at_most_itself (get_or us i d))));
   }
 
+pub claim_is_front : ClaimIsFront
+claim_is_front s front claim below_each = exact s front claim below_each
+
 pub accepted_is_front : AcceptedIsFront
-accepted_is_front s front text wf a = exact s front wf a.claim a.proof.lines a.proof.refute
+accepted_is_front s front text wf a = exact s front a.claim (λ x. reached s (vectors_of front) a.proof.lines x wf a.proof.refute)
 
 pub accepted_text_is_front : AcceptedTextIsFront
 accepted_text_is_front s front_bytes proof_bytes wf a = accepted_is_front s a.front proof_bytes wf a.accepted

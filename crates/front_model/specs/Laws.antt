@@ -3,15 +3,21 @@ use Rattle.std.specs.Prelude.{◌≡◌, ℕ, ◌+◌, ◌<◌, ◌≤◌, true,
 use Rattle.std.specs.List.{position_or_len, list_any, concat}
 use Rattle.line_words.specs.Front.{is_lf}
 use Rattle.block_encode.specs.Laws.{variables_to, KnowsBelow}
-use Rattle.spec_model.specs.Spec.{SpecValue}
+use Rattle.spec_model.specs.Spec.{SpecValue, Bits}
+use Rattle.spec_model.specs.Rules.{IsValid}
+use Rattle.spec_model.specs.Vectors.{vector_of}
 use Rattle.spec_model.specs.WellFormed.{IsWellFormed}
 use Rattle.spelled_lines.specs.Lines.{pieces}
 use Rattle.result_text.specs.Fronts.{FrontValue}
 use Rattle.front_model.specs.Fronts.{vectors_of, IsClaim, IsFrontOf}
-use Rattle.front_model.specs.Proofs.{Proves, Accepts, AcceptsTexts}
+use Rattle.front_model.specs.Proofs.{HasBelow, Proves, Accepts, AcceptsTexts}
 use Rattle.front_model.specs.Judging.{Progress, begun, take_line, take_lines, verdict_of}
 use Rattle.front_model.specs.declared.refusals.Refused.{Refused}
 use Rattle.front_model.specs.declared.refusals.Verdict.TheVariants as verdicts
+
+-- a front that may be checked, and of which each valid design's vector has one at most it, is the front of the specification
+abbrev pub ClaimIsFront : Type 0
+ClaimIsFront = (s : SpecValue) (front : FrontValue) → IsClaim s front → ((f : Bits) → IsValid s f → HasBelow (vectors_of front) (vector_of s f)) → IsFrontOf s front
 
 -- a front that is accepted with a proof text is the front of the specification
 abbrev pub AcceptedIsFront : Type 0

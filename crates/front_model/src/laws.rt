@@ -1,10 +1,11 @@
 //! What the definitions imply, as functions that do nothing.
 
-ghost use Rattle.front_model.specs.Laws.{AcceptedIsFront, AcceptedTextIsFront, JudgedExactly, CutIsPieces, EndedAreFirst, ReachedIsFront, ReachesOn, BeginsReached, RefusalStays, BeginsKnown, StaysKnown};
+ghost use Rattle.front_model.specs.Laws.{ClaimIsFront, AcceptedIsFront, AcceptedTextIsFront, JudgedExactly, CutIsPieces, EndedAreFirst, ReachedIsFront, ReachesOn, BeginsReached, RefusalStays, BeginsKnown, StaysKnown};
 
-/// A front that is accepted with a proof holds exactly the vectors of valid designs that no other dominates, each once
-/// and with a valid design.
+/// A front holds exactly the vectors of valid designs that no other dominates, each once and with a valid design, where it
+/// may be checked and each valid design's vector has one of it at most itself; and where it is accepted with a proof.
 pub fn law_of_fronts()
+    ensures claims { ClaimIsFront }
     ensures values { AcceptedIsFront }
     ensures texts { AcceptedTextIsFront }
 {}

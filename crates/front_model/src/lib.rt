@@ -7,5 +7,7 @@
 
 pub mod laws;
 mod refusals;
+mod vectors;
 
 pub use refusals::{FrontRefused, FrontWhy, ProofWhy, Refused, Verdict};
+pub use vectors::{is_at_most, stands_before};

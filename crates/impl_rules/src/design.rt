@@ -50,6 +50,14 @@ impl Design {
         self.bytes[v as usize] = u8::from(bit);
     }
 
+    /// A copy. It is refused only for want of memory.
+    pub fn copy(&self, alloc: Global) -> Result<Design, AllocError>
+        ensures { IfOk result (λ d. d ≡ self.now) }
+    {
+        let bytes = Vec::from_slice(alloc, &self.bytes)?;
+        Ok(Design { bytes })
+    }
+
     /// The bits as bytes 0 and 1, by the number of the variable.
     pub fn bytes(&self) -> &[u8]
         ensures bits { self.now ≡ bits_in result.now }

@@ -4,8 +4,7 @@ use Rattle.std.specs.Prelude.{All, ◌||◌}
 use Rattle.std.specs.List.{list_any}
 use Rattle.std.proofs.lemmas.List.{drop_more, drop_all, take_more, take_all, map_push, get_or-map, length-map}
 use Rattle.std.proofs.lemmas.List.Folds.{list_any_at}
-use Rattle.line_words.specs.Rules.{Words}
-use Rattle.line_words.proofs.Collected.{said}
+use Rattle.line_words.specs.Rules.{Words, said}
 use Rattle.pb_rules.specs.Linear.{Linear}
 use Rattle.pb_rules.specs.Operations.{Context, Fault, and_then}
 use Rattle.proof_words.specs.Words.{op_of, number_of}

@@ -207,7 +207,7 @@ pub legal_read_back : LegalReadBack
 legal_read_back f g ls e = read_again ls (lines_are f (base_of f) g ls e)
 
 pub honest_carries : HonestCarries
-honest_carries f ls h = record { lines = ls; read = legal_read_back f h.after ls h.legal; holds = h }
+honest_carries f ls h = record { lines = ls; read = legal_read_back f h.honest.after ls h.honest.legal; holds = h }
 
 pub shown_carries : ShownCarries
 shown_carries f g ls order v e shows = record { lines = ls; read = legal_read_back f g ls e; holds = shows }

@@ -16,9 +16,13 @@ pub record AreHonestLines (f : Frame) (before : Given) (base : List Linear) (ls 
 abbrev pub EndsASolve : List Line → Type 0
 EndsASolve ls = (ls ≡ []) ⊎ ((early : List Line) × (v : List ℕ) × (ls ≡ early ++ cover v ∷ []))
 
--- a whole log: the derived lines from each cover on, and from the start, are honest over the base and the blocks of the covers before, and the last derived constraint is not `0 >= 1`
-pub record IsHonestLog (f : Frame) (ls : List Line) : Type 0 where
+-- lines are legal, and the derived ones from each cover on, and from the start, are honest over the base and the blocks of the covers before
+pub record AreHonestSolves (f : Frame) (ls : List Line) : Type 0 where
   pub after : Given
   pub legal : given_by f ls ≡ Some after
   pub solves : (early solve late : List Line) (g : Given) → ls ≡ early ++ solve ++ late → EndsASolve early → All (λ l. is_derived l ≡ true) solve → given_by f early ≡ Some g → AreHonestLines f g (f.base ++ blocks_by f early) solve
+
+-- a whole log: each solve is honest, and the last derived constraint is not `0 >= 1`
+pub record IsHonestLog (f : Frame) (ls : List Line) : Type 0 where
+  pub honest : AreHonestSolves f ls
   pub last : (cs : List Linear) (c : Linear) → derived_by f ls ≡ cs ++ c ∷ [] → c ≢ contradiction

@@ -6,16 +6,17 @@
 //! more than it has numbers, under the ids that follow.
 #![tactic(auto)]
 
-ghost use Rattle.std.specs.Prelude.{ℕ, List, ◌≡◌, ◌<◌, ◌≤◌, ◌+◌, ◌^◌, ◌++◌, [], ◌∷◌, length, IfOk, OnOk, OnErr, Ok, Some};
+ghost use Rattle.std.specs.Prelude.{ℕ, List, true, ◌≡◌, ◌<◌, ◌≤◌, ◌+◌, ◌^◌, ◌++◌, [], ◌∷◌, length, IfOk, OnOk, OnErr, Ok, Some};
+ghost use Rattle.std.specs.List.{list_all};
 ghost use Rattle.pb_rules.specs.declared.Op.{Op};
 ghost use Rattle.pb_rules.specs.Linear.{Linear, AreAmong};
 ghost use Rattle.pb_rules.specs.Clauses.{IsClause};
-ghost use Rattle.pb_rules.specs.Operations.{line_gives};
+ghost use Rattle.pb_rules.specs.Operations.{line_gives, small_number};
 ghost use Rattle.pb_rules.specs.Honest.{IsUnabsorbed};
-ghost use Rattle.pb_rules.specs.Frames.{Line, derived, cover, derived_count, Frame, IsFrame, FitsFrom, Given, context_of, given_from, given_by, derived_from};
+ghost use Rattle.pb_rules.specs.Frames.{Line, derived, cover, derived_count, Frame, IsFrame, FitsFrom, Given, context_of, given_from, given_by, derived_from, blocks_by};
 ghost use Rattle.proof_log.specs.Log.{LogValue, next_id};
 ghost use Rattle.proof_words.specs.Lines.{line_text};
-ghost use Rattle.proof_log.specs.HonestLog.{AreHonestLines};
+ghost use Rattle.proof_log.specs.HonestLog.{AreHonestLines, EndsASolve, AreHonestSolves};
 ghost use Rattle.proof_log.specs.Text.{line_at, TextBegins, TextGoesOn};
 ghost use Rattle.proof_log.specs.Files.{ReadExactly, LegalReadBack, HonestCarries, ShownCarries};
 
@@ -67,6 +68,14 @@ pub fn law_of_honest()
     ensures part { (f : Frame) (g : Given) (cs ds : List Linear) (ls : List Line) → AreAmong cs ds → AreHonestLines f g ds ls → AreHonestLines f g cs ls }
 {}
 
+/// The solves of a log: no lines are honest solves, and they stay so by a cover of small numbers, and where a solve begins
+/// by lines that are honest over the base and the blocks of the covers before.
+pub fn law_of_solves()
+    ensures begins { (f : Frame) → AreHonestSolves f [] }
+    ensures cover { (f : Frame) (ls : List Line) (v : List ℕ) → list_all small_number v ≡ true → AreHonestSolves f ls → AreHonestSolves f (ls ++ cover v ∷ []) }
+    ensures solve { (f : Frame) (ls new : List Line) (before : Given) → AreHonestSolves f ls → EndsASolve ls → given_by f ls ≡ Some before → AreHonestLines f before (f.base ++ blocks_by f ls) new → AreHonestSolves f (ls ++ new) }
+{}
+
 /// The text of a proof file is its first line and the texts of the log's lines, one after another.
 pub fn law_of_text()
     ensures begins { TextBegins }
@@ -116,13 +125,14 @@ impl Log {
         Ok(id)
     }
 
-    /// Adds a cover, and answers the first id of its block, which has one constraint more than the cover has numbers. It
-    /// is refused for want of memory, and where no id below 2^63 would be left for the next line; then the log is as
-    /// before.
+    /// Adds a cover, and answers the first id of its block, which has one constraint more than the cover has numbers. All
+    /// ids of the block are below 2^63. It is refused for want of memory, and where no id below 2^63 would be left for the
+    /// next line; then the log is as before.
     pub fn cover(&mut self, v: &[u64]) -> Result<u64, AllocError>
         ensures id { IfOk result (λ id. id ≡ next_id self.old) }
         ensures in_range { IfOk result (λ id. id < 2 ^ 63) }
         ensures ok { OnOk result (self.new ≡ record self.old { lines = self.old.lines ++ cover v.now ∷ [] }) }
+        ensures room { OnOk result (next_id self.new < 2 ^ 63) }
         ensures err { OnErr result (self.new ≡ self.old) }
     {
         let id = self.next;

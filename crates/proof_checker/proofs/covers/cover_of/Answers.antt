@@ -1,6 +1,6 @@
 use Rattle.std.proofs.Common.{◌≡◌, sym, ap, ◌∙◌, Some}
 use Rattle.std.specs.Prelude.{option_map}
-use Rattle.line_words.proofs.Collected.{said}
+use Rattle.line_words.specs.Rules.{said}
 use Rattle.result_text.specs.Fronts.{front_of}
 use Rattle.front_model.specs.Fronts.{vectors_of}
 use Rattle.front_model.specs.Judging.{numbers_of}

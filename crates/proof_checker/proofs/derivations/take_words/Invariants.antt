@@ -1,5 +1,5 @@
 use Rattle.std.proofs.Common.{◌≡◌, [], drop}
-use Rattle.line_words.proofs.Collected.{said}
+use Rattle.line_words.specs.Rules.{said}
 use Rattle.front_model.specs.Judging.{judge_words}
 use Rattle.proof_checker.specs.Answers.{context_over}
 use Rattle.proof_checker.proofs.derivations.take_words.Given as goal

@@ -1,7 +1,6 @@
 use Rattle.std.proofs.Common.{sym, ap, ◌∙◌, ◌≡◌, subst, false}
 use Rattle.std.specs.List.{list_any}
-use Rattle.line_words.specs.Rules.{Words}
-use Rattle.line_words.proofs.Collected.{said}
+use Rattle.line_words.specs.Rules.{Words, said}
 use Rattle.spelled_lines.specs.Lines.{words_of, is_empty}
 use Rattle.result_text.specs.Fronts.{front_of}
 use Rattle.front_model.specs.Fronts.{vectors_of}

@@ -1,6 +1,6 @@
 use Rattle.std.proofs.Common.{sym, subst, List, ℕ}
 use Rattle.encode_model.specs.Block.{IsWithinWeights}
-use Rattle.line_words.proofs.Collected.{said}
+use Rattle.line_words.specs.Rules.{said}
 use Rattle.result_text.specs.Fronts.{front_of}
 use Rattle.front_model.specs.Fronts.{vectors_of}
 use Rattle.front_model.proofs.Lines.{cover_may}
