@@ -1,5 +1,5 @@
 -- What a front that was read comes to with the bytes of a proof file.
-use Rattle.std.specs.Prelude.{◌≡◌, ℕ, ◌⊎◌, List, length}
+use Rattle.std.specs.Prelude.{◌≡◌, ℕ, ◌⊎◌, List, [], length}
 use Rattle.spec_model.specs.Spec.{SpecValue}
 use Rattle.spelled_lines.specs.Lines.{pieces}
 use Rattle.result_text.specs.Fronts.{FrontValue}
@@ -43,6 +43,7 @@ pub record IsRefused (s : SpecValue) (front : FrontValue) (proof text : List ℕ
   pub fails : ¬ Accepts s front proof
   pub fault : IsFrontRefused s front text ⊎ IsProofRefused s front proof text
 
--- a front is accepted with a proof, or the first fault of both is said
-abbrev pub Judges : SpecValue → FrontValue → List ℕ → Outcome → Type 0
-Judges s front proof outcome = ((outcome.ending ≡ Done) × IsAccepted s front proof outcome.text.items) ⊎ ((outcome.ending ≡ No) × IsRefused s front proof outcome.text.items)
+-- a front is accepted with a proof, or the first fault of both is said; no file is written
+pub record Judges (s : SpecValue) (front : FrontValue) (proof : List ℕ) (outcome : Outcome) : Type 0 where
+  pub ends : ((outcome.ending ≡ Done) × IsAccepted s front proof outcome.text.items) ⊎ ((outcome.ending ≡ No) × IsRefused s front proof outcome.text.items)
+  pub none_written : outcome.writes ≡ []

@@ -42,17 +42,11 @@ fn end_by(
     match verdict {
         Verdict::Accepted => {
             put_accepted(alloc, front.entries.list().len() as u64, &mut text)?;
-            Ok(Outcome {
-                ending: Ending::Done,
-                text,
-            })
+            Ok(Outcome::said(alloc, Ending::Done, text))
         }
         Verdict::Refused(refused) => {
             put_proof_refused(alloc, refused, &mut text)?;
-            Ok(Outcome {
-                ending: Ending::No,
-                text,
-            })
+            Ok(Outcome::said(alloc, Ending::No, text))
         }
     }
 }
@@ -71,10 +65,7 @@ fn refuse_front(
     let _ = front;
     let mut text = Vec::new(alloc);
     put_front_refused(alloc, refused, &mut text)?;
-    Ok(Outcome {
-        ending: Ending::No,
-        text,
-    })
+    Ok(Outcome::said(alloc, Ending::No, text))
 }
 
 /// What a front comes to with a proof file, of which nothing is read where the front has a fault.

@@ -7,7 +7,7 @@ use Rattle.proof_log.specs.Log.{LogValue}
 use Rattle.ordered_solver.specs.Answers.{GoesOnDerived, new_lines}
 
 -- each derived line counts
-all_count : (ls : List Line) → All (λ l. is_derived l ≡ true) ls → count_by is_derived ls ≡ length ls
+pub all_count : (ls : List Line) → All (λ l. is_derived l ≡ true) ls → count_by is_derived ls ≡ length ls
 all_count [] h = refl
 all_count (l ∷ ls) h =
     let first : is_derived l ≡ true = h 0 l (omega arith) in

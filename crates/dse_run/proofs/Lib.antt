@@ -1,1 +1,4 @@
 pub mod Budgets
+pub mod Searched
+pub mod Found
+pub mod Answering

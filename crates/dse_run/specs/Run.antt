@@ -1,11 +1,12 @@
--- How a run ends, and what it adds to what was said.
-use Rattle.std.specs.Prelude.{◌≡◌, ℕ, List, Option, Some, None, Result, Ok, Err, ◌⊎◌}
+-- How a run ends: what it says, which files it writes, and what it leaves where it is cut short.
+use Rattle.std.specs.Prelude.{◌≡◌, ℕ, [], List, Option, Some, None, Result, Ok, Err, ◌⊎◌}
 use Rattle.desk_io.specs.Files.{Files, Says, Appends}
 use Rattle.line_words.specs.declared.refusals.ReadFault.{ReadFault}
 use Rattle.line_words.specs.declared.refusals.ReadFault.TheVariants as faults
 use Rattle.run_words.specs.Values.{RequestValue}
 use Rattle.run_words.specs.Requests.{usage_text}
 use Rattle.run_base.specs.Worlds.{NamesValue, World, IsWorldOf}
+use Rattle.file_writes.specs.Writes.{Leaves, AreWritten, ArePartlyWritten}
 use Rattle.run_base.specs.declared.outcome.Ending.{Ending}
 use Rattle.run_base.specs.declared.outcome.Ending.TheVariants as endings
 use Rattle.run_base.specs.declared.outcome.Outcome.{Outcome}
@@ -18,43 +19,52 @@ use Rattle.dse_run.specs.declared.status.Status.TheVariants.{Done, No, Usage, In
 abbrev pub status_of : Ending → Status
 status_of endings.Done = Done
 status_of endings.No = No
+status_of endings.Budget = Budget
 
--- with which status and text a command ends: those of its outcome, or the refusal of a file by its word
-abbrev pub EndsBy : NamesValue → Result Outcome ReadFault → Status → List ℕ → Type 0
-EndsBy names (Ok outcome) status text = (status ≡ status_of outcome.ending) × (text ≡ outcome.text.items)
-EndsBy names (Err (faults.Refused r)) status text = (status ≡ Input) × (text ≡ input_text (word_of names r.file) r)
-EndsBy names (Err faults.NoMemory) status text = ⊥
+-- what is answered: the status, what is said, and which files are written
+pub record ReplyValue : Type 0 where
+  pub status : Status
+  pub text : List ℕ
+  pub writes : Files
+
+-- the answer of an outcome, or the refusal of a file by its word; a refusal writes nothing
+abbrev pub EndsBy : NamesValue → Result Outcome ReadFault → ReplyValue → Type 0
+EndsBy names (Ok outcome) reply = reply ≡ record { status = status_of outcome.ending; text = outcome.text.items; writes = outcome.writes }
+EndsBy names (Err (faults.Refused r)) reply = reply ≡ record { status = Input; text = input_text (word_of names r.file) r; writes = [] }
+EndsBy names (Err faults.NoMemory) reply = ⊥
 
 -- what is answered to a request: what it comes to over the contents of its files, which are those of the desk where
 -- the desk tells its files
-pub record AnswersRequest (asked : RequestValue) (files : Option Files) (status : Status) (text : List ℕ) : Type 0 where
+pub record AnswersRequest (asked : RequestValue) (files : Option Files) (reply : ReplyValue) : Type 0 where
   pub world : World
   pub found : IsWorldOf files (names_of asked) world
   pub result : Result Outcome ReadFault
   pub comes : ComesTo asked files world result
-  pub ends : EndsBy (names_of asked) result status text
+  pub ends : EndsBy (names_of asked) result reply
 
 -- what is answered to words: the lines of usage where they are no request, whatever the files are
-abbrev pub AnswersTo : Option RequestValue → Option Files → Status → List ℕ → Type 0
-AnswersTo None files status text = (status ≡ Usage) × (text ≡ usage_text)
-AnswersTo (Some asked) files status text = AnswersRequest asked files status text
+abbrev pub AnswersTo : Option RequestValue → Option Files → ReplyValue → Type 0
+AnswersTo None files reply = reply ≡ record { status = Usage; text = usage_text; writes = [] }
+AnswersTo (Some asked) files reply = AnswersRequest asked files reply
 
--- one text with P was added to what was said, where this is told
-pub record Said (before after : Option (List ℕ)) (P : List ℕ → Type 0) : Type 0 where
-  pub text : List ℕ
-  pub is : P text
-  pub says : Says before after (Appends text)
+-- a whole answer was given: its files were written, and its text was added to what was said, where these are told
+pub record Answered (asked : Option RequestValue) (files new_files : Option Files) (said new_said : Option (List ℕ)) (status : Status) : Type 0 where
+  pub reply : ReplyValue
+  pub answers : AnswersTo asked files reply
+  pub ends : status ≡ reply.status
+  pub written : Leaves files new_files (AreWritten reply.writes)
+  pub says : Says said new_said (Appends reply.text)
 
--- a status that comes with its text; no command has a budget yet
-abbrev pub IsSaid : Status → Type 0
-IsSaid Done = Unit {0}
-IsSaid No = Unit {0}
-IsSaid Usage = Unit {0}
-IsSaid Input = Unit {0}
-IsSaid Budget = ⊥
-IsSaid Fault = ⊥
-IsSaid Memory = ⊥
+-- the writing of an answer was begun, where files are told
+pub record IsBegun (asked : Option RequestValue) (files new_files : Option Files) : Type 0 where
+  pub reply : ReplyValue
+  pub answers : AnswersTo asked files reply
+  pub written : Leaves files new_files (ArePartlyWritten reply.writes)
 
 -- a run that was cut short
 abbrev pub IsCut : Status → Type 0
 IsCut status = (status ≡ Fault) ⊎ (status ≡ Memory)
+
+-- what it leaves: all files as before, or those of an answer in part
+abbrev pub IsLeft : Option RequestValue → Option Files → Option Files → Type 0
+IsLeft asked files new_files = (new_files ≡ files) ⊎ IsBegun asked files new_files

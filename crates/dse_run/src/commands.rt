@@ -2,14 +2,17 @@
 
 ghost use Rattle.std.specs.Prelude.{◌≡◌, ◌⊎◌, IfOk};
 ghost use Rattle.desk_io.specs.Causes.{HasCause};
+ghost use Rattle.run_words.specs.Fit.{IsFit};
 ghost use Rattle.run_words.specs.Values.{request_value};
 ghost use Rattle.run_base.specs.Worlds.{World, AreLoaded, names_value};
 ghost use Rattle.check_run.specs.Calls.{NoneFailed};
 ghost use Rattle.dse_run.specs.Commands.{ComesTo, MayCall, names_of};
 
 use crate::decode::decode;
+use crate::search::Evidence;
 use check_run::check;
 use desk_io::{Desk, DeskError};
+use front_run::{Wanted, front};
 use line_words::ReadFault;
 use run_base::{Inputs, Names, Outcome};
 use run_words::Request;
@@ -20,10 +23,20 @@ pub(crate) fn names_of<'a>(request: &'a Request) -> Names<'a>
     ensures { names_value result ≡ names_of (request_value request.entry.now) }
 {
     match request {
-        Request::Decode { tgff, arch, geno } => Names {
+        Request::Decode {
+            tgff,
+            arch,
+            geno,
+            ..
+        } => Names {
             tgff: tgff.as_str(),
             arch: arch.as_str(),
             third: geno.as_str(),
+        },
+        Request::Front { tgff, arch, .. } => Names {
+            tgff: tgff.as_str(),
+            arch: arch.as_str(),
+            third: "-",
         },
         Request::Check {
             tgff,
@@ -45,6 +58,7 @@ pub(crate) fn answer<D: Desk>(
     request: &Request,
     inputs: &Inputs,
 ) -> Result<Result<Outcome, ReadFault>, DeskError>
+    requires fit { IsFit (request_value request.now) }
     ensures comes { IfOk result (λ tried. (world : World) → AreLoaded inputs.now world → ComesTo (request_value request.now) (D.files desk.old) world tried) }
     ensures files { D.files desk.new ≡ D.files desk.old }
     ensures said { D.said desk.new ≡ D.said desk.old }
@@ -52,7 +66,30 @@ pub(crate) fn answer<D: Desk>(
     ensures late { (world : World) → AreLoaded inputs.now world → MayCall (request_value request.now) world ⊎ NoneFailed (D.faults desk.old) (D.faults desk.new) result }
 {
     match request {
-        Request::Decode { .. } => Ok(decode(alloc, inputs)),
+        Request::Decode {
+            budget,
+            proof_file,
+            ..
+        } => {
+            let wanted = Evidence {
+                budget: *budget,
+                proof_file: proof_file.as_deref(),
+            };
+            Ok(decode(alloc, inputs, wanted))
+        }
+        Request::Front {
+            front_file,
+            proof_file,
+            budget,
+            ..
+        } => {
+            let wanted = Wanted {
+                budget: *budget,
+                front_file: front_file.as_str(),
+                proof_file: proof_file.as_str(),
+            };
+            Ok(front(alloc, inputs, wanted))
+        }
         Request::Check { proof_file, .. } => check(alloc, desk, inputs, proof_file.as_str()),
     }
 }

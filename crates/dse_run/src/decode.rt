@@ -1,66 +1,110 @@
-//! What `decode` comes to: the first valid implementation in the genotype's order, with its vector.
+//! What `decode` comes to: the first valid implementation in the genotype's order, with its vector, and the proof file
+//! where one is named.
 
-ghost use Rattle.std.specs.Prelude.{◌≡◌, length, IfOk, MatchOption};
+ghost use Rattle.std.specs.Prelude.{◌≡◌, ◌++◌, ◌≤◌, length, option_map, IfOk, IfSome, OnOk};
 ghost use Rattle.spec_model.specs.Spec.{design_variables};
-ghost use Rattle.spec_model.specs.Genotypes.{HasNoValid};
-ghost use Rattle.sat_decoder.specs.Decoding.{IsFirstDesign};
 ghost use Rattle.run_base.specs.Loading.{IsLoadedIfNamed};
 ghost use Rattle.run_base.specs.After.{GoesOn};
 ghost use Rattle.run_base.specs.Worlds.{World, AreLoaded};
-ghost use Rattle.dse_run.specs.Decoding.{Decodes, DecodesSpec, DecodesGenes, FindsFirst};
+ghost use Rattle.dse_run.specs.Decoding.{Decodes, DecodesSpec, DecodesGenes, Finds};
+ghost use Rattle.dse_run.specs.Searching.{IsSearched, IsSized, answer_text, ending_of, evidence_value, proof_files};
 
+use crate::search::{Evidence, Search, find_design};
+use file_writes::{Content, Writes};
 use genotype::Genotype;
-use impl_rules::{Design, vector_of};
-use line_words::ReadFault;
+use impl_rules::vector_of;
+use line_words::{ReadFault, put_whole};
+use proof_log::{Log, law_of_files};
 use result_text::print_design;
 use run_base::{Ending, Inputs, Outcome, read_genes, read_spec};
-use sat_decoder::{Decoded, Decoder};
+use sat_decoder::Decoded;
 use spec_graph::Spec;
 use std::alloc::{AllocError, Global};
 
-/// The first valid design in the genotype's order, or `None` exactly where none is valid.
-fn first_valid(
+/// Appends what is said of an answer.
+fn put_answer(
     alloc: Global,
     spec: &Spec,
-    genotype: &Genotype,
-) -> Result<Option<Design>, AllocError>
-    requires genes { length genotype.now ≡ design_variables spec.now }
-    ensures { IfOk result (λ found. MatchOption found (HasNoValid spec.now) (IsFirstDesign spec.now genotype.now)) }
+    decoded: &Decoded,
+    budget: Option<u64>,
+    text: &mut Vec<u8>,
+) -> Result<(), AllocError>
+    requires sized { IsSized spec.now decoded.now }
+    ensures { OnOk result (text.new.items ≡ text.old.items ++ answer_text spec.now budget decoded.now) }
 {
-    let mut decoder = Decoder::new(alloc, spec)?;
-    let decoded = decoder.decode(alloc, genotype, u64::MAX)?;
-    // A log has fewer than 2^63 derived lines, so no search reaches that budget.
-    let _learned = decoder.log().learned();
     match decoded {
-        Decoded::First(design) => Ok(Some(design)),
-        Decoded::Nothing => Ok(None),
-        Decoded::Budget => unreachable!(),
+        Decoded::First(design) => {
+            let vector = vector_of(alloc, spec, design)?;
+            print_design(alloc, spec, design, &vector, text)
+        }
+        Decoded::Nothing => text.extend_from_slice(b"none\n"),
+        Decoded::Budget => {
+            text.extend_from_slice(b"budget ")?;
+            put_whole(alloc, text, budget.unwrap_or(u64::MAX))?;
+            text.extend_from_slice(b"\n")
+        }
     }
 }
 
-/// What a specification and a genotype come to.
-fn find_first(alloc: Global, spec: &Spec, genotype: &Genotype) -> Result<Outcome, AllocError>
-    requires genes { length genotype.now ≡ design_variables spec.now }
-    ensures { IfOk result (FindsFirst spec.now genotype.now) }
+/// How an answer ends.
+fn ending_of(decoded: &Decoded) -> Ending
+    ensures { result ≡ ending_of decoded.now }
 {
-    let mut text = Vec::new(alloc);
-    match first_valid(alloc, spec, genotype)? {
-        Some(design) => {
-            let vector = vector_of(alloc, spec, &design)?;
-            print_design(alloc, spec, &design, &vector, &mut text)?;
-            Ok(Outcome {
-                ending: Ending::Done,
-                text,
-            })
-        }
-        None => {
-            text.extend_from_slice(b"none\n")?;
-            Ok(Outcome {
-                ending: Ending::No,
-                text,
-            })
-        }
+    match decoded {
+        Decoded::First(_) => Ending::Done,
+        Decoded::Nothing => Ending::No,
+        Decoded::Budget => Ending::Budget,
     }
+}
+
+/// The file that a log is written to, if one is named.
+fn writes_of(alloc: Global, proof_file: Option<&str>, log: Log) -> Result<Writes, AllocError>
+    ensures { IfOk result (λ writes. writes ≡ proof_files (option_map (λ s. s.now) proof_file.entry) log) }
+{
+    let mut writes = Writes::none(alloc);
+    if let Some(name) = proof_file {
+        writes.add(alloc, name, Content::Proof(log))?;
+    }
+    Ok(writes)
+}
+
+/// What an answer with its log comes to.
+fn outcome_of(
+    alloc: Global,
+    spec: &Spec,
+    genotype: &Genotype,
+    decoded: &Decoded,
+    log: Log,
+    wanted: Evidence<'_>,
+) -> Result<Outcome, AllocError>
+    requires searched { IsSearched spec.now genotype.now wanted.budget decoded.now log }
+    ensures { IfOk result (Finds (evidence_value wanted.entry) spec.now genotype.now) }
+{
+    let _ = genotype;
+    law_of_files();
+    let mut text = Vec::new(alloc);
+    put_answer(alloc, spec, decoded, wanted.budget, &mut text)?;
+    let writes = writes_of(alloc, wanted.proof_file, log)?;
+    Ok(Outcome {
+        ending: ending_of(decoded),
+        text,
+        writes,
+    })
+}
+
+/// What a specification and a genotype come to.
+fn find_first(
+    alloc: Global,
+    spec: &Spec,
+    genotype: &Genotype,
+    wanted: Evidence<'_>,
+) -> Result<Outcome, AllocError>
+    requires genes { length genotype.now ≡ design_variables spec.now }
+    requires some { IfSome wanted.budget (λ n. 1 ≤ n) }
+    ensures { IfOk result (Finds (evidence_value wanted.entry) spec.now genotype.now) }
+{
+    let Search { decoded, log } = find_design(alloc, spec, genotype, wanted.budget)?;
+    outcome_of(alloc, spec, genotype, &decoded, log, wanted)
 }
 
 /// What a genotype comes to, or the refusal of its file.
@@ -68,21 +112,29 @@ fn decode_genes(
     alloc: Global,
     spec: &Spec,
     read: Result<Genotype, ReadFault>,
+    wanted: Evidence<'_>,
 ) -> Result<Outcome, ReadFault>
     requires genes { IfOk read (λ genes. length genes ≡ design_variables spec.now) }
-    ensures { GoesOn read (DecodesGenes spec.now) result }
+    requires some { IfSome wanted.budget (λ n. 1 ≤ n) }
+    ensures { GoesOn read (DecodesGenes (evidence_value wanted.entry) spec.now) result }
 {
     match read {
-        Ok(genotype) => Ok(find_first(alloc, spec, &genotype)?),
+        Ok(genotype) => Ok(find_first(alloc, spec, &genotype, wanted)?),
         Err(fault) => Err(fault),
     }
 }
 
 /// What a specification comes to with the third file.
-fn decode_with(alloc: Global, spec: &Spec, inputs: &Inputs) -> Result<Outcome, ReadFault>
-    ensures { (world : World) → IsLoadedIfNamed inputs.now.third world.third → DecodesSpec world spec.now result }
+fn decode_with(
+    alloc: Global,
+    spec: &Spec,
+    inputs: &Inputs,
+    wanted: Evidence<'_>,
+) -> Result<Outcome, ReadFault>
+    requires some { IfSome wanted.budget (λ n. 1 ≤ n) }
+    ensures { (world : World) → IsLoadedIfNamed inputs.now.third world.third → DecodesSpec (evidence_value wanted.entry) world spec.now result }
 {
-    decode_genes(alloc, spec, read_genes(alloc, spec, &inputs.third))
+    decode_genes(alloc, spec, read_genes(alloc, spec, &inputs.third), wanted)
 }
 
 /// What a specification comes to with the third file, or the refusal of the files that make it.
@@ -90,18 +142,30 @@ fn decode_spec(
     alloc: Global,
     read: Result<Spec, ReadFault>,
     inputs: &Inputs,
+    wanted: Evidence<'_>,
 ) -> Result<Outcome, ReadFault>
-    ensures { (world : World) → IsLoadedIfNamed inputs.now.third world.third → GoesOn read (DecodesSpec world) result }
+    requires some { IfSome wanted.budget (λ n. 1 ≤ n) }
+    ensures { (world : World) → IsLoadedIfNamed inputs.now.third world.third → GoesOn read (DecodesSpec (evidence_value wanted.entry) world) result }
 {
     match read {
-        Ok(spec) => decode_with(alloc, &spec, inputs),
+        Ok(spec) => decode_with(alloc, &spec, inputs, wanted),
         Err(fault) => Err(fault),
     }
 }
 
 /// What the files come to.
-pub(crate) fn decode(alloc: Global, inputs: &Inputs) -> Result<Outcome, ReadFault>
-    ensures { (world : World) → AreLoaded inputs.now world → Decodes world result }
+pub(crate) fn decode(
+    alloc: Global,
+    inputs: &Inputs,
+    wanted: Evidence<'_>,
+) -> Result<Outcome, ReadFault>
+    requires some { IfSome wanted.budget (λ n. 1 ≤ n) }
+    ensures { (world : World) → AreLoaded inputs.now world → Decodes (evidence_value wanted.entry) world result }
 {
-    decode_spec(alloc, read_spec(alloc, &inputs.tgff, &inputs.arch), inputs)
+    decode_spec(
+        alloc,
+        read_spec(alloc, &inputs.tgff, &inputs.arch),
+        inputs,
+        wanted,
+    )
 }

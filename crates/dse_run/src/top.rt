@@ -1,27 +1,43 @@
 //! The top call.
 
-ghost use Rattle.std.specs.Prelude.{◌≡◌, ◌⊎◌, [], None, map, IfOk};
+ghost use Rattle.std.specs.Prelude.{◌≡◌, ◌⊎◌, [], None, Some, map, IfOk, IsSomeAnd, OnErr, OnOk};
 ghost use Rattle.std.specs.String.{string_bytes};
 ghost use Rattle.desk_io.specs.Causes.{Rose, HasCause};
+ghost use Rattle.desk_io.specs.Files.{Appends, Says};
+ghost use Rattle.run_words.specs.Fit.{IsFit};
 ghost use Rattle.run_words.specs.Requests.{request, usage_text};
-ghost use Rattle.run_words.specs.Values.{request_value};
+ghost use Rattle.run_words.specs.Values.{RequestValue, request_value};
 ghost use Rattle.run_base.specs.Worlds.{names_value};
-ghost use Rattle.dse_run.specs.Run.{status_of, EndsBy, AnswersRequest, AnswersTo, IsSaid, IsCut, Said};
+ghost use Rattle.file_writes.specs.Writes.{AreWritten, ArePartlyWritten, Leaves};
+ghost use Rattle.dse_run.specs.Commands.{HasBudget};
+ghost use Rattle.dse_run.specs.Run.{status_of, Answered, AnswersRequest, AnswersTo, EndsBy, IsCut, IsLeft};
 
 use crate::commands::{answer, names_of};
 use crate::refusing::put_input;
 use crate::status::Status;
 use desk_io::{Desk, DeskError};
+use file_writes::Writes;
 use line_words::ReadFault;
 use run_base::{Ending, Names, Outcome, load_inputs};
+use run_words::laws::law_of_requests;
 use run_words::{Request, put_usage, read_words};
 use std::alloc::{AllocError, Global};
+use std::marker::Model;
 
-/// What is said, with the status that it comes with.
+/// What is said, with the status that it comes with, and the files that are written before.
 #[derive(Drop)]
 struct Reply {
     status: Status,
     text: Vec<u8>,
+    writes: Writes,
+}
+
+impl Model for Reply {
+    ghost use Rattle.dse_run.specs.Run.{ReplyValue};
+
+    ghost Value = { ReplyValue };
+
+    ghost view = { λ reply. record { status = reply.status; text = reply.text.items; writes = reply.writes } };
 }
 
 /// The status of a command that ends by itself.
@@ -31,6 +47,7 @@ fn status_of(ending: Ending) -> Status
     match ending {
         Ending::Done => Status::Done,
         Ending::No => Status::No,
+        Ending::Budget => Status::Budget,
     }
 }
 
@@ -40,12 +57,13 @@ fn reply_of(
     names: &Names<'_>,
     tried: Result<Outcome, ReadFault>,
 ) -> Result<Reply, AllocError>
-    ensures { IfOk result (λ reply. EndsBy (names_value names.now) tried reply.status reply.text.items) }
+    ensures { IfOk result (EndsBy (names_value names.now) tried) }
 {
     match tried {
         Ok(outcome) => Ok(Reply {
             status: status_of(outcome.ending),
             text: outcome.text,
+            writes: outcome.writes,
         }),
         Err(ReadFault::Refused(refusal)) => {
             let mut text = Vec::new(alloc);
@@ -53,6 +71,7 @@ fn reply_of(
             Ok(Reply {
                 status: Status::Input,
                 text,
+                writes: Writes::none(alloc),
             })
         }
         Err(ReadFault::NoMemory) => Err(AllocError),
@@ -61,7 +80,8 @@ fn reply_of(
 
 /// The reply to a request. All files that are read whole are loaded before one is refused.
 fn reply_to<D: Desk>(alloc: Global, request: &Request, desk: &mut D) -> Result<Reply, DeskError>
-    ensures answer { IfOk result (λ reply. AnswersRequest (request_value request.now) (D.files desk.old) reply.status reply.text.items) }
+    requires fit { IsFit (request_value request.now) }
+    ensures answer { IfOk result (AnswersRequest (request_value request.now) (D.files desk.old)) }
     ensures files { D.files desk.new ≡ D.files desk.old }
     ensures said { D.said desk.new ≡ D.said desk.old }
     ensures cause { HasCause (D.faults desk.old) (D.faults desk.new) result }
@@ -75,23 +95,26 @@ fn reply_to<D: Desk>(alloc: Global, request: &Request, desk: &mut D) -> Result<R
 
 /// The reply to words that are no request.
 fn usage(alloc: Global) -> Result<Reply, AllocError>
-    ensures { IfOk result (λ reply. (reply.status ≡ Status.Usage) × (reply.text.items ≡ usage_text)) }
+    ensures { IfOk result (λ reply. reply ≡ record { status = Status.Usage; text = usage_text; writes = [] }) }
 {
     let mut text = Vec::new(alloc);
     put_usage(&mut text)?;
     Ok(Reply {
         status: Status::Usage,
         text,
+        writes: Writes::none(alloc),
     })
 }
 
-/// The reply to words.
+/// The reply to words. No file is written yet.
 fn respond<D: Desk>(alloc: Global, words: &[String], desk: &mut D) -> Result<Reply, DeskError>
-    ensures answer { IfOk result (λ reply. AnswersTo (request [] (map string_bytes words.now)) (D.files desk.old) reply.status reply.text.items) }
+    ensures answer { IfOk result (AnswersTo (request [] (map string_bytes words.now)) (D.files desk.old)) }
+    ensures fit { (asked : RequestValue) → request [] (map string_bytes words.now) ≡ Some asked → IsFit asked }
     ensures files { D.files desk.new ≡ D.files desk.old }
     ensures said { D.said desk.new ≡ D.said desk.old }
     ensures cause { HasCause (D.faults desk.old) (D.faults desk.new) result }
 {
+    law_of_requests();
     match read_words(alloc, words, &[])? {
         Some(request) => reply_to(alloc, &request, desk),
         None => {
@@ -101,23 +124,35 @@ fn respond<D: Desk>(alloc: Global, words: &[String], desk: &mut D) -> Result<Rep
     }
 }
 
-/// The reply, said.
+/// Writes the files of a reply, and then says its text.
+fn give<D: Desk>(alloc: Global, desk: &mut D, reply: &Reply) -> Result<(), DeskError>
+    ensures written { OnOk result (Leaves (D.files desk.old) (D.files desk.new) (AreWritten reply.now.writes)) }
+    ensures says { OnOk result (Says (D.said desk.old) (D.said desk.new) (Appends reply.now.text)) }
+    ensures part { OnErr result (Leaves (D.files desk.old) (D.files desk.new) (ArePartlyWritten reply.now.writes)) }
+    ensures cause { HasCause (D.faults desk.old) (D.faults desk.new) result }
+{
+    reply.writes.write(alloc, desk)?;
+    desk.say(&reply.text)
+}
+
+/// The reply, given.
 fn attempt<D: Desk>(alloc: Global, words: &[String], desk: &mut D) -> Result<Status, DeskError>
-    ensures answer { IfOk result (λ status. Said (D.said desk.old) (D.said desk.new) (AnswersTo (request [] (map string_bytes words.now)) (D.files desk.old) status)) }
-    ensures files { D.files desk.new ≡ D.files desk.old }
+    ensures answer { IfOk result (Answered (request [] (map string_bytes words.now)) (D.files desk.old) (D.files desk.new) (D.said desk.old) (D.said desk.new)) }
+    ensures left { OnErr result (IsLeft (request [] (map string_bytes words.now)) (D.files desk.old) (D.files desk.new)) }
+    ensures budget { IfOk result (λ status. status ≡ Status.Budget → IsSomeAnd (request [] (map string_bytes words.now)) HasBudget) }
     ensures cause { HasCause (D.faults desk.old) (D.faults desk.new) result }
 {
     let reply = respond(alloc, words, desk)?;
-    desk.say(&reply.text)?;
+    give(alloc, desk, &reply)?;
     Ok(reply.status)
 }
 
-/// Runs the program on these words, and says its answer.
+/// Runs the program on these words: writes the files of its answer, and says its text.
 pub fn run<D: Desk>(alloc: Global, words: &[String], desk: &mut D) -> Status
-    ensures answer { Said (D.said desk.old) (D.said desk.new) (AnswersTo (request [] (map string_bytes words.now)) (D.files desk.old) result) ⊎ IsCut result }
-    ensures plain { IsSaid result ⊎ IsCut result }
+    ensures answer { Answered (request [] (map string_bytes words.now)) (D.files desk.old) (D.files desk.new) (D.said desk.old) (D.said desk.new) result ⊎ IsCut result }
+    ensures left { IsCut result → IsLeft (request [] (map string_bytes words.now)) (D.files desk.old) (D.files desk.new) }
     ensures usage { (result ≡ Status.Usage → request [] (map string_bytes words.now) ≡ None) × (request [] (map string_bytes words.now) ≡ None → (result ≡ Status.Usage) ⊎ IsCut result) }
-    ensures files { D.files desk.new ≡ D.files desk.old }
+    ensures budget { result ≡ Status.Budget → IsSomeAnd (request [] (map string_bytes words.now)) HasBudget }
     ensures fault { result ≡ Status.Fault → Rose (D.faults desk.old) (D.faults desk.new) }
     ensures quiet { (D.faults desk.new ≡ D.faults desk.old) ⊎ IsCut result }
 {

@@ -1,5 +1,5 @@
 //! A genotype, its text and its order.
-use genotype::{Gene, Genotype, Order, print_genotype, read_genotype};
+use genotype::{Gene, Genotype, ListWords, Order, print_genotype, read_genotype};
 use line_words::{ReadFault, Why};
 use pb_rules::Lit;
 use std::test::Fail;
@@ -48,5 +48,25 @@ fn texts_and_orders(rt: HostRuntime) -> Result<(), Fail> {
             text
         );
     }
+    Ok(())
+}
+
+#[test]
+fn draws(rt: HostRuntime) -> Result<(), Fail> {
+    let a = rt.alloc();
+    let mut words = ListWords::new(Vec::from_slice(a, &[7, 10])?);
+    let random = Genotype::random(a, 2, &mut words)?;
+    let mut printed = Vec::new(a);
+    print_genotype(a, &random, &mut printed)?;
+    assert!(rt; printed.as_slice() == b"genotype 1\ngene 0 3 1\ngene 1 5 0\n".as_slice());
+    let natural = Genotype::natural(a, 2)?;
+    if natural.genes().len() != random.genes().len() {
+        return Err(Fail::from("the lengths differ"));
+    }
+    let mut more = ListWords::new(Vec::from_slice(a, &[3, 1, 9])?);
+    let child = Genotype::child(a, &natural, &random, &mut more)?;
+    printed.clear();
+    print_genotype(a, &child, &mut printed)?;
+    assert!(rt; printed.as_slice() == b"genotype 1\ngene 0 3 1\ngene 1 4 1\n".as_slice());
     Ok(())
 }

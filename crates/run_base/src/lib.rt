@@ -2,7 +2,7 @@
 //!
 //! `loading` loads one file from a desk, with the limit of its bytes, `inputs` all files of a line, and `reading` says
 //! what they read as. From there on no command knows of a desk: it makes an `Outcome` of its `Inputs`, or hands on the
-//! refusal of a file. Who says the outcome or the refusal is the top call.
+//! refusal of a file. Who says the outcome or the refusal is the top call, which before writes the files of the outcome.
 #![tactic(auto)]
 
 mod inputs;

@@ -6,6 +6,7 @@ use Rattle.form_words.specs.Line.{Text}
 use Rattle.form_words.specs.Reads.{Reads}
 use Rattle.form_words.specs.Table.{form_of}
 use Rattle.run_words.specs.Decoding.{decode_request, decode_table, decode_with}
+use Rattle.run_words.specs.Fronting.{front_request, front_table, front_with}
 use Rattle.run_words.specs.Checking.{check_request, check_table, check_with}
 
 pub asked_none : (words : List Text) → Reads (form_of decode_table) words None → decode_request words ≡ None
@@ -13,9 +14,18 @@ unfolding decode_request
 asked_none words e = rw e refl
 
 pub asked : (words : List Text) (m : ArgMatches) → Reads (form_of decode_table) words (Some m)
-    → decode_request words ≡ decode_with (first_value (found_of m) (codes "tgff")) (first_value (found_of m) (codes "arch")) (first_value (found_of m) (codes "geno"))
+    → decode_request words ≡ decode_with (first_value (found_of m) (codes "tgff")) (first_value (found_of m) (codes "arch")) (first_value (found_of m) (codes "geno")) (first_value (found_of m) (codes "budget")) (first_value (found_of m) (codes "proof"))
 unfolding decode_request
-asked words m h = rw (h.1, h.2 (codes "tgff"), h.2 (codes "arch"), h.2 (codes "geno")) refl
+asked words m h = rw (h.1, h.2 (codes "tgff"), h.2 (codes "arch"), h.2 (codes "geno"), h.2 (codes "budget"), h.2 (codes "proof")) refl
+
+pub front_asked_none : (words : List Text) → Reads (form_of front_table) words None → front_request words ≡ None
+unfolding front_request
+front_asked_none words e = rw e refl
+
+pub front_asked : (words : List Text) (m : ArgMatches) → Reads (form_of front_table) words (Some m)
+    → front_request words ≡ front_with (first_value (found_of m) (codes "tgff")) (first_value (found_of m) (codes "arch")) (first_value (found_of m) (codes "front")) (first_value (found_of m) (codes "proof")) (first_value (found_of m) (codes "budget"))
+unfolding front_request
+front_asked words m h = rw (h.1, h.2 (codes "tgff"), h.2 (codes "arch"), h.2 (codes "front"), h.2 (codes "proof"), h.2 (codes "budget")) refl
 
 pub check_asked_none : (words : List Text) → Reads (form_of check_table) words None → check_request words ≡ None
 unfolding check_request

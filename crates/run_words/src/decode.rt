@@ -3,15 +3,17 @@
 ghost use Rattle.std.specs.Prelude.{◌≡◌, ◌++◌, IfOk, OnOk, map, option_map, string_bytes};
 ghost use Rattle.form_words.specs.Reads.{Reads};
 ghost use Rattle.form_words.specs.Table.{form_of};
-ghost use Rattle.run_words.specs.Decoding.{are_taken, decode_request, decode_table, decode_usage, decode_with};
+ghost use Rattle.run_words.specs.Decoding.{are_taken, budget_with, decode_named, decode_request, decode_table, decode_usage, decode_with, is_written};
 ghost use Rattle.run_words.specs.Values.{decode, request_value};
 
-use crate::names::{is_file, is_name};
+use crate::names::{is_apart, is_file, is_file_if_named, is_name};
+use crate::numbers::number_if_given;
 use crate::request::Request;
 use clap::ArgMatches;
 use form_words::read_line;
 use std::alloc::{AllocError, Global};
 
+/// Whether these are names of what is read.
 fn are_taken(tgff: &str, arch: &str, geno: &str) -> bool
     ensures { result ≡ are_taken tgff.now arch.now geno.now }
 {
@@ -24,14 +26,79 @@ fn are_taken(tgff: &str, arch: &str, geno: &str) -> bool
     is_name(geno)
 }
 
-/// The request of the names at the places.
+/// Whether the proof, where it is given, has a file of its own.
+fn is_written(tgff: &str, arch: &str, geno: &str, proof: Option<&str>) -> bool
+    ensures { result ≡ is_written tgff.now arch.now geno.now (option_map (λ s. s.now) proof.entry) }
+{
+    if !is_file_if_named(proof) {
+        return false;
+    }
+    is_apart(proof, &[tgff, arch, geno])
+}
+
+/// The budget, from 1 on; `None` where it writes none, or stands without a proof.
+fn budget_with(budget: Option<&str>, proof: Option<&str>) -> Option<Option<u64>>
+    ensures { result ≡ budget_with (option_map (λ s. s.now) budget.entry) (option_map (λ s. s.now) proof.entry) }
+{
+    match proof {
+        None => { if budget.is_some() { None } else { Some(None) } }
+        Some(_) => number_if_given(1, budget),
+    }
+}
+
+/// A text of its own, where one is given.
+fn owned(alloc: Global, text: Option<&str>) -> Result<Option<String>, AllocError>
+    ensures { IfOk result (λ s. option_map string_bytes s ≡ option_map (λ s. s.now) text.entry) }
+{
+    match text {
+        None => Ok(None),
+        Some(text) => Ok(Some(String::from_str(alloc, text)?)),
+    }
+}
+
+/// The request of these names, with the budget.
+fn decode_named(
+    alloc: Global,
+    tgff: &str,
+    arch: &str,
+    geno: &str,
+    proof: Option<&str>,
+    budget: Option<Option<u64>>,
+) -> Result<Option<Request>, AllocError>
+    ensures { IfOk result (λ r. option_map request_value r ≡ option_map decode (decode_named tgff.now arch.now geno.now (option_map (λ s. s.now) proof.entry) budget)) }
+{
+    if !are_taken(tgff, arch, geno) {
+        return Ok(None);
+    }
+    if !is_written(tgff, arch, geno, proof) {
+        return Ok(None);
+    }
+    let Some(budget) = budget else {
+        return Ok(None);
+    };
+    let tgff = String::from_str(alloc, tgff)?;
+    let arch = String::from_str(alloc, arch)?;
+    let geno = String::from_str(alloc, geno)?;
+    let proof_file = owned(alloc, proof)?;
+    Ok(Some(Request::Decode {
+        tgff,
+        arch,
+        geno,
+        budget,
+        proof_file,
+    }))
+}
+
+/// The request of the words at the places and of those of the options.
 fn decode_with(
     alloc: Global,
     tgff: Option<&str>,
     arch: Option<&str>,
     geno: Option<&str>,
+    budget: Option<&str>,
+    proof: Option<&str>,
 ) -> Result<Option<Request>, AllocError>
-    ensures { IfOk result (λ r. option_map request_value r ≡ option_map decode (decode_with (option_map (λ s. s.now) tgff.entry) (option_map (λ s. s.now) arch.entry) (option_map (λ s. s.now) geno.entry))) }
+    ensures { IfOk result (λ r. option_map request_value r ≡ option_map decode (decode_with (option_map (λ s. s.now) tgff.entry) (option_map (λ s. s.now) arch.entry) (option_map (λ s. s.now) geno.entry) (option_map (λ s. s.now) budget.entry) (option_map (λ s. s.now) proof.entry))) }
 {
     let Some(tgff) = tgff else {
         return Ok(None);
@@ -42,20 +109,20 @@ fn decode_with(
     let Some(geno) = geno else {
         return Ok(None);
     };
-    if !are_taken(tgff, arch, geno) {
-        return Ok(None);
-    }
-    let tgff = String::from_str(alloc, tgff)?;
-    let arch = String::from_str(alloc, arch)?;
-    let geno = String::from_str(alloc, geno)?;
-    Ok(Some(Request::Decode { tgff, arch, geno }))
+    decode_named(alloc, tgff, arch, geno, proof, budget_with(budget, proof))
 }
 
-/// What the words give the places, or `None` where they are no line of the table.
+/// What the words give the places and options, or `None` where they are no line of the table.
 fn decode_line<'a>(alloc: Global, words: &'a [String]) -> Result<Option<ArgMatches<'a>>, AllocError>
     ensures { IfOk result (Reads (form_of decode_table) (map string_bytes words.entry.now)) }
 {
-    read_line(alloc, "decode", &["tgff", "arch", "geno"], &[], words)
+    read_line(
+        alloc,
+        "decode",
+        &["tgff", "arch", "geno"],
+        &[("budget", false), ("proof", false)],
+        words,
+    )
 }
 
 /// The request of the words after `decode`.
@@ -70,6 +137,8 @@ pub(crate) fn read_decode(alloc: Global, words: &[String]) -> Result<Option<Requ
         matches.get_str("tgff"),
         matches.get_str("arch"),
         matches.get_str("geno"),
+        matches.get_str("budget"),
+        matches.get_str("proof"),
     )
 }
 
@@ -77,5 +146,5 @@ pub(crate) fn read_decode(alloc: Global, words: &[String]) -> Result<Option<Requ
 pub(crate) fn put_decode_usage(out: &mut Vec<u8>) -> Result<(), AllocError>
     ensures { OnOk result (out.new.items ≡ out.old.items ++ decode_usage) }
 {
-    out.extend_from_slice(b"usage: dse decode TGFF ARCH GENO\n")
+    out.extend_from_slice(b"usage: dse decode TGFF ARCH GENO [--budget N] [--proof FILE]\n")
 }

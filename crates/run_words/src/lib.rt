@@ -7,7 +7,10 @@
 
 mod check;
 mod decode;
+mod front;
+pub mod laws;
 mod names;
+mod numbers;
 mod request;
 
 pub use request::{Request, put_usage, read_words};

@@ -1,7 +1,7 @@
 //! The names of files on a command line.
 
-ghost use Rattle.std.specs.Prelude.{◌≡◌};
-ghost use Rattle.run_words.specs.Names.{is_dash, is_file, is_name};
+ghost use Rattle.std.specs.Prelude.{◌≡◌, map, option_map};
+ghost use Rattle.run_words.specs.Names.{is_apart, is_dash, is_file, is_file_if_named, is_name};
 
 /// Whether a word stands for no file.
 fn is_dash(text: &str) -> bool
@@ -25,4 +25,24 @@ pub(crate) fn is_file(text: &str) -> bool
         return false;
     }
     !is_dash(text)
+}
+
+/// Whether a word is the name of a file, where one is given.
+pub(crate) fn is_file_if_named(text: Option<&str>) -> bool
+    ensures { result ≡ is_file_if_named (option_map (λ s. s.now) text.entry) }
+{
+    match text {
+        None => true,
+        Some(name) => is_file(name),
+    }
+}
+
+/// Whether a file that is written is none of the others of the line.
+pub(crate) fn is_apart(text: Option<&str>, others: &[&str]) -> bool
+    ensures { result ≡ is_apart (option_map (λ s. s.now) text.entry) (map (λ s. s.now) others.now) }
+{
+    match text {
+        None => true,
+        Some(name) => !others.contains(&name),
+    }
 }

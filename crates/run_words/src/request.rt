@@ -6,13 +6,14 @@ ghost use Rattle.run_words.specs.Values.{request_value};
 
 use crate::check::{put_check_usage, read_check};
 use crate::decode::{put_decode_usage, read_decode};
+use crate::front::{put_front_usage, read_front};
 use std::alloc::{AllocError, Global};
 
 /// What a command line asks for.
 #[derive(Debug, Drop)]
 pub enum Request {
-    /// `decode TGFF ARCH GENO`: the first valid implementation of a file of task graphs and tables and an architecture
-    /// file, in the order of a genotype file, or in the natural order where that is `-`.
+    /// `decode TGFF ARCH GENO [--budget N] [--proof FILE]`: the first valid implementation of a file of task graphs and
+    /// tables and an architecture file, in the order of a genotype file, or in the natural order where that is `-`.
     Decode {
         /// The file of task graphs and tables, or `-` for no graphs and no tables.
         tgff: String,
@@ -20,6 +21,24 @@ pub enum Request {
         arch: String,
         /// The genotype file, or `-`.
         geno: String,
+        /// How many lines the search may derive, at least 1, where it is given; it stands only beside a proof file.
+        budget: Option<u64>,
+        /// The file that the proof is written to, where one is given: none of the others.
+        proof_file: Option<String>,
+    },
+    /// `front TGFF ARCH --front FILE --proof FILE [--budget N]`: the front of the specification of a file of task graphs and
+    /// tables and an architecture file, written to a file, with its proof in another.
+    Front {
+        /// The file of task graphs and tables, or `-` for no graphs and no tables.
+        tgff: String,
+        /// The architecture file.
+        arch: String,
+        /// The file that the front is written to: none of the others.
+        front_file: String,
+        /// The file that the proof is written to: none of the others.
+        proof_file: String,
+        /// How many lines the search may derive, at least 1, where it is given.
+        budget: Option<u64>,
     },
     /// `check TGFF ARCH FRONT PROOF`: whether a front file is accepted with a proof file for the specification of a file
     /// of task graphs and tables and an architecture file.
@@ -48,6 +67,9 @@ fn read_named(
     if name == "decode" {
         return read_decode(alloc, words);
     }
+    if name == "front" {
+        return read_front(alloc, words);
+    }
     if name == "check" {
         return read_check(alloc, words);
     }
@@ -74,5 +96,6 @@ pub fn put_usage(out: &mut Vec<u8>) -> Result<(), AllocError>
     ensures { OnOk result (out.new.items ≡ out.old.items ++ usage_text) }
 {
     put_decode_usage(out)?;
+    put_front_usage(out)?;
     put_check_usage(out)
 }

@@ -4,16 +4,37 @@ use super::{Request, read_words};
 use std::alloc::Global;
 use std::test::Fail;
 
-/// The names that a line asks for, or `none`.
+/// What a line asks for, or `none`.
 fn asked(alloc: Global, line: &str) -> Result<String, Fail> {
     let mut words = Vec::new(alloc);
     for word in line.split(' ') {
         words.push(String::from_str(alloc, word)?)?;
     }
     match read_words(alloc, &words, &[])? {
-        Some(Request::Decode { tgff, arch, geno }) => Ok(format!(in alloc;
-            "{tgff} {arch} {geno}"
-        )?),
+        Some(
+            Request::Decode {
+                tgff,
+                arch,
+                geno,
+                budget,
+                proof_file,
+            },
+        ) => {
+            let proof = match &proof_file {
+                Some(name) => name.as_str(),
+                None => "no proof",
+            };
+            Ok(format!(in alloc; "{tgff} {arch} {geno} {budget:?} {proof}")?)
+        }
+        Some(
+            Request::Front {
+                tgff,
+                arch,
+                front_file,
+                proof_file,
+                budget,
+            },
+        ) => Ok(format!(in alloc; "{tgff} {arch} {front_file} {proof_file} {budget:?}")?),
         Some(
             Request::Check {
                 tgff,
@@ -30,19 +51,53 @@ fn asked(alloc: Global, line: &str) -> Result<String, Fail> {
 fn asks_what_each_line_says(rt: HostRuntime) -> Result<(), Fail> {
     let alloc = rt.alloc();
     for (line, expected) in [
-        ("decode T A -", "T A -"),
-        ("decode - A -", "- A -"),
+        ("decode T A -", "T A - None no proof"),
+        ("decode - A -", "- A - None no proof"),
         ("decode - A", "none"),
         ("decode T - -", "none"),
         ("decode - - -", "none"),
         ("decode  A -", "none"),
-        ("decode -- - A -", "- A -"),
-        ("decode -- T A -", "T A -"),
-        ("decode - A G", "- A G"),
-        ("decode T A G", "T A G"),
+        ("decode -- - A -", "- A - None no proof"),
+        ("decode T A G", "T A G None no proof"),
         ("decode T A G H", "none"),
-        ("decode T A - --budget 0", "none"),
+        ("decode T A - --other P", "none"),
+        ("decode T A - --proof P", "T A - None P"),
+        ("decode --proof P T A -", "T A - None P"),
+        ("decode T --budget 7 A --proof=P -", "T A - Some(7) P"),
+        ("decode T A --proof=P -- --proof", "T A --proof None P"),
+        (
+            "decode T A - --proof P --budget=18446744073709551615",
+            "T A - Some(18446744073709551615) P",
+        ),
+        (
+            "decode T A - --proof P --budget 18446744073709551616",
+            "none",
+        ),
+        ("decode T A - --budget 7", "none"),
+        ("decode T A - --proof P --budget 0", "none"),
+        ("decode T A - --proof P --budget 07", "none"),
+        ("decode T A - --proof P --budget +7", "none"),
+        ("decode T A - --proof P --budget", "none"),
+        ("decode T A - --proof P --budget=", "none"),
+        ("decode T A - --proof P --budget 1 --budget 1", "none"),
+        ("decode T A - --proof P --proof P", "none"),
+        ("decode T A - --proof -", "none"),
+        ("decode T A - --proof=", "none"),
+        ("decode T A - --proof T", "none"),
         ("decode T A - --proof A", "none"),
+        ("decode T A G --proof G", "none"),
+        ("front T A --front F --proof P", "T A F P None"),
+        (
+            "front --budget 3 - A --proof P --front=F",
+            "- A F P Some(3)",
+        ),
+        ("front T A --front F", "none"),
+        ("front T A --front F --proof F", "none"),
+        ("front T A --front A --proof P", "none"),
+        ("front T A --front - --proof P", "none"),
+        ("front T A --front F --proof T", "none"),
+        ("front T A --front F --proof P --budget 0", "none"),
+        ("front T A G --front F --proof P", "none"),
         ("check T A F P", "T A F P"),
         ("check - A F P", "- A F P"),
         ("check - - F P", "none"),

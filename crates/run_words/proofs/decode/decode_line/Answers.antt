@@ -2,4 +2,4 @@ use Rattle.std.proofs.Common.{refl}
 use Rattle.run_words.proofs.decode.decode_line.Goals as goal
 
 pub read_line-requires : goal.read_line-requires
-read_line-requires c = record { simple = refl; free = refl; built_is = refl; places = (refl, refl, (refl, refl, (refl, refl, refl))); options = tt }
+read_line-requires c = record { simple = refl; free = refl; built_is = refl; places = (refl, refl, (refl, refl, (refl, refl, refl))); options = (refl, (refl, tt)) }

@@ -19,5 +19,5 @@ returns c =
     let reads = subst (λ (o : Option ArgMatches). Reads (form_of decode_table) words o) c.in-Some.is c.in_ok-matches.ensures in
     let is = ap (λ (r : Option DecodeValue). option_map decode r) (asked words c.in-Some.matches reads) in
     IfOk-weaker c.decode_with.result _ _
-    (λ r h. h ∙ rw (c.get_str.ensures, c.get_str-2.ensures, c.get_str-3.ensures) (sym is))
+    (λ r h. h ∙ rw (c.get_str.ensures, c.get_str-2.ensures, c.get_str-3.ensures, c.get_str-4.ensures, c.get_str-5.ensures) (sym is))
     c.decode_with.ensures

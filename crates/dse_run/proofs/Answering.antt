@@ -1,0 +1,96 @@
+-- What an answer says of the words, and what is left where it was given.
+use Rattle.std.proofs.Common.{◌≡◌, ◌&&◌, ◌∙◌, ℕ, List, Option, Some, None, IsSomeAnd, IsTrue, Result, Ok, Err, ap, inl, inr, is_some, refl, sym}
+use Rattle.desk_io.specs.Files.{Files}
+use Rattle.line_words.specs.declared.refusals.ReadFault.{ReadFault}
+use Rattle.line_words.specs.declared.refusals.ReadFault.TheVariants as faults
+use Rattle.run_words.specs.Fit.{IsFit}
+use Rattle.run_words.specs.Values.{RequestValue, decode, front, check}
+use Rattle.file_writes.specs.Writes.{AreWritten, ArePartlyWritten}
+use Rattle.file_writes.proofs.Rewriting.{leaves_then}
+use Rattle.file_writes.proofs.Written.{whole}
+use Rattle.run_base.specs.After.{After, GoesOn}
+use Rattle.run_base.specs.Worlds.{World}
+use Rattle.run_base.specs.declared.outcome.Ending.{Ending}
+use Rattle.run_base.specs.declared.outcome.Ending.TheVariants as endings
+use Rattle.run_base.specs.declared.outcome.Outcome.{Outcome}
+use Rattle.front_run.specs.Fronting.{WantedValue}
+use Rattle.front_run.specs.Fronting.{Finds as FindsFront}
+use Rattle.dse_run.specs.Commands.{ComesTo, HasBudget, names_of, wanted_of}
+use Rattle.dse_run.specs.Decoding.{EvidenceValue, Finds}
+use Rattle.dse_run.specs.Run.{Answered, AnswersTo, EndsBy, IsLeft, ReplyValue, status_of}
+use Rattle.dse_run.specs.declared.status.Status.{Status}
+use Rattle.dse_run.specs.declared.status.Status.TheVariants.{Usage, Budget}
+
+-- ---- what is left
+
+pub given_left : (asked : Option RequestValue) (files new_files : Option Files) (said new_said : Option (List ℕ)) (status : Status) → Answered asked files new_files said new_said status → IsLeft asked files new_files
+given_left asked files new_files said new_said status h = inr (record {
+  reply = h.reply;
+  answers = h.answers;
+  written = leaves_then files new_files (AreWritten h.reply.writes) (ArePartlyWritten h.reply.writes) (λ x y k. whole h.reply.writes x y k) h.written;
+})
+
+-- ---- usage
+
+not_usage : (e : Ending) → status_of e ≡ Usage → ⊥
+not_usage endings.Done e = absurd (cc)
+not_usage endings.No e = absurd (cc)
+not_usage endings.Budget e = absurd (cc)
+
+request_not_usage : (asked : RequestValue) (reply : ReplyValue) (result : Result Outcome ReadFault) → EndsBy (names_of asked) result reply → reply.status ≡ Usage → ⊥
+request_not_usage asked reply (Ok outcome) e u = not_usage outcome.ending (sym (ap (λ (r : ReplyValue). r.status) e) ∙ u)
+request_not_usage asked reply (Err (faults.Refused r)) e u = let q = sym (ap (λ (r : ReplyValue). r.status) e) ∙ u in absurd (cc)
+request_not_usage asked reply (Err faults.NoMemory) e u = e
+
+pub usage_of_none : (asked : Option RequestValue) (files : Option Files) (reply : ReplyValue) → AnswersTo asked files reply → reply.status ≡ Usage → asked ≡ None
+usage_of_none None files reply h u = refl
+usage_of_none (Some asked) files reply h u = absurd (request_not_usage asked reply h.result h.ends u)
+
+pub none_is_usage : (asked : Option RequestValue) (files : Option Files) (reply : ReplyValue) → AnswersTo asked files reply → asked ≡ None → reply.status ≡ Usage
+none_is_usage None files reply h n = ap (λ (r : ReplyValue). r.status) h
+none_is_usage (Some asked) files reply h n = absurd (cc)
+
+-- ---- the budget
+
+-- what follows of a reading that an outcome came of
+goes_ok : {X Y P : Type 0} (Rest : X → Result Y ReadFault → Type 0) (y : Y) (r : Result X ReadFault) → ((x : X) → Rest x (Ok y) → P) → GoesOn r Rest (Ok y) → P
+goes_ok Rest y (Ok x) f k = f x k
+goes_ok Rest y (Err e) f k = absurd (cc)
+
+after_ok : {X Y P : Type 0} (Reads : Result X ReadFault → Type 0) (Rest : X → Result Y ReadFault → Type 0) (y : Y) → ((x : X) → Rest x (Ok y) → P) → After Reads Rest (Ok y) → P
+after_ok Reads Rest y f h = goes_ok Rest y h.reading f h.rest
+
+-- a budget that is given stands beside a proof
+beside : (b : Option ℕ) (p : Option (List ℕ)) (n : ℕ) → b ≡ Some n → (p ≡ None → b ≡ None) → IsTrue (is_some b && is_some p)
+beside b None n given alone = let q = sym given ∙ alone refl in absurd (cc)
+beside b (Some name) n given alone = rw given refl
+
+finds_budget : (wanted : EvidenceValue) (outcome : Outcome) → outcome.ending ≡ endings.Budget → (wanted.proof ≡ None → wanted.budget ≡ None) → (s : _) (genes : _) → Finds wanted s genes outcome → IsTrue (is_some wanted.budget && is_some wanted.proof)
+finds_budget wanted outcome e alone s genes (inl h) = let q = sym h.ending ∙ e in absurd (cc)
+finds_budget wanted outcome e alone s genes (inr (inl h)) = let q = sym h.ending ∙ e in absurd (cc)
+finds_budget wanted outcome e alone s genes (inr (inr h)) = beside wanted.budget wanted.proof h.budget h.given alone
+
+fronts_budget : (wanted : WantedValue) (outcome : Outcome) → outcome.ending ≡ endings.Budget → (s : _) → FindsFront wanted s outcome → IsTrue (is_some wanted.budget)
+fronts_budget wanted outcome e s (inl h) = let q = sym h.ending ∙ e in absurd (cc)
+fronts_budget wanted outcome e s (inr h) = rw h.given refl
+
+ends_by_budget : (e : Ending) → status_of e ≡ Budget → e ≡ endings.Budget
+ends_by_budget endings.Done e = absurd (cc)
+ends_by_budget endings.No e = absurd (cc)
+ends_by_budget endings.Budget e = refl
+
+comes_to_budget : (asked : RequestValue) (files : Option Files) (world : World) (outcome : Outcome) → IsFit asked → outcome.ending ≡ endings.Budget → ComesTo asked files world (Ok outcome) → HasBudget asked
+comes_to_budget (decode d) files world outcome fit e h =
+    after_ok _ _ outcome (λ s k. after_ok _ _ outcome (λ genes found. finds_budget (record { budget = d.budget; proof = d.proof }) outcome e fit.alone s genes found) k) h
+comes_to_budget (front f) files world outcome fit e h = after_ok _ _ outcome (λ s found. fronts_budget (wanted_of f) outcome e s found) h
+comes_to_budget (check c) files world outcome fit e h =
+    after_ok _ _ outcome (λ s k. after_ok _ _ outcome (λ front judged. elim judged.ends [ inl x ↦ (let q = sym x.0 ∙ e in absurd (cc)) | inr x ↦ (let q = sym x.0 ∙ e in absurd (cc)) ]) k) h.holds
+
+request_budget : (asked : RequestValue) (files : Option Files) (reply : ReplyValue) (world : World) (result : Result Outcome ReadFault) → IsFit asked → ComesTo asked files world result → EndsBy (names_of asked) result reply → reply.status ≡ Budget → HasBudget asked
+request_budget asked files reply world (Ok outcome) fit comes e b = comes_to_budget asked files world outcome fit (ends_by_budget outcome.ending (sym (ap (λ (r : ReplyValue). r.status) e) ∙ b)) comes
+request_budget asked files reply world (Err (faults.Refused r)) fit comes e b = let q = sym (ap (λ (r : ReplyValue). r.status) e) ∙ b in absurd (cc)
+request_budget asked files reply world (Err faults.NoMemory) fit comes e b = absurd e
+
+pub budget_asked : (asked : Option RequestValue) (files : Option Files) (reply : ReplyValue) → ((a : RequestValue) → asked ≡ Some a → IsFit a) → AnswersTo asked files reply → reply.status ≡ Budget → IsSomeAnd asked HasBudget
+budget_asked None files reply fit h b = let q = sym (ap (λ (r : ReplyValue). r.status) h) ∙ b in absurd (cc)
+budget_asked (Some asked) files reply fit h b = request_budget asked files reply h.world h.result (fit asked refl) h.comes h.ends b

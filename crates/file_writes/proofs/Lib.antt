@@ -1,0 +1,4 @@
+pub mod Filling
+pub mod Rewriting
+pub mod Steps
+pub mod Written

@@ -1,0 +1,155 @@
+-- What holds of each request.
+use Rattle.std.proofs.Common.{◌≡◌, ◌≢◌, ◌≤◌, ◌&&◌, ◌||◌, ◌^◌, ℕ, Bool, true, false, List, [], ◌∷◌, Option, Some, None, IfSome, not, refl, sym, ap, subst, arith, cond, option_map, option_and_then, if◌then◌else◌, nat_lt, nat_le, is_some, codes}
+use Rattle.std.specs.Str.{bytes_eq}
+use Rattle.std.specs.Str.Parse.{digits_value}
+use Rattle.std.proofs.lemmas.Bool.Decides.{nat_tests}
+use Rattle.std.proofs.lemmas.Slice.Eq.{bytes_eq-Decides}
+use Rattle.form_words.specs.Line.{Text, Use, line, value_of}
+use Rattle.form_words.specs.Table.{form_of}
+use Rattle.run_words.specs.Names.{is_file, is_apart}
+use Rattle.run_words.specs.Numbers.{is_whole, number_from, number_if_given}
+use Rattle.run_words.specs.Decoding.{DecodeValue, are_taken, is_written, budget_with, decode_named, decode_with, decode_of, decode_request, decode_table}
+use Rattle.run_words.specs.Fronting.{FrontingValue, are_read, are_written, front_named, front_with, front_of, front_request, front_table}
+use Rattle.run_words.specs.Checking.{CheckValue, check_request}
+use Rattle.run_words.specs.Values.{RequestValue, decode, front, check}
+use Rattle.run_words.specs.Requests.{request}
+use Rattle.run_words.specs.Fit.{HasFitBudget, HasFitFiles, IsFit}
+
+-- a number that is read is at least the least one
+number_above : (least : ℕ) (t : Text) → IfSome (number_from least t) (λ n. least ≤ n)
+number_above least t = go (is_whole t) (nat_lt (digits_value 10 t) (2 ^ 64)) (nat_le least (digits_value 10 t)) refl
+  where
+    go : (w f a : Bool) → nat_le least (digits_value 10 t) ≡ a → IfSome (cond (w && (f && a)) (Some (digits_value 10 t)) None) (λ n. least ≤ n)
+    go false f a e = tt
+    go true false a e = tt
+    go true true false e = tt
+    go true true true e = grind (arith, nat_tests)
+
+-- a budget of an option and the proof beside it
+abbrev AreFit : Option Text → Option ℕ → Type 0
+AreFit proof n = IfSome n (λ k. 1 ≤ k) × (proof ≡ None → n ≡ None)
+
+fit_some : (t p : Text) → IfSome (number_if_given 1 (Some t)) (AreFit (Some p))
+fit_some t p = go (number_from 1 t) (number_above 1 t)
+  where
+    go : (n : Option ℕ) → IfSome n (λ k. 1 ≤ k) → IfSome (option_map (λ k. Some k) n) (AreFit (Some p))
+    go None h = tt
+    go (Some k) h = (h, λ e. absurd (cc))
+
+fit_budget : (budget proof : Option Text) → IfSome (budget_with budget proof) (AreFit proof)
+fit_budget None None = (tt, λ e. refl)
+fit_budget (Some t) None = tt
+fit_budget None (Some p) = (tt, λ e. refl)
+fit_budget (Some t) (Some p) = fit_some t p
+
+-- the request of names and a budget
+abbrev made : Text → Text → Text → Option Text → Option ℕ → DecodeValue
+made t a g proof n = record { tgff = t; arch = a; geno = g; budget = n; proof = proof }
+
+fit_made : (t a g : Text) (proof : Option Text) (n : Option ℕ) (d : DecodeValue) → AreFit proof n → Some (made t a g proof n) ≡ Some d → HasFitBudget d
+fit_made t a g proof n d h e = let q : made t a g proof n ≡ d = cc in subst HasFitBudget q (record { some = h.0; alone = h.1 })
+
+fit_named : (t a g : Text) (proof : Option Text) (b : Option (Option ℕ)) (d : DecodeValue) → IfSome b (AreFit proof) → decode_named t a g proof b ≡ Some d → HasFitBudget d
+fit_named t a g proof b d = go (are_taken t a g && is_written t a g proof) b
+  where
+    go : (ok : Bool) (b : Option (Option ℕ)) → IfSome b (AreFit proof) → cond ok (option_map (made t a g proof) b) None ≡ Some d → HasFitBudget d
+    go false b h e = absurd (cc)
+    go true None h e = absurd (cc)
+    go true (Some n) h e = fit_made t a g proof n d h e
+
+fit_with : (t a g b p : Option Text) (d : DecodeValue) → decode_with t a g b p ≡ Some d → HasFitBudget d
+fit_with None a g b p d e = absurd (cc)
+fit_with (Some t) None g b p d e = absurd (cc)
+fit_with (Some t) (Some a) None b p d e = absurd (cc)
+fit_with (Some t) (Some a) (Some g) b p d e = fit_named t a g p (budget_with b p) d (fit_budget b p) e
+
+fit_decode : (words : List Text) (d : DecodeValue) → decode_request words ≡ Some d → HasFitBudget d
+unfolding decode_request
+fit_decode words d e = go (line (form_of decode_table) words) e
+  where
+    go : (us : Option (List Use)) → option_and_then decode_of us ≡ Some d → HasFitBudget d
+    go None e = absurd (cc)
+    go (Some us) e = fit_with (value_of (codes "tgff") us) (value_of (codes "arch") us) (value_of (codes "geno") us) (value_of (codes "budget") us) (value_of (codes "proof") us) d e
+
+-- ---- the files of a front
+
+fit_number : (budget : Option Text) → IfSome (number_if_given 1 budget) (λ n. IfSome n (λ k. 1 ≤ k))
+fit_number None = tt
+fit_number (Some t) = go (number_from 1 t) (number_above 1 t)
+  where
+    go : (n : Option ℕ) → IfSome n (λ k. 1 ≤ k) → IfSome (option_map (λ k. Some k) n) (λ m. IfSome m (λ k. 1 ≤ k))
+    go None h = tt
+    go (Some k) h = h
+
+same_text : (t : Text) → bytes_eq t t ≡ true
+same_text t = (bytes_eq-Decides t t).1 refl
+
+last_apart : (t a f p : Text) → is_apart (Some p) (t ∷ a ∷ f ∷ []) ≡ true → f ≢ p
+last_apart t a f p h e = go (bytes_eq t p) (bytes_eq a p) (bytes_eq f p) (subst (λ (x : Text). bytes_eq f x ≡ true) e (same_text f)) h
+  where
+    go : (x y z : Bool) → z ≡ true → not (x || (y || (z || false))) ≡ true → ⊥
+    go true y z q h = absurd (cc)
+    go false true z q h = absurd (cc)
+    go false false true q h = absurd (cc)
+    go false false false q h = absurd (cc)
+
+right_of : (x y : Bool) → x && y ≡ true → y ≡ true
+right_of true y e = e
+right_of false y e = absurd (cc)
+
+written_apart : (t a f p : Text) → are_written t a f p ≡ true → f ≢ p
+written_apart t a f p h = last_apart t a f p (right_of (is_file p) (is_apart (Some p) (t ∷ a ∷ f ∷ [])) (right_of (is_file f && is_apart (Some f) (t ∷ a ∷ [])) (is_file p && is_apart (Some p) (t ∷ a ∷ f ∷ [])) h))
+
+abbrev fronted : Text → Text → Text → Text → Option ℕ → FrontingValue
+fronted t a f p n = record { tgff = t; arch = a; front = f; proof = p; budget = n }
+
+fit_fronted : (t a f p : Text) (n : Option ℕ) (v : FrontingValue) → IfSome n (λ k. 1 ≤ k) → f ≢ p → Some (fronted t a f p n) ≡ Some v → HasFitFiles v
+fit_fronted t a f p n v h apart e = let q : fronted t a f p n ≡ v = cc in subst HasFitFiles q (record { some = h; apart = apart })
+
+fit_front_named : (t a f p : Text) (b : Option (Option ℕ)) (v : FrontingValue) → IfSome b (λ n. IfSome n (λ k. 1 ≤ k)) → front_named t a f p b ≡ Some v → HasFitFiles v
+fit_front_named t a f p b v = go (are_read t a) (are_written t a f p) refl b
+  where
+    go : (r w : Bool) → are_written t a f p ≡ w → (b : Option (Option ℕ)) → IfSome b (λ n. IfSome n (λ k. 1 ≤ k)) → cond (r && w) (option_map (fronted t a f p) b) None ≡ Some v → HasFitFiles v
+    go false w q b h e = absurd (cc)
+    go true false q b h e = absurd (cc)
+    go true true q None h e = absurd (cc)
+    go true true q (Some n) h e = fit_fronted t a f p n v h (written_apart t a f p q) e
+
+fit_front_with : (t a f p b : Option Text) (v : FrontingValue) → front_with t a f p b ≡ Some v → HasFitFiles v
+fit_front_with None a f p b v e = absurd (cc)
+fit_front_with (Some t) None f p b v e = absurd (cc)
+fit_front_with (Some t) (Some a) None p b v e = absurd (cc)
+fit_front_with (Some t) (Some a) (Some f) None b v e = absurd (cc)
+fit_front_with (Some t) (Some a) (Some f) (Some p) b v e = fit_front_named t a f p (number_if_given 1 b) v (fit_number b) e
+
+fit_front : (words : List Text) (v : FrontingValue) → front_request words ≡ Some v → HasFitFiles v
+unfolding front_request
+fit_front words v e = go (line (form_of front_table) words) e
+  where
+    go : (us : Option (List Use)) → option_and_then front_of us ≡ Some v → HasFitFiles v
+    go None e = absurd (cc)
+    go (Some us) e = fit_front_with (value_of (codes "tgff") us) (value_of (codes "arch") us) (value_of (codes "front") us) (value_of (codes "proof") us) (value_of (codes "budget") us) v e
+
+-- ---- each request
+
+fit_of_front : (r : Option FrontingValue) (asked : RequestValue) → ((v : FrontingValue) → r ≡ Some v → HasFitFiles v) → option_map front r ≡ Some asked → IsFit asked
+fit_of_front None asked h e = absurd (cc)
+fit_of_front (Some v) asked h e = let q : front v ≡ asked = cc in subst IsFit q (h v refl)
+
+fit_of_decode : (r : Option DecodeValue) (asked : RequestValue) → ((d : DecodeValue) → r ≡ Some d → HasFitBudget d) → option_map decode r ≡ Some asked → IsFit asked
+fit_of_decode None asked h e = absurd (cc)
+fit_of_decode (Some d) asked h e = let q : decode d ≡ asked = cc in subst IsFit q (h d refl)
+
+fit_of_check : (r : Option CheckValue) (asked : RequestValue) → option_map check r ≡ Some asked → IsFit asked
+fit_of_check None asked e = absurd (cc)
+fit_of_check (Some c) asked e = let q : check c ≡ asked = cc in subst IsFit q tt
+
+pub requests_fit : (tags words : List Text) (asked : RequestValue) → request tags words ≡ Some asked → IsFit asked
+requests_fit tags [] asked e = absurd (cc)
+requests_fit tags (name ∷ words) asked e = go (bytes_eq name (codes "decode")) (bytes_eq name (codes "front")) (bytes_eq name (codes "check")) e
+  where
+    go : (d f c : Bool) → cond d (option_map decode (decode_request words)) (cond f (option_map front (front_request words)) (cond c (option_map check (check_request words)) None)) ≡ Some asked → IsFit asked
+    go true f c e = fit_of_decode (decode_request words) asked (fit_decode words) e
+    go false true c e = fit_of_front (front_request words) asked (fit_front words) e
+    go false false true e = fit_of_check (check_request words) asked e
+    go false false false e = absurd (cc)

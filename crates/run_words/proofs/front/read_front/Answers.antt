@@ -1,0 +1,23 @@
+use Rattle.std.proofs.Common.{◌∙◌, sym, ap, subst, map, option_map, string_bytes, Option}
+use Rattle.std.proofs.lemmas.Result.{IfOk-weaker}
+use Rattle.clap.specs.declared.parser.matches.ArgMatches.{ArgMatches}
+use Rattle.form_words.specs.Reads.{Reads}
+use Rattle.form_words.specs.Table.{form_of}
+use Rattle.run_words.specs.Fronting.{FrontingValue, front_table}
+use Rattle.run_words.specs.Values.{front}
+use Rattle.run_words.proofs.Asked.{front_asked_none, front_asked}
+use Rattle.run_words.proofs.front.read_front.Goals as goal
+
+pub returns-in_default : goal.returns-in_default
+returns-in_default c =
+    let words = map string_bytes c.args.words.now in
+    sym (ap (option_map front) (front_asked_none words (subst (λ (o : Option ArgMatches). Reads (form_of front_table) words o) c.in_default.is c.in_ok-matches.ensures)))
+
+pub returns : goal.returns
+returns c =
+    let words = map string_bytes c.args.words.now in
+    let reads = subst (λ (o : Option ArgMatches). Reads (form_of front_table) words o) c.in-Some.is c.in_ok-matches.ensures in
+    let is = ap (λ (r : Option FrontingValue). option_map front r) (front_asked words c.in-Some.matches reads) in
+    IfOk-weaker c.front_with.result _ _
+    (λ r h. h ∙ rw (c.get_str.ensures, c.get_str-2.ensures, c.get_str-3.ensures, c.get_str-4.ensures, c.get_str-5.ensures) (sym is))
+    c.front_with.ensures
