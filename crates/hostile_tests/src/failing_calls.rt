@@ -6,18 +6,29 @@ use dse_run::{Status, run};
 use std::alloc::{AllocError, Global};
 use std::test::Fail;
 
-/// A task on one of two resources, and a genotype for it.
+/// A task on one of two resources.
 const TWO: &str = "arch 1\ntask t\nresource a\nresource b\nmap t a\nmap t b\n";
+
+/// A genotype for it, which asks for the first option before all else.
 const GENES: &str = "genotype 1\ngene 0 5 1\ngene 1 5 1\n";
 
-/// A task without an option, and the proof that no design is valid.
+/// A task without an option.
 const NO_OPTION: &str = "arch 1\ntask t\n";
+
+/// The proof that it has no valid design.
 const NO_DESIGN: &str = "proof 1\np 1\n";
 
-/// A task on one of three resources, with two objectives, its front, and a proof of it.
-const THREE: &str = "arch 1\nobjective cost\nobjective energy\ntask t\nresource a cost=1\nresource b cost=4\nresource c cost=4\nmap t a energy=5\nmap t b energy=2\nmap t c energy=5\n";
-const FRONT: &str = "front 1\nobjectives cost energy\nentry 1\nbind t a 0\nalloc a\nvector 1 5\nentry 2\nbind t b 1\nalloc b\nvector 4 2\ncomplete\n";
-const PROOF: &str = "proof 1\nc 4 5\np 5 10 w3 w4 s + s 9 + s 11 w0 w1 s + s\nc 4 2\np 4 14 w3 w5 s + s 13 + s 15 w0 w2 s + s\nc 1 5\np 3 18 w4 w5 s + s 17 + s 19 w1 w2 s + s 1 + s 12 + s 16 + s\n";
+/// A task on one of three resources, with two objectives.
+const THREE: &str =
+    "arch 1\nobjective cost\nobjective energy\ntask t\nresource a cost=1\nresource b cost=4\nresource c cost=4\nmap t a energy=5\nmap t b energy=2\nmap t c energy=5\n";
+
+/// Its front.
+const FRONT: &str =
+    "front 1\nobjectives cost energy\nentry 1\nbind t a 0\nalloc a\nvector 1 5\nentry 2\nbind t b 1\nalloc b\nvector 4 2\ncomplete\n";
+
+/// A proof of it.
+const PROOF: &str =
+    "proof 1\nc 4 5\np 5 10 w3 w4 s + s 9 + s 11 w0 w1 s + s\nc 4 2\np 4 14 w3 w5 s + s 13 + s 15 w0 w2 s + s\nc 1 5\np 3 18 w4 w5 s + s 17 + s 19 w1 w2 s + s 1 + s 12 + s 16 + s\n";
 
 /// What the written files have before each run.
 const OLD: &str = "an older file\nof two lines and a half";
@@ -34,12 +45,16 @@ const FILES: [(&str, &str); 8] = [
     ("proof", OLD),
 ];
 
-/// Calls `length` and `fill` of each file, and `say`.
+/// Calls `length` and `fill` of each file, and `say`: five calls.
 const ALONG_GENES: &str = "decode - two genes";
+
+/// Likewise: seven calls, of which those on `P` come once the front was tested.
 const CHECKED: &str = "check - three F P";
 
-/// Calls `length` and `fill` of the architecture file, `start` and `append` of each written file, and `say`.
+/// Calls `length` and `fill` of the architecture file, `start` and `append` of the proof file, and `say`: five calls.
 const PROVED: &str = "decode - none - --proof proof";
+
+/// Likewise, with `start` and `append` of the front file before those of the proof file: seven calls.
 const SEARCHED: &str = "front - three --front front --proof proof";
 
 /// The status of a run over these files, of which one call fails, and the desk that it leaves.
@@ -124,10 +139,24 @@ fn each_failing_call_is_a_fault(rt: HostRuntime) -> Result<(), Fail> {
 fn a_call_past_the_last_one_fails_no_run(rt: HostRuntime) -> Result<(), Fail> {
     let alloc = rt.alloc();
     for (line, call, status, said, front, proof) in [
-        (ALONG_GENES, 6, Status::Done, "bind t a 0\nalloc a\nvector\n", OLD, OLD),
+        (
+            ALONG_GENES,
+            6,
+            Status::Done,
+            "bind t a 0\nalloc a\nvector\n",
+            OLD,
+            OLD,
+        ),
         (CHECKED, 8, Status::Done, "accepted 2\n", OLD, OLD),
         (PROVED, 6, Status::No, "none\n", OLD, NO_DESIGN),
-        (SEARCHED, 8, Status::Done, "front complete 2\n", FRONT, PROOF),
+        (
+            SEARCHED,
+            8,
+            Status::Done,
+            "front complete 2\n",
+            FRONT,
+            PROOF,
+        ),
     ] {
         let found = left(alloc, line, call)?;
         assert_eq!(rt; found.0, status, "{}", line);
