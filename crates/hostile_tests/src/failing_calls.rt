@@ -4,6 +4,7 @@
 use desk_io::{MemoryDesk, names_are_distinct};
 use dse_run::{Status, run};
 use std::alloc::{AllocError, Global};
+use std::process::Abort;
 use std::test::Fail;
 
 /// A task on one of two resources.
@@ -33,43 +34,27 @@ const PROOF: &str =
 /// What the written files have before each run.
 const OLD: &str = "an older file\nof two lines and a half";
 
-/// The files before each run, of which no command writes the first six.
-const FILES: [(&str, &str); 8] = [
-    ("two", TWO),
-    ("genes", GENES),
-    ("none", NO_OPTION),
-    ("three", THREE),
-    ("F", FRONT),
-    ("P", PROOF),
-    ("front", OLD),
-    ("proof", OLD),
-];
+type HeldFiles = Vec<(String, Vec<u8>)>;
 
-/// Calls `length` and `fill` of each file, and `say`: five calls.
-const ALONG_GENES: &str = "decode - two genes";
+/// A file with this name and text.
+fn file(alloc: Global, name: &str, text: &str) -> Result<(String, Vec<u8>), AllocError> {
+    let name = String::from_str(alloc, name)?;
+    let bytes = Vec::from_slice(alloc, text.as_bytes())?;
+    Ok((name, bytes))
+}
 
-/// Likewise: seven calls, of which those on `P` come once the front was tested.
-const CHECKED: &str = "check - three F P";
-
-/// Calls `length` and `fill` of the architecture file, `start` and `append` of the proof file, and `say`: five calls.
-const PROVED: &str = "decode - none - --proof proof";
-
-/// Likewise, with `start` and `append` of the front file before those of the proof file: seven calls.
-const SEARCHED: &str = "front - three --front front --proof proof";
-
-/// The status of a run over these files, of which one call fails, and the desk that it leaves.
-fn left(alloc: Global, line: &str, failing: u64) -> Result<(Status, MemoryDesk), AllocError> {
+/// The files before each run, of which the commands write the last two.
+fn files(alloc: Global) -> Result<HeldFiles, AllocError> {
     let mut files = Vec::new(alloc);
-    for (name, text) in FILES {
-        let bytes = Vec::from_slice(alloc, text.as_bytes())?;
-        files.push((String::from_str(alloc, name)?, bytes))?;
-    }
-    if !names_are_distinct(&files) {
-        return Err(AllocError);
-    }
-    let mut desk = MemoryDesk::new(alloc, files, vec![in alloc; failing]?);
-    let status = run(alloc, &words_of(alloc, line)?, &mut desk);
-    Ok((status, desk))
+    files.push(file(alloc, "two", TWO)?)?;
+    files.push(file(alloc, "genes", GENES)?)?;
+    files.push(file(alloc, "none", NO_OPTION)?)?;
+    files.push(file(alloc, "three", THREE)?)?;
+    files.push(file(alloc, "F", FRONT)?)?;
+    files.push(file(alloc, "P", PROOF)?)?;
+    files.push(file(alloc, "front", OLD)?)?;
+    files.push(file(alloc, "proof", OLD)?)?;
+    Ok(files)
 }
 
 /// The words of a line.
@@ -81,89 +66,110 @@ fn words_of(alloc: Global, line: &str) -> Result<Vec<String>, AllocError> {
     Ok(words)
 }
 
+/// The status of a run over these files, of which one call fails, and the desk that it leaves.
+fn left(alloc: Global, line: &str, failing: u64) -> Result<(Status, MemoryDesk), AllocError> {
+    let files = files(alloc)?;
+    if !names_are_distinct(&files) {
+        return Err(AllocError);
+    }
+    let mut desk = MemoryDesk::new(alloc, files, vec![in alloc; failing]?);
+    let status = run(alloc, &words_of(alloc, line)?, &mut desk);
+    Ok((status, desk))
+}
+
 /// Whether a file has this text.
 fn has(desk: &MemoryDesk, name: &str, text: &str) -> bool {
     desk.content(name) == Some(text.as_bytes())
 }
 
-/// Whether all files that no command writes are as before.
+/// Whether the files that no command writes are as before.
 fn keeps_the_others(desk: &MemoryDesk) -> bool {
-    let mut kept = true;
-    for (name, text) in FILES {
-        kept = kept && (name == "front" || name == "proof" || has(desk, name, text));
-    }
-    kept
+    has(desk, "two", TWO)
+        && has(desk, "genes", GENES)
+        && has(desk, "none", NO_OPTION)
+        && has(desk, "three", THREE)
+        && has(desk, "F", FRONT)
+        && has(desk, "P", PROOF)
 }
 
-#[test]
-fn each_failing_call_is_a_fault(rt: HostRuntime) -> Result<(), Fail> {
-    let alloc = rt.alloc();
-    // The line, which of its calls fails, and what the front file and the proof file have then.
-    for (line, call, front, proof) in [
-        (ALONG_GENES, 1, OLD, OLD),
-        (ALONG_GENES, 2, OLD, OLD),
-        (ALONG_GENES, 3, OLD, OLD),
-        (ALONG_GENES, 4, OLD, OLD),
-        (ALONG_GENES, 5, OLD, OLD),
-        (CHECKED, 1, OLD, OLD),
-        (CHECKED, 2, OLD, OLD),
-        (CHECKED, 3, OLD, OLD),
-        (CHECKED, 4, OLD, OLD),
-        (CHECKED, 5, OLD, OLD),
-        (CHECKED, 6, OLD, OLD),
-        (CHECKED, 7, OLD, OLD),
-        (PROVED, 1, OLD, OLD),
-        (PROVED, 2, OLD, OLD),
-        (PROVED, 3, OLD, OLD),
-        (PROVED, 4, OLD, ""),
-        (PROVED, 5, OLD, NO_DESIGN),
-        (SEARCHED, 1, OLD, OLD),
-        (SEARCHED, 2, OLD, OLD),
-        (SEARCHED, 3, OLD, OLD),
-        (SEARCHED, 4, "", OLD),
-        (SEARCHED, 5, FRONT, OLD),
-        (SEARCHED, 6, FRONT, ""),
-        (SEARCHED, 7, FRONT, PROOF),
-    ] {
-        let (status, desk) = left(alloc, line, call)?;
-        assert_eq!(rt; status, Status::Fault, "{} {}", line, call);
-        assert!(rt; desk.said() == b"fault\n".as_slice(), "{} {}", line, call);
-        assert!(rt; has(&desk, "front", front), "{} {}", line, call);
-        assert!(rt; has(&desk, "proof", proof), "{} {}", line, call);
-        assert!(rt; keeps_the_others(&desk), "{} {}", line, call);
-    }
+/// Tries a run of which one call fails: the status, what is said, and the texts of the front file and of the proof file.
+fn try_run(
+    rt: &(impl Abort + AllocGlobal),
+    line: &str,
+    failing: u64,
+    answer: (Status, &str),
+    texts: (&str, &str),
+) -> Result<(), Fail> {
+    let (status, desk) = left(rt.alloc(), line, failing)?;
+    assert!(rt; status == answer.0, "{} {}", line, failing);
+    assert!(rt; desk.said() == answer.1.as_bytes(), "{} {}", line, failing);
+    assert!(rt; has(&desk, "front", texts.0), "{} {}", line, failing);
+    assert!(rt; has(&desk, "proof", texts.1), "{} {}", line, failing);
+    assert!(rt; keeps_the_others(&desk), "{} {}", line, failing);
     Ok(())
 }
 
+/// Tries a run of which one call fails, which is a fault.
+fn try_fault(
+    rt: &(impl Abort + AllocGlobal),
+    line: &str,
+    failing: u64,
+    front: &str,
+    proof: &str,
+) -> Result<(), Fail> {
+    try_run(
+        rt,
+        line,
+        failing,
+        (Status::Fault, "fault\n"),
+        (front, proof),
+    )
+}
+
 #[test]
-fn a_call_past_the_last_one_fails_no_run(rt: HostRuntime) -> Result<(), Fail> {
-    let alloc = rt.alloc();
-    for (line, call, status, said, front, proof) in [
-        (
-            ALONG_GENES,
-            6,
-            Status::Done,
-            "bind t a 0\nalloc a\nvector\n",
-            OLD,
-            OLD,
-        ),
-        (CHECKED, 8, Status::Done, "accepted 2\n", OLD, OLD),
-        (PROVED, 6, Status::No, "none\n", OLD, NO_DESIGN),
-        (
-            SEARCHED,
-            8,
-            Status::Done,
-            "front complete 2\n",
-            FRONT,
-            PROOF,
-        ),
-    ] {
-        let found = left(alloc, line, call)?;
-        assert_eq!(rt; found.0, status, "{}", line);
-        assert!(rt; found.1.said() == said.as_bytes(), "{}", line);
-        assert!(rt; has(&found.1, "front", front), "{}", line);
-        assert!(rt; has(&found.1, "proof", proof), "{}", line);
-        assert!(rt; keeps_the_others(&found.1), "{}", line);
+fn a_decoding_along_genes(rt: HostRuntime) -> Result<(), Fail> {
+    // Five calls: `length` and `fill` of both files, and `say`.
+    let line = "decode - two genes";
+    for call in 1..6u64 {
+        try_fault(&rt, line, call, OLD, OLD)?;
     }
-    Ok(())
+    let said = "bind t a 0\nalloc a\nvector\n";
+    try_run(&rt, line, 6, (Status::Done, said), (OLD, OLD))
+}
+
+#[test]
+fn a_check(rt: HostRuntime) -> Result<(), Fail> {
+    // Seven calls: `length` and `fill` of each file, those of `P` once the front is tested, and `say`.
+    let line = "check - three F P";
+    for call in 1..8u64 {
+        try_fault(&rt, line, call, OLD, OLD)?;
+    }
+    try_run(&rt, line, 8, (Status::Done, "accepted 2\n"), (OLD, OLD))
+}
+
+#[test]
+fn a_decoding_with_its_proof(rt: HostRuntime) -> Result<(), Fail> {
+    // Five calls: `length` and `fill`, `start` and `append` of the proof file, and `say`.
+    let line = "decode - none - --proof proof";
+    for call in 1..4u64 {
+        try_fault(&rt, line, call, OLD, OLD)?;
+    }
+    try_fault(&rt, line, 4, OLD, "")?;
+    try_fault(&rt, line, 5, OLD, NO_DESIGN)?;
+    try_run(&rt, line, 6, (Status::No, "none\n"), (OLD, NO_DESIGN))
+}
+
+#[test]
+fn a_front_with_its_proof(rt: HostRuntime) -> Result<(), Fail> {
+    // Seven calls: `length` and `fill`, `start` and `append` of the front file, then of the proof file, and `say`.
+    let line = "front - three --front front --proof proof";
+    for call in 1..4u64 {
+        try_fault(&rt, line, call, OLD, OLD)?;
+    }
+    try_fault(&rt, line, 4, "", OLD)?;
+    try_fault(&rt, line, 5, FRONT, OLD)?;
+    try_fault(&rt, line, 6, FRONT, "")?;
+    try_fault(&rt, line, 7, FRONT, PROOF)?;
+    let said = "front complete 2\n";
+    try_run(&rt, line, 8, (Status::Done, said), (FRONT, PROOF))
 }
