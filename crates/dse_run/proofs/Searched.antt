@@ -21,7 +21,7 @@ use Rattle.sat_decoder.specs.Decoder.{IsFrameOf}
 use Rattle.sat_decoder.specs.Decoding.{DecodedSays, LineCountSays, NewLinesSay, IsShown}
 use Rattle.sat_decoder.specs.declared.decoded.Decoded.{Decoded}
 use Rattle.sat_decoder.specs.declared.decoded.Decoded.TheVariants.{First, Nothing, Budget}
-use Rattle.dse_run.specs.Proving.{IsBelow, IsWithin}
+use Rattle.dse_run.specs.Proving.{AreDerived, IsBelow, IsWithin}
 use Rattle.dse_run.specs.Searching.{AreUsedUp, LinesAreWorth, IsSearched}
 use Rattle.dse_run.proofs.Budgets.{all_count}
 
@@ -97,7 +97,7 @@ honest_log f ls h = record {
   last = λ cs c e. never_last (derived_by f ls) h.no_contradiction cs c e;
 }
 
-used_up : (s : SpecValue) (budget : Option ℕ) (ls : List Line) → All (λ l. is_derived l ≡ true) ls → AreHonestSteps (cover_frame s) (base_of (cover_frame s)) (encoding s) ls → derived_count ls ≡ unwrap_or budget most → derived_count ls < 2 ^ all_variables s → derived_count ls < 2 ^ 63 → AreUsedUp s budget ls
+used_up : (s : SpecValue) (budget : Option ℕ) (ls : List Line) → AreDerived ls → AreHonestSteps (cover_frame s) (base_of (cover_frame s)) (encoding s) ls → derived_count ls ≡ unwrap_or budget most → derived_count ls < 2 ^ all_variables s → derived_count ls < 2 ^ 63 → AreUsedUp s budget ls
 used_up s None ls each h n few small = absurd (omega (arith, n, small))
 used_up s (Some b) ls each h n few small = record {
   most = b;

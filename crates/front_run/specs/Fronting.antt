@@ -35,7 +35,7 @@ complete_text entries = codes "front complete " ++ decimal entries ++ codes "\n"
 abbrev pub open_text : ℕ → List ℕ
 open_text entries = codes "front open " ++ decimal entries ++ codes "\n"
 
--- the lines of a proof have the found vectors as covers, in order, the last derived one gives `0 >= 1`, and there are no more derived ones than the budget, if one is given
+-- the lines of a proof have the found vectors as covers, in order, the last derived one gives `0 >= 1`, and there are no more of these than the budget, if one is given
 pub record LinesFind (s : SpecValue) (found : List EntryValue) (budget : Option ℕ) (ls : List Line) : Type 0 where
   pub covers : covers_of ls ≡ vectors_in found
   pub last : LastContradicts s ls
