@@ -18,15 +18,16 @@ module _ (m : Member) (w : ℕ) (long : length m.vector ≡ w) where
   covering x wide h = by_places x.vector m.vector (wide ∙ sym long) h
 
   not_covering : (x : Member) → (IsAtMost x.vector m.vector → ⊥) → covers x m ≡ false
-  not_covering x no = is_false (covers x m) (λ yes. no (each_place x.vector m.vector yes))
+  not_covering x isnt = is_false (covers x m) (λ is. isnt (each_place x.vector m.vector is))
 
   place_of : (members : List Member) (k : ℕ) → All (HasWidth w) members → k < length members → IsAtMost (vector_at (vectors_of members) k) m.vector → NoneBelow (vectors_of members) m.vector k → position_or_len (λ x. covers x m) members ≡ k
-  place_of [] k wide h yes none = absurd (omega arith)
-  place_of (x ∷ xs) zero wide h yes none =
-      ap (λ b. cond (not b) (1 + position_or_len (λ x. covers x m) xs) 0) (covering x (All-head (HasWidth w) x xs wide) yes)
-  place_of (x ∷ xs) (suc k) wide h yes none =
-      let rest = place_of xs k (All-tail (HasWidth w) x xs wide) (omega arith) yes (λ j lt. none (suc j) (omega arith)) in
-      ap (λ b. cond (not b) (1 + position_or_len (λ x. covers x m) xs) 0) (not_covering x (none zero (omega arith))) ∙ omega (arith, rest)
+  place_of [] k wide h is none = absurd (omega arith)
+  place_of (x ∷ xs) zero wide h is none =
+      ap (λ b. cond (not b) (1 + position_or_len (λ x. covers x m) xs) 0) (covering x (All-head (HasWidth w) x xs wide) is)
+  place_of (x ∷ xs) (suc k) wide h is none =
+      let rest = place_of xs k (All-tail (HasWidth w) x xs wide) (omega arith) is (λ j lt. none (suc j) (omega arith)) in
+      let next : 1 + position_or_len (λ x. covers x m) xs ≡ suc k = omega (arith, rest) in
+      ap (λ b. cond (not b) (1 + position_or_len (λ x. covers x m) xs) 0) (not_covering x (none zero (omega arith))) ∙ next
 
   none_covers : (members : List Member) → NoneBelow (vectors_of members) m.vector (length (vectors_of members)) → list_any (λ x. covers x m) members ≡ false
   none_covers [] none = refl
@@ -79,7 +80,7 @@ module _ (m : Member) (w : ℕ) (long : length m.vector ≡ w) where
   uncovered (x ∷ xs) (b ∷ ms) wide count marks =
       let here = marks zero (omega arith) in
       let same = long ∙ sym (All-head (HasWidth w) x xs wide) in
-      let is = same_bool b (covers m x) (λ yes. by_places m.vector x.vector same (here.0 yes)) (λ yes. here.1 (each_place m.vector x.vector yes)) in
+      let is = same_bool b (covers m x) (λ on. by_places m.vector x.vector same (here.0 on)) (λ at. here.1 (each_place m.vector x.vector at)) in
       let rest = uncovered xs ms (All-tail (HasWidth w) x xs wide) (omega arith) (λ k h. marks (suc k) (omega arith)) in
       chosen b (covers m x) x m _ (filter (λ x. not (covers m x)) xs) is rest
 

@@ -1,8 +1,8 @@
 -- A list whose unmarked entries move to its front, one after another, by swaps.
-use Rattle.std.proofs.Common.{◌≡◌, ℕ, ◌+◌, ◌<◌, ◌≤◌, List, [], ◌∷◌, ◌++◌, length, get_or, set, take, drop, Bool, true, false, ap, ap₂, sym, ◌∙◌, subst, arith, append-nil, inl, inr}
+use Rattle.std.proofs.Common.{◌≡◌, ℕ, ◌+◌, ◌<◌, ◌≤◌, List, [], ◌∷◌, ◌++◌, length, get_or, set, take, drop, Bool, true, false, ap, ap₂, sym, ◌∙◌, arith, append-nil, inl, inr}
 use Rattle.std.specs.List.{swap}
 use Rattle.std.proofs.lemmas.Bool.{cases_lt}
-use Rattle.std.proofs.lemmas.List.{take_all, take_more, take_more_set, take-set-le, drop-set-lt, drop-drop, get_or-drop, length-set, set-get_or}
+use Rattle.std.proofs.lemmas.List.{take_all, take_more, take_more_set, take-set-le, drop-set-lt, drop-drop, get_or-drop, length-set}
 use Rattle.std.proofs.lemmas.List.Edits.{swap_is}
 use Rattle.dominance_lanes.specs.Columns.{unmarked}
 use Rattle.dominance_lanes.proofs.ColumnEdits.{unmarked_more}
@@ -37,7 +37,7 @@ module _ {X : Type 0} (now : List X) (k kept : ℕ) (d : X) (h : k < length now)
       ∙ elim (cases_lt kept k) [
         | inl lt ↦ take-set-le (kept + 1) (set now kept x) k z (omega arith) ∙ take_more_set now kept x (omega arith)
         | inr ge ↦ (let same : kept ≡ k = omega arith in
-            ap (λ n. take (kept + 1) (set (set now kept x) n (get_or now n d))) (sym same)
+            ap (λ n. take (kept + 1) (set (set now kept x) n z)) (sym same)
             ∙ take_more_set (set now kept x) kept z (omega arith)
             ∙ ap₂ (λ l a. l ++ a ∷ []) (take-set-le kept now kept x (omega arith)) (ap (λ n. get_or now n d) same))
       ]
@@ -51,8 +51,8 @@ module _ {X : Type 0} (now : List X) (k kept : ℕ) (d : X) (h : k < length now)
       ∙ drop-set-lt (k + 1) now kept x (omega arith)
 
 pub swaps_unmarked : {X : Type 0} (ms : List Bool) (old now : List X) (k kept : ℕ) → length ms ≡ length old → length now ≡ length old → k < length ms → kept ≤ k → get_or ms k false ≡ false → IsMoved ms old now k kept → IsMoved ms old (swap now kept k) (k + 1) (kept + 1)
-swaps_unmarked ms old now k kept same long h le is so = with_entry old k (omega arith) (λ d.
-    let first : (xs : List _) → get_or (drop k xs) 0 d ≡ get_or xs k d = λ xs. get_or-drop k xs 0 d ∙ ap (λ n. get_or xs n d) (omega arith) in
+swaps_unmarked {X} ms old now k kept same long h le is so = with_entry old k (omega arith) (λ d.
+    let first : (xs : List X) → get_or (drop k xs) 0 d ≡ get_or xs k d = λ xs. get_or-drop k xs 0 d ∙ ap (λ n. get_or xs n d) (omega arith) in
     let read : get_or now k d ≡ get_or old k d = sym (first now) ∙ ap (λ l. get_or l 0 d) so.rest ∙ first old in record {
       front = swapped_front now k kept d (omega arith) le ∙ ap₂ (λ l a. l ++ a ∷ []) so.front read ∙ sym (unmarked_more ms old k false d same h is);
       rest = swapped_rest now k kept d (omega arith) le ∙ drop_next k now old so.rest;
