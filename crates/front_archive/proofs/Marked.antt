@@ -1,5 +1,5 @@
 -- Members and the columns of their vectors: which place covers an offer, and what the marks of an offer leave.
-use Rattle.std.proofs.Common.{◌≡◌, ℕ, zero, suc, ◌+◌, ◌<◌, ◌||◌, List, [], ◌∷◌, ◌++◌, length, map, set, ltb, Bool, true, false, cond, not, Option, Some, None, MatchOption, ap, ap₂, sym, ◌∙◌, subst, refl, arith}
+use Rattle.std.proofs.Common.{◌≡◌, ℕ, zero, suc, ◌+◌, ◌<◌, ◌||◌, List, [], ◌∷◌, ◌++◌, length, set, ltb, Bool, true, false, cond, not, Option, Some, None, MatchOption, ap, ap₂, sym, ◌∙◌, subst, refl, arith}
 use Rattle.std.specs.List.{All, filter, list_any, position, position_or_len}
 use Rattle.std.proofs.lemmas.Bool.{lt-ltb}
 use Rattle.std.proofs.lemmas.List.{length-map, length_push, map_push}

@@ -2,7 +2,7 @@
 use Rattle.std.proofs.Common.{◌≡◌, ℕ, ◌+◌, ◌<◌, ◌≤◌, List, [], ◌∷◌, ◌++◌, length, get_or, set, take, drop, Bool, true, false, ap, ap₂, sym, ◌∙◌, arith, append-nil, inl, inr}
 use Rattle.std.specs.List.{swap}
 use Rattle.std.proofs.lemmas.Bool.{cases_lt}
-use Rattle.std.proofs.lemmas.List.{take_all, take_more, take_more_set, take-set-le, drop-set-lt, drop-drop, get_or-drop, length-set}
+use Rattle.std.proofs.lemmas.List.{take_all, take_more_set, take-set-le, drop-set-lt, drop-drop, get_or-drop, length-set}
 use Rattle.std.proofs.lemmas.List.Edits.{swap_is}
 use Rattle.dominance_lanes.specs.Columns.{unmarked}
 use Rattle.dominance_lanes.proofs.ColumnEdits.{unmarked_more}

@@ -1,4 +1,4 @@
-use Rattle.std.proofs.Common.{◌≡◌, ◌∙◌, ◌-◌, ◌+◌, ◌<◌, ◌++◌, ◌∷◌, [], List, ap, sym, subst, arith, length, get_or, set, false}
+use Rattle.std.proofs.Common.{◌≡◌, ◌∙◌, ◌-◌, ◌+◌, ◌<◌, [], List, ap, sym, subst, arith, length, get_or, set, false}
 use Rattle.std.proofs.lemmas.List.{length-map, length-set, length_push, get_or_at}
 use Rattle.dominance_lanes.specs.Columns.{unmarked}
 use Rattle.front_archive.specs.declared.member.Member.{Member}
