@@ -69,6 +69,25 @@ genes_kept n k old new m is long same all = subst (All (HasGenes n)) (sym is) (a
 
 -- ---- a round
 
+module _ {S : Type 0} (s : SpecValue) (gives : S → ℕ) (after : S → S) where
+  pub stops : (t : SpecValue) (n : ℕ) (members : List Member) (words next : S) (old new : LogValue) (before now : Found) (answer : Option (List Bool)) (genotype : List GeneValue)
+    → t ≡ s → n ≡ design_variables s → members ≡ before.archive.members → answer ≡ None
+    → next ≡ after_next gives after n members words
+    → DecodedSays t genotype (answer_of answer) → GoesOnDerived old new → IsShown t genotype old new (answer_of answer)
+    → now ≡ before
+    → Stops s gives after words next old new before now
+  stops t n members words next old new before now answer genotype same sized seen is used says goes shown still = record {
+    refuted = record {
+      none_valid = no_design t s genotype answer same is says;
+      goes_on = goes;
+      genes = genotype;
+      shown = subst (λ (u : SpecValue). IsShown u genotype old new Nothing) same (subst (λ (a : Option (List Bool)). IsShown t genotype old new (answer_of a)) is shown);
+    };
+    words_are = used ∙ (ap (λ (k : ℕ). after_next gives after k members words) sized ∙ ap (λ (ms : List Member). after_next gives after (design_variables s) ms words) seen);
+    history = ap (λ (f : Found). f.history) still;
+    members = ap (λ (f : Found). f.archive.members) still;
+  }
+
 module _ {S : Type 0} (s : SpecValue) (gives : S → ℕ) (after : S → S) (measured : Bits → List ℕ) where
   pub joins : (t : SpecValue) (n : ℕ) (members : List Member) (words next : S) (old new : LogValue) (before now : Found) (answer : Option (List Bool)) (member : Member)
     → t ≡ s → n ≡ design_variables s → members ≡ before.archive.members → answer ≡ Some member.design
@@ -94,21 +113,3 @@ module _ {S : Type 0} (s : SpecValue) (gives : S → ℕ) (after : S → S) (mea
         history = history;
         best_are = best_are;
       }
-
-  pub stops : (t : SpecValue) (n : ℕ) (members : List Member) (words next : S) (old new : LogValue) (before now : Found) (answer : Option (List Bool)) (genotype : List GeneValue)
-    → t ≡ s → n ≡ design_variables s → members ≡ before.archive.members → answer ≡ None
-    → next ≡ after_next gives after n members words
-    → DecodedSays t genotype (answer_of answer) → GoesOnDerived old new → IsShown t genotype old new (answer_of answer)
-    → now ≡ before
-    → Stops s gives after words next old new before now
-  stops t n members words next old new before now answer genotype same sized seen is used says goes shown still = record {
-    refuted = record {
-      none_valid = no_design t s genotype answer same is says;
-      goes_on = goes;
-      genes = genotype;
-      shown = subst (λ (u : SpecValue). IsShown u genotype old new Nothing) same (subst (λ (a : Option (List Bool)). IsShown t genotype old new (answer_of a)) is shown);
-    };
-    words_are = used ∙ (ap (λ (k : ℕ). after_next gives after k members words) sized ∙ ap (λ (ms : List Member). after_next gives after (design_variables s) ms words) seen);
-    history = ap (λ (f : Found). f.history) still;
-    members = ap (λ (f : Found). f.archive.members) still;
-  }

@@ -10,10 +10,14 @@ pub first_valid-requires : goal.first_valid-requires
 first_valid-requires g c = omega (arith, c.in_ok-genotype.ensures.len, c.design_variables-n.ensures.count, ap design_variables c.requires.same_spec)
 
 pub measured_vector-requires-clause-bits : goal.measured_vector-requires-clause-bits
-measured_vector-requires-clause-bits g c = (first_design _ _ c.in_ok-genotype.genotype _ c.in-Some.design c.requires.same_spec c.in-Some.is c.in_ok-design.ensures.answer).one_each
+measured_vector-requires-clause-bits g c =
+    let first = first_design _ _ c.in_ok-genotype.genotype _ c.in-Some.design c.requires.same_spec c.in-Some.is c.in_ok-design.ensures.answer in
+    first.one_each
 
 pub measured_vector-requires-clause-valid : goal.measured_vector-requires-clause-valid
-measured_vector-requires-clause-valid g c = (first_design _ _ c.in_ok-genotype.genotype _ c.in-Some.design c.requires.same_spec c.in-Some.is c.in_ok-design.ensures.answer).first.meets
+measured_vector-requires-clause-valid g c =
+    let first = first_design _ _ c.in_ok-genotype.genotype _ c.in-Some.design c.requires.same_spec c.in-Some.is c.in_ok-design.ensures.answer in
+    first.first.meets
 
 pub measured_vector-requires-clause-room : goal.measured_vector-requires-clause-room
 measured_vector-requires-clause-room g c = c.requires.room
@@ -21,17 +25,57 @@ measured_vector-requires-clause-room g c = c.requires.room
 pub keep-requires : goal.keep-requires
 keep-requires g c = omega (arith, whole_width _ _ _ _ _ c.in_ok-vector-in-Some.ensures.measured, c.requires.width)
 
+-- ---- where no tool was called
+
 pub returns-in_err-genotype-clause-at_most : goal.returns-in_err-genotype-clause-at_most
 returns-in_err-genotype-clause-at_most g c = none_rose 1 _ _
+
+pub returns-in_err-design-clause-at_most : goal.returns-in_err-design-clause-at_most
+returns-in_err-design-clause-at_most g c = none_rose 1 _ _
 
 pub returns-in-None-clause-at_most : goal.returns-in-None-clause-at_most
 returns-in-None-clause-at_most g c = none_rose 1 _ _
 
 pub returns-in-None-clause-round : goal.returns-in-None-clause-round
-returns-in-None-clause-round g c = stops _ g.W.Words.gives g.W.Words.after _ _ c.design_variables-n.result c.members.result.now _ _ _ _ _ _ _ c.in_ok-genotype.genotype c.requires.same_spec c.design_variables-n.ensures.count c.members.ensures.members c.in-None.is c.in_ok-genotype.ensures.after c.in_ok-design.ensures.answer c.in_ok-design.ensures.log c.in_ok-design.ensures.shown refl
+returns-in-None-clause-round g c =
+    let x = c.in_ok-design.ensures in
+    stops _ g.W.Words.gives g.W.Words.after _ c.design_variables-n.result c.members.result.now _ _ _ _ _ _ _ c.in_ok-genotype.genotype
+    c.requires.same_spec c.design_variables-n.ensures.count c.members.ensures.members c.in-None.is c.in_ok-genotype.ensures.after x.answer x.log x.shown refl
 
-pub returns-clause-round : goal.returns-clause-round
-returns-clause-round g c = joins _ g.W.Words.gives g.W.Words.after _ _ c.design_variables-n.result c.members.result.now _ _ _ _ _ _ _ (record { genotype = c.in_ok-genotype.genotype; design = c.in-Some.design; vector = c.in_ok-vector-in-Some.vector }) c.requires.same_spec c.design_variables-n.ensures.count c.members.ensures.members c.in-Some.is c.in_ok-genotype.ensures.drawn c.in_ok-genotype.ensures.after c.in_ok-design.ensures.answer c.in_ok-design.ensures.log c.in_ok-design.ensures.shown c.in_ok-vector-in-Some.ensures.measured c.in_ok-keep-in-Some.ensures.history c.in_ok-keep-in-Some.ensures.best
+-- ---- where the tools were called
 
-pub returns-clause-genes : goal.returns-clause-genes
-returns-clause-genes g c = genes_kept _ c.design_variables-n.result _ _ (record { genotype = c.in_ok-genotype.genotype; design = c.in-Some.design; vector = c.in_ok-vector-in-Some.vector }) c.in_ok-keep-in-Some.ensures.members c.in_ok-genotype.ensures.len c.design_variables-n.ensures.count c.requires.genes
+pub returns-in_err-vector-in-Some-clause-at_most : goal.returns-in_err-vector-in-Some-clause-at_most
+returns-in_err-vector-in-Some-clause-at_most g c = c.measured_vector.ensures.at_most
+
+pub returns-in_err-keep-in-Some-clause-at_most : goal.returns-in_err-keep-in-Some-clause-at_most
+returns-in_err-keep-in-Some-clause-at_most g c = c.measured_vector.ensures.at_most
+
+pub returns-in_err-vector-in-Some-clause-values : goal.returns-in_err-vector-in-Some-clause-values
+returns-in_err-vector-in-Some-clause-values g c = c.measured_vector.ensures.values
+
+pub returns-in_err-keep-in-Some-clause-values : goal.returns-in_err-keep-in-Some-clause-values
+returns-in_err-keep-in-Some-clause-values g c = c.measured_vector.ensures.values
+
+pub returns-in_ok-keep-in-Some-clause-round : goal.returns-in_ok-keep-in-Some-clause-round
+returns-in_ok-keep-in-Some-clause-round g c =
+    let x = c.in_ok-design.ensures in
+    let k = c.in_ok-keep-in-Some.ensures in
+    joins _ g.W.Words.gives g.W.Words.after _ _ c.design_variables-n.result c.members.result.now _ _ _ _ _ _ _
+    (record { genotype = c.in_ok-genotype.genotype; design = c.in-Some.design; vector = c.in_ok-vector-in-Some.vector })
+    c.requires.same_spec c.design_variables-n.ensures.count c.members.ensures.members c.in-Some.is c.in_ok-genotype.ensures.drawn c.in_ok-genotype.ensures.after
+    x.answer x.log x.shown c.in_ok-vector-in-Some.ensures.measured k.history k.best
+
+pub returns-in_ok-keep-in-Some-clause-counted : goal.returns-in_ok-keep-in-Some-clause-counted
+returns-in_ok-keep-in-Some-clause-counted g c = c.in_ok-vector-in-Some.ensures.counted
+
+pub returns-in_ok-keep-in-Some-clause-genes : goal.returns-in_ok-keep-in-Some-clause-genes
+returns-in_ok-keep-in-Some-clause-genes g c =
+    genes_kept _ c.design_variables-n.result _ _
+    (record { genotype = c.in_ok-genotype.genotype; design = c.in-Some.design; vector = c.in_ok-vector-in-Some.vector })
+    c.in_ok-keep-in-Some.ensures.members c.in_ok-genotype.ensures.len c.design_variables-n.ensures.count c.requires.genes
+
+pub returns-in_ok-keep-in-Some-clause-at_most : goal.returns-in_ok-keep-in-Some-clause-at_most
+returns-in_ok-keep-in-Some-clause-at_most g c = c.measured_vector.ensures.at_most
+
+pub returns-in_ok-keep-in-Some-clause-values : goal.returns-in_ok-keep-in-Some-clause-values
+returns-in_ok-keep-in-Some-clause-values g c = c.measured_vector.ensures.values
