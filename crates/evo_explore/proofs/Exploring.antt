@@ -137,6 +137,6 @@ module _ {S : Type 0} (s : SpecValue) (gives : S → ℕ) (after : S → S) (mea
 
   -- none where no design is valid
   pub counted_none : (start words : S) (log : LogValue) (history : List (List ℕ)) (run_history : List (List ℕ)) (members : List Member) (n : ℕ) (ps old mid new : List ℕ) → run_history ≡ [] → HasNoValid s → IsFound s gives after measured start words log history members n → RoseBy n ps old mid → new ≡ mid → RoseBy (length run_history) ps old new
-  counted_none start words log history run_history members n ps old mid new none no f rose same =
-      let long : length run_history ≡ n = ap length none ∙ sym (no_rounds start words log history members n no f) in
+  counted_none start words log history run_history members n ps old mid new none unmet f rose same =
+      let long : length run_history ≡ n = ap length none ∙ sym (no_rounds start words log history members n unmet f) in
       subst (λ (k : ℕ). RoseBy k ps old new) (sym long) (subst (RoseBy n ps old) (sym same) rose)
