@@ -71,11 +71,11 @@ genes_kept n k old new m is long same all = subst (All (HasGenes n)) (sym is) (a
 
 module _ {S : Type 0} (s : SpecValue) (gives : S → ℕ) (after : S → S) where
   pub stops : (t : SpecValue) (n : ℕ) (members : List Member) (words next : S) (old new : LogValue) (before now : Found) (answer : Option (List Bool)) (genotype : List GeneValue)
-    → t ≡ s → n ≡ design_variables s → members ≡ before.archive.members → answer ≡ None
-    → next ≡ after_next gives after n members words
-    → DecodedSays t genotype (answer_of answer) → GoesOnDerived old new → IsShown t genotype old new (answer_of answer)
-    → now ≡ before
-    → Stops s gives after words next old new before now
+      → t ≡ s → n ≡ design_variables s → members ≡ before.archive.members → answer ≡ None
+      → next ≡ after_next gives after n members words
+      → DecodedSays t genotype (answer_of answer) → GoesOnDerived old new → IsShown t genotype old new (answer_of answer)
+      → now ≡ before
+      → Stops s gives after words next old new before now
   stops t n members words next old new before now answer genotype same sized seen is used says goes shown still = record {
     refuted = record {
       none_valid = no_design t s genotype answer same is says;
@@ -90,13 +90,13 @@ module _ {S : Type 0} (s : SpecValue) (gives : S → ℕ) (after : S → S) wher
 
 module _ {S : Type 0} (s : SpecValue) (gives : S → ℕ) (after : S → S) (measured : Bits → List ℕ) where
   pub joins : (t : SpecValue) (n : ℕ) (members : List Member) (words next : S) (old new : LogValue) (before now : Found) (answer : Option (List Bool)) (member : Member)
-    → t ≡ s → n ≡ design_variables s → members ≡ before.archive.members → answer ≡ Some member.design
-    → member.genotype ≡ next_genes gives after n members words → next ≡ after_next gives after n members words
-    → DecodedSays t member.genotype (answer_of answer) → GoesOnDerived old new → IsShown t member.genotype old new (answer_of answer)
-    → member.vector ≡ whole_vector s measured (bits_of member.design)
-    → now.history ≡ before.history ++ member.vector ∷ []
-    → ((entries : List Member) → before.archive.members ≡ best covers entries → now.archive.members ≡ best covers (entries ++ member ∷ []))
-    → Joins s gives after measured words next old new before now
+      → t ≡ s → n ≡ design_variables s → members ≡ before.archive.members → answer ≡ Some member.design
+      → member.genotype ≡ next_genes gives after n members words → next ≡ after_next gives after n members words
+      → DecodedSays t member.genotype (answer_of answer) → GoesOnDerived old new → IsShown t member.genotype old new (answer_of answer)
+      → member.vector ≡ whole_vector s measured (bits_of member.design)
+      → now.history ≡ before.history ++ member.vector ∷ []
+      → ((entries : List Member) → before.archive.members ≡ best covers entries → now.archive.members ≡ best covers (entries ++ member ∷ []))
+      → Joins s gives after measured words next old new before now
   joins t n members words next old new before now answer member same sized seen is drawn used says goes shown vector history best_are =
       let first = first_design t s member.genotype answer member.design same is says in
       record {
