@@ -1,0 +1,7 @@
+pub mod Counting
+pub mod Readings
+pub mod Bred
+pub mod Logs
+pub mod Chosen
+pub mod Exploring
+pub mod Rounds

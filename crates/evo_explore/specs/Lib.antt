@@ -1,0 +1,5 @@
+pub mod Counts
+pub mod Breeding
+pub mod Run
+pub mod Steps
+pub mod Laws
