@@ -1,0 +1,4 @@
+pub mod Counting
+pub mod Readings
+pub mod Bred
+pub mod Exploring

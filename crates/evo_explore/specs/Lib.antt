@@ -1,0 +1,4 @@
+pub mod Counts
+pub mod Breeding
+pub mod Run
+pub mod Steps

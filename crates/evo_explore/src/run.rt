@@ -1,0 +1,203 @@
+//! The run: rounds over one decoder, with the words, the tools and the archive.
+//!
+//! The decoder's log goes on from round to round. Where no design is valid the first round says so; the design of each
+//! round is measured before it joins the history, and it joins the history before it is offered.
+
+ghost use Rattle.std.specs.Prelude.{◌≡◌, ℕ, ◌+◌, ◌^◌, ◌<◌, ◌≤◌, ◌++◌, [], ◌∷◌, All, List, length, vec_len, map, slice_index, IfOk, OnOk, OnErr, MatchOption, MatchBool};
+ghost use Rattle.spec_model.specs.Spec.{SpecValue, Bits, bits_of, design_variables};
+ghost use Rattle.spec_model.specs.Rules.{IsValid};
+ghost use Rattle.spec_model.specs.Genotypes.{HasNoValid};
+ghost use Rattle.ordered_solver.specs.Answers.{GoesOnDerived};
+ghost use Rattle.sat_decoder.specs.Decoder.{IsLogOf};
+ghost use Rattle.sat_decoder.specs.Decoding.{IsFirstDesign, IsShown};
+ghost use Rattle.sat_decoder.specs.declared.decoded.Decoded.TheVariants.{First, Nothing};
+ghost use Rattle.evo_explore.specs.Breeding.{HasGenes};
+ghost use Rattle.evo_explore.specs.Counts.{RoseBy, RoseAtMost, HasRoom, picked};
+ghost use Rattle.evo_explore.specs.Run.{IsRunOf, whole_vector};
+ghost use Rattle.evo_explore.specs.Steps.{Joins, Stops};
+
+use crate::breeding::next_genotype;
+use crate::history::History;
+use crate::measuring::measure_chosen;
+use evaluators::Evaluator;
+use front_archive::{Archive, Member};
+use genotype::{Genotype, Words};
+use impl_rules::{Design, vector_of};
+use proof_log::Log;
+use result_text::Vector;
+use sat_decoder::{Decoded, Decoder};
+use spec_graph::Spec;
+use std::alloc::{AllocError, Global};
+
+/// How many rounds a run has, and at which places the tools stand that measure.
+#[derive(Drop)]
+pub struct Params {
+    pub rounds: u64,
+    pub chosen: Vec<usize>,
+}
+
+/// How a run ends.
+#[derive(Clone, Copy, Debug, PartialEq, Eq)]
+pub enum End {
+    /// After all its rounds.
+    Done,
+    /// In its first round, since no design is valid.
+    Infeasible,
+}
+
+/// What a run found: the vectors by round, the best members, and the log of all its decodings.
+#[derive(Drop)]
+pub struct Run {
+    pub history: History,
+    pub archive: Archive,
+    pub log: Log,
+    pub end: End,
+}
+
+/// What was found so far.
+#[derive(Drop)]
+struct Found {
+    history: History,
+    archive: Archive,
+}
+
+/// The first valid design in the genotype's order, or `None` exactly where none is valid.
+fn first_valid(
+    alloc: Global,
+    decoder: &mut Decoder<'_>,
+    genotype: &Genotype,
+) -> Result<Option<Design>, AllocError>
+    requires { length genotype.now ≡ design_variables decoder.old.spec }
+    ensures answer { IfOk result (λ found. MatchOption found (HasNoValid decoder.old.spec) (IsFirstDesign decoder.old.spec genotype.now)) }
+    ensures log { OnOk result (GoesOnDerived decoder.old.log decoder.new.log) }
+    ensures shown { IfOk result (λ found. MatchOption found (IsShown decoder.old.spec genotype.now decoder.old.log decoder.new.log Nothing) (λ design. IsShown decoder.old.spec genotype.now decoder.old.log decoder.new.log (First design))) }
+    ensures same { OnOk result (decoder.new ≡ record decoder.old { log = decoder.new.log }) }
+{
+    let decoded = decoder.decode(alloc, genotype, u64::MAX)?;
+    // A log has fewer than 2^63 derived lines, so no search reaches that budget.
+    let _learned = decoder.log().learned();
+    match decoded {
+        Decoded::First(design) => Ok(Some(design)),
+        Decoded::Nothing => Ok(None),
+        Decoded::Budget => unreachable!(),
+    }
+}
+
+/// The vector of a valid design: its objectives, and what the chosen tools measure.
+fn measured_vector(
+    alloc: Global,
+    spec: &Spec,
+    tools: &mut Vec<Box<dyn Evaluator>>,
+    chosen: &[usize],
+    design: &Design,
+) -> Result<Vector, AllocError>
+    requires bits { length design.now ≡ design_variables spec.now }
+    requires valid { IsValid spec.now (bits_of design.now) }
+    requires within { All (λ p. p < vec_len tools.old) chosen.now }
+    requires room { HasRoom 1 chosen.now (map calls tools.old.items) }
+    ensures measured { IfOk result (λ v. v ≡ whole_vector spec.now (λ f. picked (map (λ t. value t spec.now f) tools.old.items) chosen.now) (bits_of design.now)) }
+    ensures counted { OnOk result (RoseBy 1 chosen.now (map calls tools.old.items) (map calls tools.new.items)) }
+    ensures at_most { RoseAtMost 1 chosen.now (map calls tools.old.items) (map calls tools.new.items) }
+    ensures len { vec_len tools.new ≡ vec_len tools.old }
+    ensures tags { map text tools.new.items ≡ map text tools.old.items }
+    ensures values { (s : SpecValue) (f : Bits) → map (λ t. value t s f) tools.new.items ≡ map (λ t. value t s f) tools.old.items }
+{
+    let mut numbers = vector_of(alloc, spec, design)?;
+    let measured = measure_chosen(alloc, tools, chosen, spec, design)?;
+    numbers.extend_from_slice(&measured)?;
+    Vector::of(alloc, &numbers)
+}
+
+/// One round: `true` where its design was found and kept, `false` where no design is valid.
+fn round<W: Words>(
+    alloc: Global,
+    spec: &Spec,
+    decoder: &mut Decoder<'_>,
+    words: &mut W,
+    tools: &mut Vec<Box<dyn Evaluator>>,
+    chosen: &[usize],
+    found: &mut Found,
+) -> Result<bool, AllocError>
+    requires same_spec { decoder.old.spec ≡ spec.now }
+    requires genes { All (HasGenes (design_variables spec.now)) found.old.archive.members }
+    requires width { found.old.archive.width ≡ length spec.now.objectives + length chosen.now }
+    requires within { All (λ p. p < vec_len tools.old) chosen.now }
+    requires room { HasRoom 1 chosen.now (map calls tools.old.items) }
+    ensures round { IfOk result (λ more. MatchBool more
+        (Joins spec.now W.gives W.after (λ f. picked (map (λ t. value t spec.now f) tools.old.items) chosen.now) words.old words.new decoder.old.log decoder.new.log found.old found.new)
+        (Stops spec.now W.gives W.after words.old words.new decoder.old.log decoder.new.log found.old found.new)) }
+    ensures counted { IfOk result (λ more. MatchBool more (RoseBy 1 chosen.now (map calls tools.old.items) (map calls tools.new.items)) (map calls tools.new.items ≡ map calls tools.old.items)) }
+    ensures same { OnOk result (decoder.new ≡ record decoder.old { log = decoder.new.log }) }
+    ensures genes { OnOk result (All (HasGenes (design_variables spec.now)) found.new.archive.members) }
+    ensures width { OnOk result (found.new.archive.width ≡ found.old.archive.width) }
+    ensures at_most { RoseAtMost 1 chosen.now (map calls tools.old.items) (map calls tools.new.items) }
+    ensures len { vec_len tools.new ≡ vec_len tools.old }
+    ensures tags { map text tools.new.items ≡ map text tools.old.items }
+    ensures values { (s : SpecValue) (f : Bits) → map (λ t. value t s f) tools.new.items ≡ map (λ t. value t s f) tools.old.items }
+{
+    let n = spec.design_variables();
+    let genotype = next_genotype(alloc, n, found.archive.members(), words)?;
+    let Some(design) = first_valid(alloc, decoder, &genotype)? else {
+        return Ok(false);
+    };
+    let vector = measured_vector(alloc, spec, tools, chosen, &design)?;
+    found.history.add(Vector::of(alloc, vector.numbers())?)?;
+    found.archive.offer(Member {
+        genotype,
+        design,
+        vector,
+    })?;
+    Ok(true)
+}
+
+/// A run of so many rounds over one decoder. In each round the genotype is drawn from the words and from the archive, its
+/// first valid design is measured by the chosen tools, joins the history and is offered to the archive. It ends as
+/// infeasible in its first round where no design is valid. Where memory is wanted the words have gone on, and each chosen
+/// tool was called at most once a round.
+pub fn explore<W: Words>(
+    alloc: Global,
+    spec: &Spec,
+    words: &mut W,
+    tools: &mut Vec<Box<dyn Evaluator>>,
+    params: &Params,
+) -> Result<Run, AllocError>
+    requires within { All (λ p. p < vec_len tools.old) params.now.chosen.items }
+    requires room { HasRoom params.now.rounds params.now.chosen.items (map calls tools.old.items) }
+    ensures run { IfOk result (IsRunOf spec.now W.gives W.after (λ f. picked (map (λ t. value t spec.now f) tools.old.items) params.now.chosen.items) words.old words.new params.now.rounds) }
+    ensures counted { IfOk result (λ run. RoseBy (length run.history) params.now.chosen.items (map calls tools.old.items) (map calls tools.new.items)) }
+    ensures log { IfOk result (λ run. IsLogOf spec.now run.log) }
+    ensures at_most { RoseAtMost params.now.rounds params.now.chosen.items (map calls tools.old.items) (map calls tools.new.items) }
+    ensures len { vec_len tools.new ≡ vec_len tools.old }
+    ensures tags { map text tools.new.items ≡ map text tools.old.items }
+    ensures values { (s : SpecValue) (f : Bits) → map (λ t. value t s f) tools.new.items ≡ map (λ t. value t s f) tools.old.items }
+{
+    let mut decoder = Decoder::new(alloc, spec)?;
+    let mut found = Found {
+        history: History::new(alloc),
+        archive: Archive::new(alloc, spec.objectives() + params.chosen.len()),
+    };
+    for _round in 0..params.rounds {
+        if !round(
+            alloc,
+            spec,
+            &mut decoder,
+            words,
+            tools,
+            &params.chosen,
+            &mut found,
+        )? {
+            return Ok(Run {
+                history: found.history,
+                archive: found.archive,
+                log: decoder.into_log(),
+                end: End::Infeasible,
+            });
+        }
+    }
+    Ok(Run {
+        history: found.history,
+        archive: found.archive,
+        log: decoder.into_log(),
+        end: End::Done,
+    })
+}
