@@ -14,7 +14,6 @@ use Rattle.evo_explore.specs.Breeding.{next_genes, after_next}
 use Rattle.evo_explore.specs.Run.{IsRound, after_round, AreRounds, Decodes, AreDecodings, IsFound, FoundNone, no_lines, vector_in}
 use Rattle.evo_explore.specs.Steps.{Joins, Stops}
 use Rattle.evo_explore.specs.declared.run.Found.{Found}
-use Rattle.evo_explore.specs.declared.run.Run.{Run}
 
 module _ {S : Type 0} (s : SpecValue) (gives : S → ℕ) (after : S → S) (measured : Bits → List ℕ) where
   rounds_push : (before entries : List Member) (start words next : S) (m : Member) → AreRounds s gives after measured before entries start words → IsRound s gives after measured (before ++ entries) words m → next ≡ after_round s gives after (before ++ entries) words → AreRounds s gives after measured before (entries ++ m ∷ []) start next
@@ -60,8 +59,8 @@ module _ {S : Type 0} (s : SpecValue) (gives : S → ℕ) (after : S → S) (mea
   pub no_rounds : (start words : S) (log : LogValue) (history : List (List ℕ)) (members : List Member) (n : ℕ) → HasNoValid s → IsFound s gives after measured start words log history members n → n ≡ 0
   no_rounds start words log history members n none f = sym f.count ∙ ap length (no_entries [] f.entries start words none f.rounds_are)
 
-  pub found_none : (start words next : S) (log new : LogValue) (before now : Found) (n rounds : ℕ) (run : Run) → n < rounds → IsFound s gives after measured start words log before.history before.archive.members n → Stops s gives after words next log new before now → run.history ≡ now.history → run.archive.members ≡ now.archive.members → run.log ≡ new → FoundNone s gives after start next run rounds
-  found_none start words next log new before now n rounds run l f stops history members log_is =
+  pub found_none : (start words next : S) (log new : LogValue) (before now : Found) (n rounds : ℕ) → n < rounds → IsFound s gives after measured start words log before.history before.archive.members n → Stops s gives after words next log new before now → FoundNone s gives after start next new now.history now.archive.members rounds
+  found_none start words next log new before now n rounds l f stops =
       let none : f.entries ≡ [] = no_entries [] f.entries start words stops.refuted.none_valid f.rounds_are in
       let words_same : start ≡ words = subst (λ (es : List Member). AreRounds s gives after measured [] es start words) none f.rounds_are in
       let log_same : no_lines s ≡ log = subst (λ (es : List Member). AreDecodings s es (no_lines s) log) none f.decodings_are in
@@ -70,11 +69,11 @@ module _ {S : Type 0} (s : SpecValue) (gives : S → ℕ) (after : S → S) (mea
         some_round = omega (arith, l);
         refuted = record {
           none_valid = stops.refuted.none_valid;
-          goes_on = subst (λ (a : LogValue). GoesOnDerived (no_lines s) a) (sym log_is) (subst (λ (a : LogValue). GoesOnDerived a new) (sym log_same) stops.refuted.goes_on);
+          goes_on = subst (λ (a : LogValue). GoesOnDerived a new) (sym log_same) stops.refuted.goes_on;
           genes = stops.refuted.genes;
-          shown = subst (λ (a : LogValue). IsShown s stops.refuted.genes (no_lines s) a Nothing) (sym log_is) (subst (λ (a : LogValue). IsShown s stops.refuted.genes a new Nothing) (sym log_same) stops.refuted.shown);
+          shown = subst (λ (a : LogValue). IsShown s stops.refuted.genes a new Nothing) (sym log_same) stops.refuted.shown;
         };
-        no_history = history ∙ (stops.history ∙ (f.history_is ∙ ap (map vector_in) none));
-        no_members = members ∙ (stops.members ∙ best_none);
+        no_history = stops.history ∙ (f.history_is ∙ ap (map vector_in) none);
+        no_members = stops.members ∙ best_none;
         words_are = stops.words_are ∙ (ap (λ (ms : List Member). after_next gives after (design_variables s) ms words) best_none ∙ ap (after_round s gives after []) (sym words_same));
       }

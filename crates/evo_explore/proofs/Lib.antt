@@ -2,3 +2,5 @@ pub mod Counting
 pub mod Readings
 pub mod Bred
 pub mod Exploring
+pub mod Logs
+pub mod Chosen

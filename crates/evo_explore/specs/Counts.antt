@@ -21,3 +21,7 @@ HasRoom n chosen counts = (i : ℕ) → i < length chosen → slice_index counts
 -- the numbers at the chosen places, in their order
 abbrev pub picked : List ℕ → List ℕ → List ℕ
 picked numbers chosen = map (λ p. slice_index numbers p) chosen
+
+-- each place is above those before it
+abbrev pub AreRising : List ℕ → Type 0
+AreRising chosen = (i j : ℕ) → i < j → j < length chosen → slice_index chosen i < slice_index chosen j

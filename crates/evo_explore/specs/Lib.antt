@@ -2,3 +2,4 @@ pub mod Counts
 pub mod Breeding
 pub mod Run
 pub mod Steps
+pub mod Laws

@@ -1,5 +1,5 @@
 -- The run of an exploration, round by round: what is decoded, measured and kept, and what its log shows.
-use Rattle.std.specs.Prelude.{◌≡◌, ℕ, ◌+◌, ◌<◌, ◌++◌, Bool, true, false, List, [], ◌∷◌, length, map}
+use Rattle.std.specs.Prelude.{◌≡◌, ℕ, ◌+◌, ◌<◌, ◌++◌, List, [], ◌∷◌, length, map}
 use Rattle.spec_model.specs.Spec.{SpecValue, Bits, bits_of, design_variables}
 use Rattle.spec_model.specs.Vectors.{vector_of}
 use Rattle.spec_model.specs.Genotypes.{GeneValue, IsFirstValid, HasNoValid}
@@ -71,18 +71,24 @@ pub record IsFound {S : Type 0} (s : SpecValue) (gives : S → ℕ) (after : S �
   pub best_are : members ≡ best covers entries
   pub count : length entries ≡ rounds
 
--- a run that found no valid design in its first round
-pub record FoundNone {S : Type 0} (s : SpecValue) (gives : S → ℕ) (after : S → S) (start words : S) (run : Run) (rounds : ℕ) : Type 0 where
+-- a run of at least one round that found in the first one that no design is valid
+pub record FoundNone {S : Type 0} (s : SpecValue) (gives : S → ℕ) (after : S → S) (start words : S) (log : LogValue) (history : List (List ℕ)) (members : List Member) (rounds : ℕ) : Type 0 where
   pub some_round : 0 < rounds
-  pub refuted : Refutes s (no_lines s) run.log
-  pub no_history : run.history ≡ []
-  pub no_members : run.archive.members ≡ []
+  pub refuted : Refutes s (no_lines s) log
+  pub no_history : history ≡ []
+  pub no_members : members ≡ []
   pub words_are : words ≡ after_round s gives after [] start
 
 -- how a run of so many rounds ends: after all of them, or in its first round, since no design is valid
 abbrev pub EndsBy : {S : Type 0} → SpecValue → (S → ℕ) → (S → S) → (Bits → List ℕ) → S → S → Run → ℕ → End → Type 0
 EndsBy s gives after measured start words run rounds Done = IsFound s gives after measured start words run.log run.history run.archive.members rounds
-EndsBy s gives after measured start words run rounds Infeasible = FoundNone s gives after start words run rounds
+EndsBy s gives after measured start words run rounds Infeasible = FoundNone s gives after start words run.log run.history run.archive.members rounds
 
+-- a run of so many rounds, from a state of the words to another
 abbrev pub IsRunOf : {S : Type 0} → SpecValue → (S → ℕ) → (S → S) → (Bits → List ℕ) → S → S → ℕ → Run → Type 0
 IsRunOf s gives after measured start words rounds run = EndsBy s gives after measured start words run rounds run.end
+
+-- rounds in which no design can be found: there is at least one, and no design is valid
+pub record FindsNone (s : SpecValue) (rounds : ℕ) : Type 0 where
+  pub some_round : 0 < rounds
+  pub none_valid : HasNoValid s

@@ -7,6 +7,7 @@
 
 mod breeding;
 mod history;
+pub mod laws;
 mod measuring;
 mod run;
 

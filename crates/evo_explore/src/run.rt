@@ -1,9 +1,9 @@
 //! The run: rounds over one decoder, with the words, the tools and the archive.
 //!
-//! The decoder's log goes on from round to round. Where no design is valid the first round says so; the design of each
+//! The decoder's log goes on from round to round. Where no design is valid the first round says so. The design of each
 //! round is measured before it joins the history, and it joins the history before it is offered.
 
-ghost use Rattle.std.specs.Prelude.{◌≡◌, ℕ, ◌+◌, ◌^◌, ◌<◌, ◌≤◌, ◌++◌, [], ◌∷◌, All, List, length, vec_len, map, slice_index, IfOk, OnOk, OnErr, MatchOption, MatchBool};
+ghost use Rattle.std.specs.Prelude.{◌≡◌, ℕ, ◌+◌, ◌^◌, ◌<◌, ◌≤◌, ◌++◌, [], ◌∷◌, ◌↔◌, All, List, false, length, vec_len, map, slice_index, IfOk, OnOk, OnErr, MatchOption, MatchBool};
 ghost use Rattle.spec_model.specs.Spec.{SpecValue, Bits, bits_of, design_variables};
 ghost use Rattle.spec_model.specs.Rules.{IsValid};
 ghost use Rattle.spec_model.specs.Genotypes.{HasNoValid};
@@ -13,7 +13,7 @@ ghost use Rattle.sat_decoder.specs.Decoding.{IsFirstDesign, IsShown};
 ghost use Rattle.sat_decoder.specs.declared.decoded.Decoded.TheVariants.{First, Nothing};
 ghost use Rattle.evo_explore.specs.Breeding.{HasGenes};
 ghost use Rattle.evo_explore.specs.Counts.{RoseBy, RoseAtMost, HasRoom, picked};
-ghost use Rattle.evo_explore.specs.Run.{IsRunOf, whole_vector};
+ghost use Rattle.evo_explore.specs.Run.{IsRunOf, FindsNone, whole_vector};
 ghost use Rattle.evo_explore.specs.Steps.{Joins, Stops};
 
 use crate::breeding::next_genotype;
@@ -150,10 +150,28 @@ fn round<W: Words>(
     Ok(true)
 }
 
+/// What a run comes to, by what it found and how it ends.
+fn ended(decoder: Decoder<'_>, found: Found, end: End) -> Run
+    requires { decoder.spent ≡ false }
+    ensures history { result.history ≡ found.history }
+    ensures archive { result.archive ≡ found.archive }
+    ensures log { result.log ≡ decoder.entry.log }
+    ensures log_of { IsLogOf decoder.entry.spec result.log }
+    ensures end { result.end ≡ end }
+{
+    Run {
+        history: found.history,
+        archive: found.archive,
+        log: decoder.into_log(),
+        end,
+    }
+}
+
 /// A run of so many rounds over one decoder. In each round the genotype is drawn from the words and from the archive, its
 /// first valid design is measured by the chosen tools, joins the history and is offered to the archive. It ends as
-/// infeasible in its first round where no design is valid. Where memory is wanted the words have gone on, and each chosen
-/// tool was called at most once a round.
+/// infeasible in its first round exactly where no design is valid; then the log refutes the encoding. Else the log shows
+/// of each round's design that it is the first. Each chosen tool is called once a round, and no other tool; where memory
+/// is wanted, at most once a round. No call changes what a tool measures, or its name.
 pub fn explore<W: Words>(
     alloc: Global,
     spec: &Spec,
@@ -164,8 +182,9 @@ pub fn explore<W: Words>(
     requires within { All (λ p. p < vec_len tools.old) params.now.chosen.items }
     requires room { HasRoom params.now.rounds params.now.chosen.items (map calls tools.old.items) }
     ensures run { IfOk result (IsRunOf spec.now W.gives W.after (λ f. picked (map (λ t. value t spec.now f) tools.old.items) params.now.chosen.items) words.old words.new params.now.rounds) }
-    ensures counted { IfOk result (λ run. RoseBy (length run.history) params.now.chosen.items (map calls tools.old.items) (map calls tools.new.items)) }
+    ensures infeasible { IfOk result (λ run. (run.end ≡ End.Infeasible) ↔ FindsNone spec.now params.now.rounds) }
     ensures log { IfOk result (λ run. IsLogOf spec.now run.log) }
+    ensures counted { IfOk result (λ run. RoseBy (length run.history) params.now.chosen.items (map calls tools.old.items) (map calls tools.new.items)) }
     ensures at_most { RoseAtMost params.now.rounds params.now.chosen.items (map calls tools.old.items) (map calls tools.new.items) }
     ensures len { vec_len tools.new ≡ vec_len tools.old }
     ensures tags { map text tools.new.items ≡ map text tools.old.items }
@@ -186,18 +205,8 @@ pub fn explore<W: Words>(
             &params.chosen,
             &mut found,
         )? {
-            return Ok(Run {
-                history: found.history,
-                archive: found.archive,
-                log: decoder.into_log(),
-                end: End::Infeasible,
-            });
+            return Ok(ended(decoder, found, End::Infeasible));
         }
     }
-    Ok(Run {
-        history: found.history,
-        archive: found.archive,
-        log: decoder.into_log(),
-        end: End::Done,
-    })
+    Ok(ended(decoder, found, End::Done))
 }
