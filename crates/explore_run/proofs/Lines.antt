@@ -1,9 +1,8 @@
 -- Words and members that are written one after another.
 use Rattle.std.proofs.Common.{◌≡◌, ◌∙◌, ◌+◌, ◌<◌, ◌≤◌, ℕ, List, [], ◌∷◌, ◌++◌, length, take, map, get_or, sym, ap, arith, append_assoc}
 use Rattle.std.specs.List.{join_with_byte}
-use Rattle.std.proofs.lemmas.List.{take_more, map_more, length-map, length-take, append-nil}
+use Rattle.std.proofs.lemmas.List.{take_all, take_more, map_more, length-map, length-take, append-nil}
 use Rattle.std.proofs.lemmas.Grind.{flat_map-append}
-use Rattle.std.proofs.Math.ListN.{take_of_length-le}
 use Rattle.line_words.specs.Rules.{Words}
 use Rattle.spelled_lines.specs.Lines.{spelled}
 use Rattle.spec_model.specs.Spec.{SpecValue}
@@ -24,7 +23,7 @@ word_more old now next words j so_far push lt =
 
 -- all of them
 pub words_whole : (old now : List ℕ) (words : Words) (j : ℕ) → length words ≤ j → now ≡ old ++ spaced (take j words) → now ≡ old ++ spaced words
-words_whole old now words j le so_far = so_far ∙ ap (λ (ws : Words). old ++ spaced ws) (take_of_length-le words le)
+words_whole old now words j le so_far = so_far ∙ ap (λ (ws : Words). old ++ spaced ws) (take_all j words le)
 
 joined : (w : List ℕ) (ws : Words) → join_with_byte 32 (w ∷ ws) ≡ w ++ spaced ws
 joined w [] = sym (append-nil w)

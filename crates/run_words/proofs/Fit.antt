@@ -1,5 +1,5 @@
 -- What holds of each request.
-use Rattle.std.proofs.Common.{◌≡◌, ◌≢◌, ◌≤◌, ◌&&◌, ◌||◌, ◌^◌, ℕ, Bool, true, false, List, [], ◌∷◌, Option, Some, None, IfSome, not, refl, sym, ap, subst, arith, cond, option_map, option_and_then, if◌then◌else◌, nat_lt, nat_le, is_some, codes, length}
+use Rattle.std.proofs.Common.{◌≡◌, ◌≢◌, ◌≤◌, ◌&&◌, ◌||◌, ◌^◌, ℕ, Bool, true, false, List, [], ◌∷◌, Option, Some, None, IfSome, not, refl, subst, arith, cond, option_map, option_and_then, nat_lt, nat_le, codes, length}
 use Rattle.std.specs.Str.{bytes_eq}
 use Rattle.std.specs.Str.Parse.{digits_value}
 use Rattle.std.proofs.lemmas.Bool.Decides.{nat_tests}
@@ -9,12 +9,12 @@ use Rattle.form_words.specs.Table.{form_of}
 use Rattle.run_words.specs.Names.{is_file, is_apart}
 use Rattle.run_words.specs.Numbers.{is_whole, number_from, number_if_given}
 use Rattle.run_words.specs.Decoding.{DecodeValue, are_taken, is_written, budget_with, decode_named, decode_with, decode_of, decode_request, decode_table}
-use Rattle.run_words.specs.Exploring.{ExploringValue, explore_request}
+use Rattle.run_words.specs.Exploring.{explore_request}
 use Rattle.run_words.specs.Fronting.{FrontingValue, are_read, are_written, front_named, front_with, front_of, front_request, front_table}
-use Rattle.run_words.specs.Checking.{CheckValue, check_request}
+use Rattle.run_words.specs.Checking.{check_request}
 use Rattle.run_words.specs.Values.{RequestValue, decode, explore, front, check}
 use Rattle.run_words.specs.Requests.{request}
-use Rattle.run_words.specs.Fit.{HasFitBudget, HasFitFiles, HasFitTools, IsFit}
+use Rattle.run_words.specs.Fit.{HasFitBudget, HasFitFiles, IsFit}
 use Rattle.run_words.proofs.Explored.{fit_explore}
 
 -- a number that is read is at least the least one

@@ -1,5 +1,5 @@
 -- The places of named tools are places of tools, and rise.
-use Rattle.std.proofs.Common.{◌≡◌, ◌+◌, ◌<◌, ◌≤◌, ◌++◌, ℕ, zero, suc, Bool, true, false, cond, List, [], ◌∷◌, Option, Some, None, IfSome, All, arith, get_or, length}
+use Rattle.std.proofs.Common.{◌≡◌, ◌&&◌, ◌+◌, ◌<◌, ◌≤◌, ◌++◌, ℕ, zero, suc, Bool, true, false, cond, List, [], ◌∷◌, Option, Some, None, All, subst, arith, get_or, length}
 use Rattle.std.specs.List.{list_all}
 use Rattle.std.proofs.lemmas.List.Elements.{All-nil, All-cons}
 use Rattle.form_words.specs.Line.{Text}
@@ -58,11 +58,11 @@ fit_chosen tags named chosen = go (list_all (is_tag tags) named) (are_apart name
   where
     is : (x y : List ℕ) → Some x ≡ Some y → x ≡ y
     is x y e = cc
-    go : (a b : Bool) → cond a (cond b (Some (places_of tags named)) None) None ≡ Some chosen → AreFitPlaces (length tags) chosen
-    go true true e = rw (is chosen (places_of tags named) cc) (fit_places tags named)
+    go : (a b : Bool) → cond (a && b) (Some (places_of tags named)) None ≡ Some chosen → AreFitPlaces (length tags) chosen
+    go true true e = subst (AreFitPlaces (length tags)) (is (places_of tags named) chosen e) (fit_places tags named)
     go true false e = absurd (cc)
     go false b e = absurd (cc)
 
 pub fit_given : (tags : List Text) (list : Option Text) (chosen : List ℕ) → chosen_if_given tags list ≡ Some chosen → AreFitPlaces (length tags) chosen
-fit_given tags None chosen e = let q : [] ≡ chosen = cc in rw q (record { within = All-nil (λ p. p < length tags); rising = λ i j l m. absurd (omega (arith, m)) })
+fit_given tags None chosen e = let q : [] ≡ chosen = cc in subst (AreFitPlaces (length tags)) q (record { within = All-nil (λ p. p < length tags); rising = λ i j l m. absurd (omega (arith, m)) })
 fit_given tags (Some text) chosen e = fit_chosen tags (tags_of text) chosen e

@@ -1,8 +1,7 @@
 -- Tags as they are gone through one by one.
-use Rattle.std.proofs.Common.{◌≡◌, ◌+◌, ◌++◌, ◌∷◌, ◌∙◌, ◌<◌, ◌&&◌, ◌||◌, ℕ, suc, zero, Bool, true, false, not, List, [], refl, sym, ap, map, take, drop, length, slice_index_or, arith, add-one, append_assoc, cond, ◌≤◌}
+use Rattle.std.proofs.Common.{◌≡◌, ◌+◌, ◌++◌, ◌∷◌, ◌∙◌, ◌<◌, ◌&&◌, ℕ, suc, zero, Bool, true, false, not, List, [], refl, sym, ap, map, take, drop, length, slice_index_or, arith, add-one, append_assoc, cond, ◌≤◌}
 use Rattle.std.proofs.Math.ListN.{drop_of_length-le}
-use Rattle.std.specs.List.{list_any}
-use Rattle.std.specs.Str.{bytes_eq}
+use Rattle.std.specs.List.{list_all}
 use Rattle.form_words.specs.Line.{Text, has_text}
 use Rattle.run_words.specs.Tools.{are_apart, is_named, places_from}
 
@@ -68,3 +67,8 @@ once f xs i d t whole lt t_is there inv =
 pub all_apart : {X : Type 0} (f : X → Text) (xs : List X) (i : ℕ) (whole : Bool) → length xs ≤ i → are_apart (map f (drop i xs)) ≡ whole → true ≡ whole
 unfolding are_apart
 all_apart f xs i whole le inv = sym (ap (λ (ys : List _). are_apart (map f ys)) (drop_of_length-le xs le)) ∙ inv
+
+-- a test of texts is one of what they are made of
+pub all_mapped : {X : Type 0} (p : Text → Bool) (f : X → Text) (xs : List X) → list_all (λ x. p (f x)) xs ≡ list_all p (map f xs)
+all_mapped p f [] = refl
+all_mapped p f (x ∷ xs) = ap (λ (b : Bool). p (f x) && b) (all_mapped p f xs)

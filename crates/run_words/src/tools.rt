@@ -1,7 +1,8 @@
 //! The tools that a list names by their tags.
 
 ghost use Rattle.std.specs.Prelude.{◌≡◌, [], IfOk, map, option_map, string_bytes};
-ghost use Rattle.std.specs.List.{list_all};
+ghost use Rattle.std.specs.List.{list_all, list_any};
+ghost use Rattle.std.specs.Str.{bytes_eq};
 ghost use Rattle.form_words.specs.Line.{has_text};
 ghost use Rattle.run_words.specs.Tools.{are_apart, chosen_by, chosen_if_given, is_named, is_tag, places_of, tags_of};
 
@@ -14,18 +15,25 @@ fn tags_of<'a>(alloc: Global, text: &'a str) -> Result<Vec<&'a str>, AllocError>
     text.split(',').collect(alloc)
 }
 
+/// Whether some tag is this text.
+fn is_among(tags: &[String], text: &str) -> bool
+    ensures { result ≡ list_any (λ t. bytes_eq (string_bytes t) text.now) tags.now }
+{
+    tags.iter().any(|tag| tag.as_str() == text)
+}
+
 /// Whether a tool has the tag.
 fn has_tag(tags: &[String], tag: &str) -> bool
     ensures { result ≡ has_text (map string_bytes tags.now) tag.now }
 {
-    tags.iter().any(|other| other.as_str() == tag)
+    is_among(tags, tag)
 }
 
 /// Whether the tag is named.
 fn has_name(named: &[&str], tag: &str) -> bool
     ensures { result ≡ has_text (map (λ s. s.now) named.now) tag.now }
 {
-    named.iter().any(|name| *name == tag)
+    named.contains(&tag)
 }
 
 /// Whether a name is a tool's tag, and not empty.
@@ -35,11 +43,18 @@ fn is_tag(tags: &[String], name: &str) -> bool
     if name.len() > 0 { has_tag(tags, name) } else { false }
 }
 
-/// Whether each name is a tool's tag.
+/// Whether each name passes as a tool's tag.
+fn each_is_tag(tags: &[String], named: &[&str]) -> bool
+    ensures { result ≡ list_all (λ s. is_tag (map string_bytes tags.now) s.now) named.now }
+{
+    named.iter().all(|name| is_tag(tags, name))
+}
+
+/// Whether all names are tags of tools.
 fn are_tags(tags: &[String], named: &[&str]) -> bool
     ensures { result ≡ list_all (is_tag (map string_bytes tags.now)) (map (λ s. s.now) named.now) }
 {
-    named.iter().all(|name| is_tag(tags, name))
+    each_is_tag(tags, named)
 }
 
 /// Whether no name stands twice.

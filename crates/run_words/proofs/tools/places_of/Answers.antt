@@ -1,4 +1,4 @@
-use Rattle.std.proofs.Common.{◌≡◌, ◌∙◌, ◌++◌, ◌∷◌, ◌<◌, ◌&&◌, [], not, ap, ap₂, arith, cond, length, map, rules, string_bytes, take}
+use Rattle.std.proofs.Common.{◌≡◌, ◌∙◌, ◌++◌, ◌∷◌, ◌<◌, [], ap, arith, cond, length, map, rules, string_bytes, take}
 use Rattle.run_words.proofs.Tags.{place_step, places_end}
 use Rattle.run_words.proofs.tools.places_of.Goals as goal
 use Rattle.run_words.proofs.tools.places_of.Goals.{then-takes+in_ok-push, else-takes}
