@@ -41,7 +41,7 @@ pub(crate) fn explored(
     requires rising { AreRising wanted.chosen.now }
     requires room { All (λ n. n ≤ 2 ^ 63 - 65536) (map calls tools.old.items) }
     ensures comes { (world : World) → AreLoaded inputs.now world → Explores (wanted_value wanted.entry) (record { tags = map text tools.old.items; calls = map calls tools.old.items; values = λ s f. map (λ t. value t s f) tools.old.items }) (map calls tools.new.items) world result }
-    ensures kept { Keeps (RoseAtMost wanted.rounds wanted.chosen.now) (record { tags = map text tools.old.items; calls = map calls tools.old.items; values = λ s f. map (λ t. value t s f) tools.old.items }) (record { tags = map text tools.new.items; calls = map calls tools.new.items; values = λ s f. map (λ t. value t s f) tools.new.items }) }
+    ensures kept { Keeps (RoseAtMost wanted.entry.rounds wanted.entry.chosen.now) (record { tags = map text tools.old.items; calls = map calls tools.old.items; values = λ s f. map (λ t. value t s f) tools.old.items }) (record { tags = map text tools.new.items; calls = map calls tools.new.items; values = λ s f. map (λ t. value t s f) tools.new.items }) }
 {
     law_of_counts();
     explore(alloc, inputs, tools, wanted)

@@ -6,7 +6,7 @@ use Rattle.rand_pcg.specs.Lcg.{Lcg}
 use Rattle.pb_rules.specs.Frames.{Line, Given, base_of}
 use Rattle.proof_log.specs.Log.{LogValue}
 use Rattle.proof_log.specs.Files.{LegalReadBack, AreLegal}
-use Rattle.spec_model.specs.Spec.{SpecValue}
+use Rattle.spec_model.specs.Spec.{SpecValue, Bits}
 use Rattle.encode_model.specs.Encoding.{encoding}
 use Rattle.encode_model.specs.Block.{cover_frame}
 use Rattle.ordered_solver.specs.Answers.{IsRefutation}
@@ -61,11 +61,11 @@ refuted s genes log frame shown =
     subst (λ (g : Given). IsRefutation (cover_frame s) g (encoding s) log.lines) (one_given here.before (base_of (cover_frame s)) (sym here.legal_before)) here.lines
 
 -- the designs of the members have a bit for each design variable
-pub members_sized : (s : SpecValue) (tools : ToolsValue) (chosen : List ℕ) (start last : Lcg) (rounds : ℕ) (run : Run) (end : End) → EndsBy s word_of next_of (measured_by tools chosen s) start last run rounds end → All (IsSized s) run.archive.members
-members_sized s tools chosen start last rounds run Done h =
+pub members_sized : (s : SpecValue) (measured : Bits → List ℕ) (start last : Lcg) (rounds : ℕ) (run : Run) (end : End) → EndsBy s word_of next_of measured start last run rounds end → All (IsSized s) run.archive.members
+members_sized s measured start last rounds run Done h =
     subst (λ (ms : List Member). All (IsSized s) ms) (sym h.best_are)
-    (best_all (IsSized s) covers h.entries (rounds_sized s word_of next_of (measured_by tools chosen s) [] h.entries start last h.rounds_are))
-members_sized s tools chosen start last rounds run Infeasible h = subst (λ (ms : List Member). All (IsSized s) ms) (sym h.no_members) (All-nil (IsSized s))
+    (best_all (IsSized s) covers h.entries (rounds_sized s word_of next_of measured [] h.entries start last h.rounds_are))
+members_sized s measured start last rounds run Infeasible h = subst (λ (ms : List Member). All (IsSized s) ms) (sym h.no_members) (All-nil (IsSized s))
 
 done_is_feasible : Done ≡ Infeasible → ⊥
 done_is_feasible e = absurd (cc)
@@ -96,3 +96,17 @@ finds back law s frame wanted tools calls last run Infeasible outcome h causes o
       proof = written wanted.proof run.log outcome.writes _ writes
           (refutes_file back s None run.log.lines (refute_all s None run.log.lines legal.0 of.derived_each legal.1 tt (refuted s h.refuted.genes run.log frame h.refuted.shown)));
     })
+
+-- the same of what stands for the rounds, the places, the seed's generator and the tags
+pub finds_from : LegalReadBack → DecodingsStayShown → (s : SpecValue) → IsFrameOf s (cover_frame s) → (wanted : WantedValue) (tools : ToolsValue) (calls : List ℕ) (rounds : ℕ) (chosen : List ℕ) (tags : List (List ℕ)) (start last : Lcg) (run : Run) (outcome : Outcome)
+    → rounds ≡ wanted.rounds → chosen ≡ wanted.chosen → tags ≡ tools.tags → start ≡ seeded wanted.seed
+    → EndsBy s word_of next_of (measured_by tools chosen s) start last run rounds run.end → (run.end ≡ Infeasible) ↔ FindsNone s rounds → IsLogOf s run.log → RoseBy (length run.history) chosen tools.calls calls
+    → outcome.ending ≡ ending_of run.end → outcome.text.items ≡ explored_text s (tags_at tags wanted.chosen) (length run.history) run.archive.members run.end → outcome.writes ≡ files_of wanted.proof run.log → Finds wanted tools calls s outcome
+finds_from back law s frame wanted tools calls rounds chosen tags start last run outcome rounds_is chosen_is tags_is start_is ends causes of counted ending text writes =
+    let by_rounds = subst (λ (n : ℕ). EndsBy s word_of next_of (measured_by tools chosen s) start last run n run.end) rounds_is ends in
+    let by_chosen = subst (λ (ps : List ℕ). EndsBy s word_of next_of (measured_by tools ps s) start last run wanted.rounds run.end) chosen_is by_rounds in
+    let by_start = subst (λ (g : Lcg). EndsBy s word_of next_of (measured_by tools wanted.chosen s) g last run wanted.rounds run.end) start_is by_chosen in
+    finds back law s frame wanted tools calls last run run.end outcome by_start
+    (subst (λ (n : ℕ). (run.end ≡ Infeasible) ↔ FindsNone s n) rounds_is causes) of
+    (subst (λ (ps : List ℕ). RoseBy (length run.history) ps tools.calls calls) chosen_is counted)
+    ending (text ∙ ap (λ (ts : List (List ℕ)). explored_text s (tags_at ts wanted.chosen) (length run.history) run.archive.members run.end) tags_is) writes

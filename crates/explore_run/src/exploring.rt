@@ -50,8 +50,8 @@ fn ending_of(end: End) -> Ending
 
 /// The rounds and the places of the tools.
 fn params_of(alloc: Global, wanted: Wanted<'_>) -> Result<Params, AllocError>
-    ensures rounds { IfOk result (λ params. params.rounds ≡ wanted.rounds) }
-    ensures chosen { IfOk result (λ params. params.chosen.items ≡ wanted.chosen.now) }
+    ensures rounds { IfOk result (λ params. params.rounds ≡ wanted.entry.rounds) }
+    ensures chosen { IfOk result (λ params. params.chosen.items ≡ wanted.entry.chosen.now) }
 {
     let mut chosen = Vec::new(alloc);
     chosen.extend_from_slice(wanted.chosen)?;
@@ -72,8 +72,8 @@ fn outcome_of(
     requires within { All (λ p. p < length tools.now) wanted.chosen.now }
     requires sized { All (λ m. length m.design ≡ design_variables spec.now) run.archive.members }
     ensures ending { IfOk result (λ outcome. outcome.ending ≡ ending_of run.end) }
-    ensures says { IfOk result (λ outcome. outcome.text.items ≡ explored_text spec.now (tags_at (map text tools.now) wanted.chosen.now) (length run.history) run.archive.members run.end) }
-    ensures writes { IfOk result (λ outcome. outcome.writes ≡ files_of (option_map (λ s. s.now) wanted.proof_file.entry) run.log) }
+    ensures says { IfOk result (λ outcome. outcome.text.items ≡ explored_text spec.now (tags_at (map text tools.now) wanted.entry.chosen.now) (length run.history) run.archive.members run.end) }
+    ensures writes { IfOk result (λ outcome. outcome.writes ≡ files_of (option_map (λ s. s.now) wanted.entry.proof_file) run.log) }
 {
     let text = text_of(alloc, spec, tools, wanted.chosen, &run)?;
     let ending = ending_of(run.end);
@@ -96,7 +96,7 @@ fn find_archive(
     requires within { All (λ p. p < vec_len tools.old) wanted.chosen.now }
     requires room { HasRoom wanted.rounds wanted.chosen.now (map calls tools.old.items) }
     ensures finds { IfOk result (Finds (wanted_value wanted.entry) (record { tags = map text tools.old.items; calls = map calls tools.old.items; values = λ s f. map (λ t. value t s f) tools.old.items }) (map calls tools.new.items) spec.now) }
-    ensures kept { Keeps (RoseAtMost wanted.rounds wanted.chosen.now) (record { tags = map text tools.old.items; calls = map calls tools.old.items; values = λ s f. map (λ t. value t s f) tools.old.items }) (record { tags = map text tools.new.items; calls = map calls tools.new.items; values = λ s f. map (λ t. value t s f) tools.new.items }) }
+    ensures kept { Keeps (RoseAtMost wanted.entry.rounds wanted.entry.chosen.now) (record { tags = map text tools.old.items; calls = map calls tools.old.items; values = λ s f. map (λ t. value t s f) tools.old.items }) (record { tags = map text tools.new.items; calls = map calls tools.new.items; values = λ s f. map (λ t. value t s f) tools.new.items }) }
 {
     spec.facts();
     law_of_frames();
@@ -105,7 +105,8 @@ fn find_archive(
     let params = params_of(alloc, wanted)?;
     let mut words = Pcg32::seed_from_u64(wanted.seed);
     let run = explored(alloc, spec, &mut words, tools, &params)?;
-    outcome_of(alloc, spec, tools, wanted, run)
+    let outcome = outcome_of(alloc, spec, tools, wanted, run)?;
+    Ok(outcome)
 }
 
 /// What a specification comes to, where memory suffices.
@@ -118,7 +119,7 @@ fn explore_with(
     requires within { All (λ p. p < vec_len tools.old) wanted.chosen.now }
     requires room { HasRoom wanted.rounds wanted.chosen.now (map calls tools.old.items) }
     ensures comes { ExploresSpec (wanted_value wanted.entry) (record { tags = map text tools.old.items; calls = map calls tools.old.items; values = λ s f. map (λ t. value t s f) tools.old.items }) (map calls tools.new.items) spec.now result }
-    ensures kept { Keeps (RoseAtMost wanted.rounds wanted.chosen.now) (record { tags = map text tools.old.items; calls = map calls tools.old.items; values = λ s f. map (λ t. value t s f) tools.old.items }) (record { tags = map text tools.new.items; calls = map calls tools.new.items; values = λ s f. map (λ t. value t s f) tools.new.items }) }
+    ensures kept { Keeps (RoseAtMost wanted.entry.rounds wanted.entry.chosen.now) (record { tags = map text tools.old.items; calls = map calls tools.old.items; values = λ s f. map (λ t. value t s f) tools.old.items }) (record { tags = map text tools.new.items; calls = map calls tools.new.items; values = λ s f. map (λ t. value t s f) tools.new.items }) }
 {
     Ok(find_archive(alloc, spec, tools, wanted)?)
 }
@@ -134,7 +135,7 @@ fn explore_spec(
     requires within { All (λ p. p < vec_len tools.old) wanted.chosen.now }
     requires room { HasRoom wanted.rounds wanted.chosen.now (map calls tools.old.items) }
     ensures comes { GoesOn read (ExploresSpec (wanted_value wanted.entry) (record { tags = map text tools.old.items; calls = map calls tools.old.items; values = λ s f. map (λ t. value t s f) tools.old.items }) (map calls tools.new.items)) result }
-    ensures kept { Keeps (RoseAtMost wanted.rounds wanted.chosen.now) (record { tags = map text tools.old.items; calls = map calls tools.old.items; values = λ s f. map (λ t. value t s f) tools.old.items }) (record { tags = map text tools.new.items; calls = map calls tools.new.items; values = λ s f. map (λ t. value t s f) tools.new.items }) }
+    ensures kept { Keeps (RoseAtMost wanted.entry.rounds wanted.entry.chosen.now) (record { tags = map text tools.old.items; calls = map calls tools.old.items; values = λ s f. map (λ t. value t s f) tools.old.items }) (record { tags = map text tools.new.items; calls = map calls tools.new.items; values = λ s f. map (λ t. value t s f) tools.new.items }) }
 {
     match read {
         Ok(spec) => explore_with(alloc, &spec, tools, wanted),
@@ -154,7 +155,7 @@ pub fn explore(
     requires within { All (λ p. p < vec_len tools.old) wanted.chosen.now }
     requires room { HasRoom wanted.rounds wanted.chosen.now (map calls tools.old.items) }
     ensures comes { (world : World) → AreLoaded inputs.now world → Explores (wanted_value wanted.entry) (record { tags = map text tools.old.items; calls = map calls tools.old.items; values = λ s f. map (λ t. value t s f) tools.old.items }) (map calls tools.new.items) world result }
-    ensures kept { Keeps (RoseAtMost wanted.rounds wanted.chosen.now) (record { tags = map text tools.old.items; calls = map calls tools.old.items; values = λ s f. map (λ t. value t s f) tools.old.items }) (record { tags = map text tools.new.items; calls = map calls tools.new.items; values = λ s f. map (λ t. value t s f) tools.new.items }) }
+    ensures kept { Keeps (RoseAtMost wanted.entry.rounds wanted.entry.chosen.now) (record { tags = map text tools.old.items; calls = map calls tools.old.items; values = λ s f. map (λ t. value t s f) tools.old.items }) (record { tags = map text tools.new.items; calls = map calls tools.new.items; values = λ s f. map (λ t. value t s f) tools.new.items }) }
 {
     explore_spec(
         alloc,

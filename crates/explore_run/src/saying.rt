@@ -41,12 +41,19 @@ fn put_objectives(spec: &Spec, out: &mut Vec<u8>) -> Result<(), AllocError>
     Ok(())
 }
 
+/// Appends a space and the tag of a tool.
+fn put_tag_of(tool: &Box<dyn Evaluator>, out: &mut Vec<u8>) -> Result<(), AllocError>
+    ensures { OnOk result (out.new.items ≡ out.old.items ++ 32 ∷ text tool.now) }
+{
+    put_word(out, tool.tag())
+}
+
 /// Appends a space and the tag of the tool at a place.
 fn put_tag(tools: &[Box<dyn Evaluator>], place: usize, out: &mut Vec<u8>) -> Result<(), AllocError>
     requires { place < length tools.now }
     ensures { OnOk result (out.new.items ≡ out.old.items ++ 32 ∷ slice_index_or (map text tools.now) place []) }
 {
-    put_word(out, tools[place].tag())
+    put_tag_of(&tools[place], out)
 }
 
 /// Appends the tags of the tools at these places, each after a space.

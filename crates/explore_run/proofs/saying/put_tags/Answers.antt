@@ -8,8 +8,8 @@ pub loop-i-preserved : goal.loop-i-preserved
 loop-i-preserved g c =
     let tags = map (λ t. (goal.Evaluator-dyn g (t.vtable, t.value)).text t.value) c.args.tools.now in
     let there : c.loop-i.i < length c.args.chosen.now = omega arith in
-    let tag : slice_index_or tags c.index-chosen-i.result [] ≡ get_or (tags_at tags c.args.chosen.now) c.loop-i.i [] =
-    ap (λ (p : ℕ). slice_index_or tags p []) c.index-chosen-i.is ∙ sym (get_or-map (λ (p : ℕ). slice_index_or tags p []) c.args.chosen.now c.loop-i.i c.index-chosen-i.result [] there) in
+    let tag : slice_index_or tags (get_or c.args.chosen.now c.loop-i.i 0) [] ≡ get_or (tags_at tags c.args.chosen.now) c.loop-i.i [] =
+    sym (get_or-map (λ (p : ℕ). slice_index_or tags p []) c.args.chosen.now c.loop-i.i 0 [] there) in
     let push = c.in_ok-put_tag.ensures ∙ ap (λ (w : List ℕ). c.loop-i.out.items ++ 32 ∷ w) tag in
     word_more c.args.out.now.items c.loop-i.out.items c.put_tag.new.out.items (tags_at tags c.args.chosen.now) c.loop-i.i c.loop-i.invariant push (omega (arith, there, length-map c.args.chosen.now (λ (p : ℕ). slice_index_or tags p [])))
 
