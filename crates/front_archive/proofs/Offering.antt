@@ -48,9 +48,9 @@ pub entered_answer : {E : Type 0} (r : Result Offer E) (old : List Member) (m : 
 entered_answer (Ok o) old m none is = subst (Answers old m) (sym is) (sym none)
 entered_answer (Err e) old m none is = tt
 
-pub entered_members : {T E : Type 0} (r : Result T E) (old inside new : List Member) (m : Member) → inside ≡ old → None ≡ position (λ x. covers x m) old → OnOk r (new ≡ filter (λ x. not (covers m x)) inside ++ m ∷ []) → OnOk r (new ≡ offered covers old m)
-entered_members (Ok x) old inside new m is none e = e ∙ ap (λ l. filter (λ x. not (covers m x)) l ++ m ∷ []) is ∙ none_offered old m (none_any (λ x. covers x m) old none)
-entered_members (Err x) old inside new m is none e = tt
+pub entered_members : {T E : Type 0} (r : Result T E) (old new : List Member) (m : Member) → None ≡ position (λ x. covers x m) old → OnOk r (new ≡ filter (λ x. not (covers m x)) old ++ m ∷ []) → OnOk r (new ≡ offered covers old m)
+entered_members (Ok x) old new m none e = e ∙ none_offered old m (none_any (λ x. covers x m) old none)
+entered_members (Err x) old new m none e = tt
 
 pub entered_best : {T E : Type 0} (r : Result T E) (old new : List Member) (m : Member) → OnOk r (new ≡ offered covers old m) → OnOk r ((history : List Member) → old ≡ best covers history → new ≡ best covers (history ++ m ∷ []))
 entered_best (Ok x) old new m e = λ history was. best_offer history m new old e was
