@@ -38,4 +38,3 @@ room_for_rising rounds chosen counts rising room i l =
     let once : times (get_or chosen i 0) chosen ≡ 1 = chosen_once chosen i rising l in
     let all : rounds * times (get_or chosen i 0) chosen ≡ rounds = ap (λ (n : ℕ). rounds * n) once ∙ omega arith in
     omega (arith, all, room i l)
-

@@ -1,6 +1,7 @@
 pub mod Counting
 pub mod Readings
 pub mod Bred
-pub mod Exploring
 pub mod Logs
 pub mod Chosen
+pub mod Exploring
+pub mod Rounds

@@ -3,18 +3,20 @@
 //! The decoder's log goes on from round to round. Where no design is valid the first round says so. The design of each
 //! round is measured before it joins the history, and it joins the history before it is offered.
 
-ghost use Rattle.std.specs.Prelude.{◌≡◌, ℕ, ◌+◌, ◌^◌, ◌<◌, ◌≤◌, ◌++◌, [], ◌∷◌, ◌↔◌, All, List, false, length, vec_len, map, slice_index, IfOk, OnOk, OnErr, MatchOption, MatchBool};
+ghost use Rattle.std.specs.Prelude.{◌≡◌, ◌≢◌, ℕ, ◌+◌, ◌<◌, ◌++◌, [], ◌∷◌, ◌↔◌, All, List, false, length, vec_len, map, IfOk, OnOk};
 ghost use Rattle.spec_model.specs.Spec.{SpecValue, Bits, bits_of, design_variables};
 ghost use Rattle.spec_model.specs.Rules.{IsValid};
-ghost use Rattle.spec_model.specs.Genotypes.{HasNoValid};
+ghost use Rattle.spec_model.specs.Vectors.{vector_of};
 ghost use Rattle.ordered_solver.specs.Answers.{GoesOnDerived};
 ghost use Rattle.sat_decoder.specs.Decoder.{IsLogOf};
-ghost use Rattle.sat_decoder.specs.Decoding.{IsFirstDesign, IsShown};
-ghost use Rattle.sat_decoder.specs.declared.decoded.Decoded.TheVariants.{First, Nothing};
+ghost use Rattle.sat_decoder.specs.Decoding.{DecodedSays, IsShown};
+ghost use Rattle.front_archive.specs.Best.{best, offered};
+ghost use Rattle.front_archive.specs.Members.{covers};
+ghost use Rattle.front_archive.specs.declared.member.Member.{Member};
 ghost use Rattle.evo_explore.specs.Breeding.{HasGenes};
 ghost use Rattle.evo_explore.specs.Counts.{RoseBy, RoseAtMost, HasRoom, picked};
 ghost use Rattle.evo_explore.specs.Run.{IsRunOf, FindsNone, whole_vector};
-ghost use Rattle.evo_explore.specs.Steps.{Joins, Stops};
+ghost use Rattle.evo_explore.specs.Steps.{answer_of, RoundSays, CountsSay};
 
 use crate::breeding::next_genotype;
 use crate::history::History;
@@ -61,26 +63,50 @@ struct Found {
     archive: Archive,
 }
 
-/// The first valid design in the genotype's order, or `None` exactly where none is valid.
+/// The design of an answer, or that there is none; the answer isn't that a budget is used up.
+fn design_in(decoded: Decoded) -> Option<Design>
+    requires { decoded ≢ Decoded.Budget }
+    ensures { decoded ≡ answer_of result }
+{
+    match decoded {
+        Decoded::First(design) => Some(design),
+        Decoded::Nothing => None,
+        Decoded::Budget => unreachable!(),
+    }
+}
+
+/// The first valid design in the genotype's order, or `None` exactly where none is valid. The greatest budget is given: a
+/// log has fewer than 2^63 derived lines, so no search reaches it.
 fn first_valid(
     alloc: Global,
     decoder: &mut Decoder<'_>,
     genotype: &Genotype,
 ) -> Result<Option<Design>, AllocError>
     requires { length genotype.now ≡ design_variables decoder.old.spec }
-    ensures answer { IfOk result (λ found. MatchOption found (HasNoValid decoder.old.spec) (IsFirstDesign decoder.old.spec genotype.now)) }
+    ensures answer { IfOk result (λ found. DecodedSays decoder.old.spec genotype.now (answer_of found)) }
     ensures log { OnOk result (GoesOnDerived decoder.old.log decoder.new.log) }
-    ensures shown { IfOk result (λ found. MatchOption found (IsShown decoder.old.spec genotype.now decoder.old.log decoder.new.log Nothing) (λ design. IsShown decoder.old.spec genotype.now decoder.old.log decoder.new.log (First design))) }
+    ensures shown { IfOk result (λ found. IsShown decoder.old.spec genotype.now decoder.old.log decoder.new.log (answer_of found)) }
     ensures same { OnOk result (decoder.new ≡ record decoder.old { log = decoder.new.log }) }
 {
     let decoded = decoder.decode(alloc, genotype, u64::MAX)?;
-    // A log has fewer than 2^63 derived lines, so no search reaches that budget.
     let _learned = decoder.log().learned();
-    match decoded {
-        Decoded::First(design) => Ok(Some(design)),
-        Decoded::Nothing => Ok(None),
-        Decoded::Budget => unreachable!(),
-    }
+    Ok(design_in(decoded))
+}
+
+/// The objectives of a design, and then what was measured of it.
+fn vector_with(
+    alloc: Global,
+    spec: &Spec,
+    design: &Design,
+    measured: &[u64],
+) -> Result<Vector, AllocError>
+    requires { length design.now ≡ design_variables spec.now }
+    ensures { IfOk result (λ v. v ≡ vector_of spec.now (bits_of design.now) ++ measured.now) }
+{
+    let mut numbers = vector_of(alloc, spec, design)?;
+    numbers.extend_from_slice(measured)?;
+    let vector = Vector::of(alloc, &numbers)?;
+    Ok(vector)
 }
 
 /// The vector of a valid design: its objectives, and what the chosen tools measure.
@@ -102,10 +128,23 @@ fn measured_vector(
     ensures tags { map text tools.new.items ≡ map text tools.old.items }
     ensures values { (s : SpecValue) (f : Bits) → map (λ t. value t s f) tools.new.items ≡ map (λ t. value t s f) tools.old.items }
 {
-    let mut numbers = vector_of(alloc, spec, design)?;
     let measured = measure_chosen(alloc, tools, chosen, spec, design)?;
-    numbers.extend_from_slice(&measured)?;
-    Vector::of(alloc, &numbers)
+    let vector = vector_with(alloc, spec, design, &measured)?;
+    Ok(vector)
+}
+
+/// Keeps a member: its vector joins the history, and then it is offered to the archive.
+fn keep(alloc: Global, found: &mut Found, member: Member) -> Result<(), AllocError>
+    requires { length member.vector ≡ found.old.archive.width }
+    ensures history { OnOk result (found.new.history ≡ found.old.history ++ member.vector ∷ []) }
+    ensures members { OnOk result (found.new.archive.members ≡ offered covers found.old.archive.members member) }
+    ensures best { OnOk result ((entries : List Member) → found.old.archive.members ≡ best covers entries → found.new.archive.members ≡ best covers (entries ++ member ∷ [])) }
+    ensures width { OnOk result (found.new.archive.width ≡ found.old.archive.width) }
+{
+    let vector = Vector::of(alloc, member.vector.numbers())?;
+    found.history.add(vector)?;
+    found.archive.offer(member)?;
+    Ok(())
 }
 
 /// One round: `true` where its design was found and kept, `false` where no design is valid.
@@ -123,10 +162,8 @@ fn round<W: Words>(
     requires width { found.old.archive.width ≡ length spec.now.objectives + length chosen.now }
     requires within { All (λ p. p < vec_len tools.old) chosen.now }
     requires room { HasRoom 1 chosen.now (map calls tools.old.items) }
-    ensures round { IfOk result (λ more. MatchBool more
-        (Joins spec.now W.gives W.after (λ f. picked (map (λ t. value t spec.now f) tools.old.items) chosen.now) words.old words.new decoder.old.log decoder.new.log found.old found.new)
-        (Stops spec.now W.gives W.after words.old words.new decoder.old.log decoder.new.log found.old found.new)) }
-    ensures counted { IfOk result (λ more. MatchBool more (RoseBy 1 chosen.now (map calls tools.old.items) (map calls tools.new.items)) (map calls tools.new.items ≡ map calls tools.old.items)) }
+    ensures round { IfOk result (RoundSays spec.now W.gives W.after (λ f. picked (map (λ t. value t spec.now f) tools.old.items) chosen.now) words.old words.new decoder.old.log decoder.new.log found.old found.new) }
+    ensures counted { IfOk result (CountsSay chosen.now (map calls tools.old.items) (map calls tools.new.items)) }
     ensures same { OnOk result (decoder.new ≡ record decoder.old { log = decoder.new.log }) }
     ensures genes { OnOk result (All (HasGenes (design_variables spec.now)) found.new.archive.members) }
     ensures width { OnOk result (found.new.archive.width ≡ found.old.archive.width) }
@@ -137,17 +174,19 @@ fn round<W: Words>(
 {
     let n = spec.design_variables();
     let genotype = next_genotype(alloc, n, found.archive.members(), words)?;
-    let Some(design) = first_valid(alloc, decoder, &genotype)? else {
-        return Ok(false);
-    };
-    let vector = measured_vector(alloc, spec, tools, chosen, &design)?;
-    found.history.add(Vector::of(alloc, vector.numbers())?)?;
-    found.archive.offer(Member {
-        genotype,
-        design,
-        vector,
-    })?;
-    Ok(true)
+    match first_valid(alloc, decoder, &genotype)? {
+        Some(design) => {
+            let vector = measured_vector(alloc, spec, tools, chosen, &design)?;
+            let member = Member {
+                genotype,
+                design,
+                vector,
+            };
+            keep(alloc, found, member)?;
+            Ok(true)
+        }
+        None => Ok(false),
+    }
 }
 
 /// What a run comes to, by what it found and how it ends.
@@ -196,7 +235,7 @@ pub fn explore<W: Words>(
         archive: Archive::new(alloc, spec.objectives() + params.chosen.len()),
     };
     for _round in 0..params.rounds {
-        if !round(
+        let more = round(
             alloc,
             spec,
             &mut decoder,
@@ -204,7 +243,8 @@ pub fn explore<W: Words>(
             tools,
             &params.chosen,
             &mut found,
-        )? {
+        )?;
+        if !more {
             return Ok(ended(decoder, found, End::Infeasible));
         }
     }

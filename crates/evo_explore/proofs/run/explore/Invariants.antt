@@ -5,8 +5,8 @@ use Rattle.evo_explore.specs.Counts.{RoseBy, picked}
 use Rattle.evo_explore.specs.Run.{IsFound}
 use Rattle.evo_explore.proofs.run.explore.Given as goal
 
-abbrev pub invariant-loop-_round : goal.invariant-loop-_round
-invariant-loop-_round g l = record {
+abbrev pub invariant-loop-round : goal.invariant-loop-round
+invariant-loop-round g l = record {
   found : IsFound l.spec g.W.Words.gives g.W.Words.after (λ f. picked (map (λ t. (goal.Evaluator-dyn g (t.vtable, t.value)).value t.value l.spec f) l.fn.tools.items) l.params.chosen.items) l.fn.words l.words l.decoder.log l.found.history l.found.archive.members l._round;
   spec_is : l.decoder.spec ≡ l.spec;
   ready : l.decoder.spent ≡ false;
