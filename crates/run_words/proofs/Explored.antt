@@ -16,6 +16,7 @@ few_up_to most t = go (number_from 0 t)
     at : (n : ℕ) (b : Bool) → nat_le n most ≡ b → IfSome (cond b (Some n) None) (λ m. m ≤ most)
     at n true e = grind (arith, nat_tests)
     at n false e = tt
+
     go : (o : Option ℕ) → IfSome (option_and_then (λ n. cond (nat_le n most) (Some n) None) o) (λ n. n ≤ most)
     go None = tt
     go (Some n) = at n (nat_le n most) refl

@@ -144,6 +144,7 @@ requests_fit tags (name ∷ words) asked e = go (bytes_eq name (codes "decode"))
   where
     n : ℕ
     n = length tags
+
     go : (d x f c : Bool) → cond d (option_map decode (decode_request words)) (cond x (option_map explore (explore_request tags words)) (cond f (option_map front (front_request words)) (cond c (option_map check (check_request words)) None))) ≡ Some asked → IsFit n asked
     go true x f c e = fit_of n decode (decode_request words) asked (fit_decode words) e
     go false true f c e = fit_of n explore (explore_request tags words) asked (fit_explore tags words) e

@@ -58,6 +58,7 @@ fit_chosen tags named chosen = go (list_all (is_tag tags) named) (are_apart name
   where
     is : (x y : List ℕ) → Some x ≡ Some y → x ≡ y
     is x y e = cc
+
     go : (a b : Bool) → cond (a && b) (Some (places_of tags named)) None ≡ Some chosen → AreFitPlaces (length tags) chosen
     go true true e = subst (AreFitPlaces (length tags)) (is (places_of tags named) chosen e) (fit_places tags named)
     go true false e = absurd (cc)

@@ -166,5 +166,7 @@ pub(crate) fn read_explore(
 pub(crate) fn put_explore_usage(out: &mut Vec<u8>) -> Result<(), AllocError>
     ensures { OnOk result (out.new.items ≡ out.old.items ++ explore_usage) }
 {
-    out.extend_from_slice(b"usage: dse explore TGFF ARCH --rounds N --seed S [--measure LIST] [--proof FILE]\n")
+    out.extend_from_slice(
+        b"usage: dse explore TGFF ARCH --rounds N --seed S [--measure LIST] [--proof FILE]\n",
+    )
 }

@@ -106,10 +106,7 @@ fn asks_what_each_line_says(rt: HostRuntime) -> Result<(), Fail> {
         ("decode T A - --proof T", "none"),
         ("decode T A - --proof A", "none"),
         ("decode T A G --proof G", "none"),
-        (
-            "explore T A --rounds 3 --seed 1",
-            "T A 3 1 [] no proof",
-        ),
+        ("explore T A --rounds 3 --seed 1", "T A 3 1 [] no proof"),
         (
             "explore --seed=0 - A --proof P --rounds 65536 --measure load",
             "- A 65536 0 [1] P",
@@ -125,7 +122,10 @@ fn asks_what_each_line_says(rt: HostRuntime) -> Result<(), Fail> {
         ("explore T --rounds 3 --seed 1", "none"),
         ("explore T - --rounds 3 --seed 1", "none"),
         ("explore T A G --rounds 3 --seed 1", "none"),
-        ("explore T A --rounds 3 --seed 1 --measure span,span", "none"),
+        (
+            "explore T A --rounds 3 --seed 1 --measure span,span",
+            "none",
+        ),
         ("explore T A --rounds 3 --seed 1 --measure span,", "none"),
         ("explore T A --rounds 3 --seed 1 --measure=", "none"),
         ("explore T A --rounds 3 --seed 1 --measure time", "none"),

@@ -40,7 +40,11 @@ fn has_name(named: &[&str], tag: &str) -> bool
 fn is_tag(tags: &[String], name: &str) -> bool
     ensures { result ≡ is_tag (map string_bytes tags.now) name.now }
 {
-    if name.len() > 0 { has_tag(tags, name) } else { false }
+    if name.len() > 0 {
+        has_tag(tags, name)
+    } else {
+        false
+    }
 }
 
 /// Whether each name passes as a tool's tag.
@@ -73,7 +77,11 @@ fn are_apart(named: &[&str]) -> bool
 fn is_named(named: &[&str], before: &[String], tag: &str) -> bool
     ensures { result ≡ is_named (map (λ s. s.now) named.now) (map string_bytes before.now) tag.now }
 {
-    if has_name(named, tag) { !has_tag(before, tag) } else { false }
+    if has_name(named, tag) {
+        !has_tag(before, tag)
+    } else {
+        false
+    }
 }
 
 /// The places of the named tools, rising.
