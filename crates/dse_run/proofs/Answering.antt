@@ -4,7 +4,7 @@ use Rattle.desk_io.specs.Files.{Files}
 use Rattle.line_words.specs.declared.refusals.ReadFault.{ReadFault}
 use Rattle.line_words.specs.declared.refusals.ReadFault.TheVariants as faults
 use Rattle.run_words.specs.Fit.{IsFit}
-use Rattle.run_words.specs.Values.{RequestValue, decode, front, check}
+use Rattle.run_words.specs.Values.{RequestValue, decode, explore, front, check}
 use Rattle.file_writes.specs.Writes.{AreWritten, ArePartlyWritten}
 use Rattle.file_writes.proofs.Rewriting.{leaves_then}
 use Rattle.file_writes.proofs.Written.{whole}
@@ -13,9 +13,12 @@ use Rattle.run_base.specs.Worlds.{World}
 use Rattle.run_base.specs.declared.outcome.Ending.{Ending}
 use Rattle.run_base.specs.declared.outcome.Ending.TheVariants as endings
 use Rattle.run_base.specs.declared.outcome.Outcome.{Outcome}
+use Rattle.explore_run.specs.Tools.{ToolsValue}
+use Rattle.explore_run.specs.Exploring.{Finds as FindsArchive}
+use Rattle.explore_run.specs.Exploring.{WantedValue as ExplorationValue}
 use Rattle.front_run.specs.Fronting.{WantedValue}
 use Rattle.front_run.specs.Fronting.{Finds as FindsFront}
-use Rattle.dse_run.specs.Commands.{ComesTo, HasBudget, names_of, wanted_of}
+use Rattle.dse_run.specs.Commands.{ComesTo, HasBudget, exploration_of, names_of, wanted_of}
 use Rattle.dse_run.specs.Decoding.{EvidenceValue, Finds}
 use Rattle.dse_run.specs.Run.{Answered, AnswersTo, EndsBy, IsLeft, ReplyValue, status_of}
 use Rattle.dse_run.specs.declared.status.Status.{Status}
@@ -23,8 +26,8 @@ use Rattle.dse_run.specs.declared.status.Status.TheVariants.{Usage, Budget}
 
 -- ---- what is left
 
-pub given_left : (asked : Option RequestValue) (files new_files : Option Files) (said new_said : Option (List ℕ)) (status : Status) → Answered asked files new_files said new_said status → IsLeft asked files new_files
-given_left asked files new_files said new_said status h = inr (record {
+pub given_left : (asked : Option RequestValue) (tools : ToolsValue) (calls : List ℕ) (files new_files : Option Files) (said new_said : Option (List ℕ)) (status : Status) → Answered asked tools calls files new_files said new_said status → IsLeft asked tools calls files new_files
+given_left asked tools calls files new_files said new_said status h = inr (record {
   reply = h.reply;
   answers = h.answers;
   written = leaves_then files new_files (AreWritten h.reply.writes) (ArePartlyWritten h.reply.writes) (λ x y k. whole h.reply.writes x y k) h.written;
@@ -42,13 +45,13 @@ request_not_usage asked reply (Ok outcome) e u = not_usage outcome.ending (sym (
 request_not_usage asked reply (Err (faults.Refused r)) e u = let q = sym (ap (λ (r : ReplyValue). r.status) e) ∙ u in absurd (cc)
 request_not_usage asked reply (Err faults.NoMemory) e u = e
 
-pub usage_of_none : (asked : Option RequestValue) (files : Option Files) (reply : ReplyValue) → AnswersTo asked files reply → reply.status ≡ Usage → asked ≡ None
-usage_of_none None files reply h u = refl
-usage_of_none (Some asked) files reply h u = absurd (request_not_usage asked reply h.result h.ends u)
+pub usage_of_none : (asked : Option RequestValue) (tools : ToolsValue) (calls : List ℕ) (files : Option Files) (reply : ReplyValue) → AnswersTo asked tools calls files reply → reply.status ≡ Usage → asked ≡ None
+usage_of_none None tools calls files reply h u = refl
+usage_of_none (Some asked) tools calls files reply h u = absurd (request_not_usage asked reply h.result h.ends u)
 
-pub none_is_usage : (asked : Option RequestValue) (files : Option Files) (reply : ReplyValue) → AnswersTo asked files reply → asked ≡ None → reply.status ≡ Usage
-none_is_usage None files reply h n = ap (λ (r : ReplyValue). r.status) h
-none_is_usage (Some asked) files reply h n = absurd (cc)
+pub none_is_usage : (asked : Option RequestValue) (tools : ToolsValue) (calls : List ℕ) (files : Option Files) (reply : ReplyValue) → AnswersTo asked tools calls files reply → asked ≡ None → reply.status ≡ Usage
+none_is_usage None tools calls files reply h n = ap (λ (r : ReplyValue). r.status) h
+none_is_usage (Some asked) tools calls files reply h n = absurd (cc)
 
 -- ---- the budget
 
@@ -74,23 +77,29 @@ fronts_budget : (wanted : WantedValue) (outcome : Outcome) → outcome.ending �
 fronts_budget wanted outcome e s (inl h) = let q = sym h.ending ∙ e in absurd (cc)
 fronts_budget wanted outcome e s (inr h) = rw h.given refl
 
+-- no exploration ends by a budget
+explores_budget : (wanted : ExplorationValue) (tools : ToolsValue) (calls : List ℕ) (outcome : Outcome) → outcome.ending ≡ endings.Budget → (s : _) → FindsArchive wanted tools calls s outcome → ⊥
+explores_budget wanted tools calls outcome e s (inl h) = let q = sym h.ending ∙ e in absurd (cc)
+explores_budget wanted tools calls outcome e s (inr h) = let q = sym h.ending ∙ e in absurd (cc)
+
 ends_by_budget : (e : Ending) → status_of e ≡ Budget → e ≡ endings.Budget
 ends_by_budget endings.Done e = absurd (cc)
 ends_by_budget endings.No e = absurd (cc)
 ends_by_budget endings.Budget e = refl
 
-comes_to_budget : (asked : RequestValue) (files : Option Files) (world : World) (outcome : Outcome) → IsFit asked → outcome.ending ≡ endings.Budget → ComesTo asked files world (Ok outcome) → HasBudget asked
-comes_to_budget (decode d) files world outcome fit e h =
+comes_to_budget : (n : ℕ) (asked : RequestValue) (tools : ToolsValue) (calls : List ℕ) (files : Option Files) (world : World) (outcome : Outcome) → IsFit n asked → outcome.ending ≡ endings.Budget → ComesTo asked tools calls files world (Ok outcome) → HasBudget asked
+comes_to_budget n (decode d) tools calls files world outcome fit e h =
     after_ok _ _ outcome (λ s k. after_ok _ _ outcome (λ genes found. finds_budget (record { budget = d.budget; proof = d.proof }) outcome e fit.alone s genes found) k) h
-comes_to_budget (front f) files world outcome fit e h = after_ok _ _ outcome (λ s found. fronts_budget (wanted_of f) outcome e s found) h
-comes_to_budget (check c) files world outcome fit e h =
+comes_to_budget n (explore x) tools calls files world outcome fit e h = after_ok _ _ outcome (λ s found. explores_budget (exploration_of x) tools calls outcome e s found) h
+comes_to_budget n (front f) tools calls files world outcome fit e h = after_ok _ _ outcome (λ s found. fronts_budget (wanted_of f) outcome e s found) h
+comes_to_budget n (check c) tools calls files world outcome fit e h =
     after_ok _ _ outcome (λ s k. after_ok _ _ outcome (λ front judged. elim judged.ends [ inl x ↦ (let q = sym x.0 ∙ e in absurd (cc)) | inr x ↦ (let q = sym x.0 ∙ e in absurd (cc)) ]) k) h.holds
 
-request_budget : (asked : RequestValue) (files : Option Files) (reply : ReplyValue) (world : World) (result : Result Outcome ReadFault) → IsFit asked → ComesTo asked files world result → EndsBy (names_of asked) result reply → reply.status ≡ Budget → HasBudget asked
-request_budget asked files reply world (Ok outcome) fit comes e b = comes_to_budget asked files world outcome fit (ends_by_budget outcome.ending (sym (ap (λ (r : ReplyValue). r.status) e) ∙ b)) comes
-request_budget asked files reply world (Err (faults.Refused r)) fit comes e b = let q = sym (ap (λ (r : ReplyValue). r.status) e) ∙ b in absurd (cc)
-request_budget asked files reply world (Err faults.NoMemory) fit comes e b = absurd e
+request_budget : (n : ℕ) (asked : RequestValue) (tools : ToolsValue) (calls : List ℕ) (files : Option Files) (reply : ReplyValue) (world : World) (result : Result Outcome ReadFault) → IsFit n asked → ComesTo asked tools calls files world result → EndsBy (names_of asked) result reply → reply.status ≡ Budget → HasBudget asked
+request_budget n asked tools calls files reply world (Ok outcome) fit comes e b = comes_to_budget n asked tools calls files world outcome fit (ends_by_budget outcome.ending (sym (ap (λ (r : ReplyValue). r.status) e) ∙ b)) comes
+request_budget n asked tools calls files reply world (Err (faults.Refused r)) fit comes e b = let q = sym (ap (λ (r : ReplyValue). r.status) e) ∙ b in absurd (cc)
+request_budget n asked tools calls files reply world (Err faults.NoMemory) fit comes e b = absurd e
 
-pub budget_asked : (asked : Option RequestValue) (files : Option Files) (reply : ReplyValue) → ((a : RequestValue) → asked ≡ Some a → IsFit a) → AnswersTo asked files reply → reply.status ≡ Budget → IsSomeAnd asked HasBudget
-budget_asked None files reply fit h b = let q = sym (ap (λ (r : ReplyValue). r.status) h) ∙ b in absurd (cc)
-budget_asked (Some asked) files reply fit h b = request_budget asked files reply h.world h.result (fit asked refl) h.comes h.ends b
+pub budget_asked : (n : ℕ) (asked : Option RequestValue) (tools : ToolsValue) (calls : List ℕ) (files : Option Files) (reply : ReplyValue) → ((a : RequestValue) → asked ≡ Some a → IsFit n a) → AnswersTo asked tools calls files reply → reply.status ≡ Budget → IsSomeAnd asked HasBudget
+budget_asked n None tools calls files reply fit h b = let q = sym (ap (λ (r : ReplyValue). r.status) h) ∙ b in absurd (cc)
+budget_asked n (Some asked) tools calls files reply fit h b = request_budget n asked tools calls files reply h.world h.result (fit asked refl) h.comes h.ends b

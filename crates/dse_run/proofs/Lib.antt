@@ -2,3 +2,4 @@ pub mod Budgets
 pub mod Searched
 pub mod Found
 pub mod Answering
+pub mod Keeping

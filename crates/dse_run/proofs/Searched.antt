@@ -1,13 +1,9 @@
 -- What a search ends with, from what the decoder promises of a first call.
-use Rattle.std.proofs.Common.{◌≡◌, ◌≢◌, ◌<◌, ◌≤◌, ◌+◌, ◌-◌, ◌^◌, ◌++◌, ◌∷◌, ◌∙◌, [], ℕ, true, List, Option, Some, None, Result, Ok, Err, All, length, get_or, refl, sym, ap, subst, inl, arith, unwrap_or}
-use Rattle.std.specs.Result.{result_ok}
-use Rattle.std.proofs.lemmas.List.{append_cancel_left, append-nil, get_or_push, length_push}
-use Rattle.pb_rules.specs.declared.Op.{Op}
+use Rattle.std.proofs.Common.{◌≡◌, ◌≢◌, ◌<◌, ◌≤◌, ◌+◌, ◌-◌, ◌^◌, ◌++◌, ◌∷◌, ◌∙◌, [], ℕ, true, List, Option, Some, None, All, length, get_or, refl, sym, ap, subst, inl, arith, unwrap_or}
+use Rattle.std.proofs.lemmas.List.{append-nil, get_or_push, length_push}
 use Rattle.pb_rules.specs.Linear.{Linear}
-use Rattle.pb_rules.specs.Operations.{Fault, line_gives}
 use Rattle.pb_rules.specs.Clauses.{contradiction}
-use Rattle.pb_rules.specs.Frames.{Line, derived, cover, Frame, Given, base_of, context_of, given_by, given_from, derived_by, derived_from, derived_count, is_derived, onto_some}
-use Rattle.pb_rules.proofs.Given.{derived-append}
+use Rattle.pb_rules.specs.Frames.{Line, Frame, Given, base_of, given_by, derived_by, derived_count, is_derived}
 use Rattle.proof_log.specs.Log.{LogValue}
 use Rattle.proof_log.specs.HonestLog.{AreHonestLines, IsHonestLog}
 use Rattle.proof_log.proofs.Solves.{begins_honest, honest_solve}
@@ -15,61 +11,19 @@ use Rattle.spec_model.specs.Spec.{SpecValue, all_variables}
 use Rattle.spec_model.specs.Genotypes.{GeneValue}
 use Rattle.encode_model.specs.Encoding.{encoding}
 use Rattle.encode_model.specs.Block.{cover_frame}
-use Rattle.front_model.specs.Proofs.{MayStand, Refute}
 use Rattle.ordered_solver.specs.Answers.{AreHonestSteps, GoesOnDerived, new_lines}
 use Rattle.sat_decoder.specs.Decoder.{IsFrameOf}
 use Rattle.sat_decoder.specs.Decoding.{DecodedSays, LineCountSays, NewLinesSay, IsShown}
 use Rattle.sat_decoder.specs.declared.decoded.Decoded.{Decoded}
 use Rattle.sat_decoder.specs.declared.decoded.Decoded.TheVariants.{First, Nothing, Budget}
-use Rattle.dse_run.specs.Proving.{AreDerived, IsBelow, IsWithin}
+use Rattle.proof_files.specs.Proving.{AreDerived, IsBelow, IsWithin}
+use Rattle.proof_files.proofs.Refuting.{refute_all}
 use Rattle.dse_run.specs.Searching.{AreUsedUp, LinesAreWorth, IsSearched}
 use Rattle.dse_run.proofs.Budgets.{all_count}
 
 -- the greatest budget
 abbrev pub most : ℕ
 most = 2 ^ 64 - 1
-
--- ---- a refutation
-
--- a derived line gives the one constraint that it is said to give
-gives_one : (r : Result Linear Fault) (c : Linear) → onto_some (result_ok r) (λ c. []) ≡ c ∷ [] → r ≡ Ok c
-gives_one (Ok d) c e = let q : d ≡ c = cc in ap Ok q
-gives_one (Err f) c e = absurd (cc)
-
--- the last line of a refutation derives `0 >= 1`
-last_gives : (f : Frame) (g h : Given) (steps : List Line) (ops : List Op) → given_from f g steps ≡ Some h → derived_from f g (steps ++ derived ops ∷ []) ≡ derived_from f g steps ++ contradiction ∷ [] → line_gives (context_of h) ops ≡ Ok contradiction
-last_gives f g h steps ops legal e =
-    let rest : derived_from f h (derived ops ∷ []) ≡ contradiction ∷ [] = append_cancel_left (derived_from f g steps) _ _ (sym (derived-append f g h steps (derived ops ∷ []) legal) ∙ e) in
-    gives_one (line_gives (context_of h) ops) contradiction rest
-
--- derived lines are no covers
-no_covers : (s : SpecValue) (us : List (List ℕ)) (ls : List Line) → All (λ l. is_derived l ≡ true) ls → All (MayStand s us) ls
-no_covers s us ls each = λ k d l. one (get_or ls k d) (each k d l)
-  where
-    one : (l : Line) → is_derived l ≡ true → MayStand s us l
-    one (derived ops) e = tt
-    one (cover v) e = absurd (cc)
-
-refutes : (s : SpecValue) (steps : List Line) (last : Line) (ls : List Line) → All (λ l. is_derived l ≡ true) ls → is_derived last ≡ true → ls ≡ steps ++ last ∷ [] → (h : Given) → given_by (cover_frame s) steps ≡ Some h → derived_by (cover_frame s) ls ≡ derived_by (cover_frame s) steps ++ contradiction ∷ [] → Refute s [] ls
-refutes s steps (cover v) ls each is split h legal e = absurd (cc)
-refutes s steps (derived ops) ls each is split h legal e = record {
-  covers = no_covers s [] ls each;
-  early = steps;
-  last = ops;
-  whole = split;
-  before = h;
-  legal = legal;
-  clash = contradiction;
-  gives = last_gives (cover_frame s) (base_of (cover_frame s)) h steps ops legal (subst (λ (ks : List Line). derived_by (cover_frame s) ks ≡ derived_by (cover_frame s) steps ++ contradiction ∷ []) split e);
-  clashes = record { no_terms = refl; asks = omega arith };
-}
-
--- the last of derived lines is derived
-last_derived : (steps : List Line) (last : Line) (ls : List Line) → All (λ l. is_derived l ≡ true) ls → ls ≡ steps ++ last ∷ [] → is_derived last ≡ true
-last_derived steps last ls each split =
-    let len : length ls ≡ length steps + 1 = ap length split ∙ length_push steps last in
-    let at : get_or ls (length steps) last ≡ last = ap (λ (ks : List Line). get_or ks (length steps) last) split ∙ get_or_push steps last last (length steps) refl in
-    subst (λ (l : Line). is_derived l ≡ true) at (each (length steps) last (omega (arith, len)))
 
 -- ---- how many lines
 
@@ -119,16 +73,7 @@ worth s genes budget (First design) ls after each legal count small says = recor
   shows = says.shows;
   fewer = below budget (derived_count ls) count.0;
 }
-worth s genes budget Nothing ls after each legal count small says = record {
-  lines = record {
-    derived_each = each;
-    legal = (after, legal);
-    early = derived_by (cover_frame s) says.steps;
-    last = says.contradicts;
-    within = within budget (derived_count ls) count.1.0;
-  };
-  refute = refutes s says.steps says.last ls each (last_derived says.steps says.last ls each says.split) says.split says.honest.honest.after says.honest.honest.legal says.contradicts;
-}
+worth s genes budget Nothing ls after each legal count small says = refute_all s budget ls after each legal (within budget (derived_count ls) count.1.0) says
 worth s genes budget Budget ls after each legal count small says = used_up s budget ls each says count.0 count.1 small
 
 searched : (s : SpecValue) (genes : List GeneValue) (budget : Option ℕ) (decoded : Decoded) (first : ℕ) (new : LogValue) → IsFrameOf s (cover_frame s) → DecodedSays s genes decoded → LineCountSays s (unwrap_or budget most) (length (new_lines (empty first) new)) decoded → GoesOnDerived (empty first) new → IsShown s genes (empty first) new decoded → derived_count new.lines < 2 ^ 63 → IsSearched s genes budget decoded new

@@ -1,20 +1,26 @@
 -- Where the commands come together: a line for each.
-use Rattle.std.specs.Prelude.{◌&&◌, IsTrue, Option, Result, codes, is_some}
+use Rattle.std.specs.Prelude.{◌≡◌, ◌&&◌, ℕ, IsTrue, List, Option, Some, None, Result, codes, is_some}
 use Rattle.desk_io.specs.Files.{Files}
 use Rattle.line_words.specs.declared.refusals.ReadFault.{ReadFault}
 use Rattle.run_words.specs.Decoding.{DecodeValue}
+use Rattle.run_words.specs.Exploring.{ExploringValue}
 use Rattle.run_words.specs.Fronting.{FrontingValue}
-use Rattle.run_words.specs.Values.{RequestValue, decode, front, check}
+use Rattle.run_words.specs.Values.{RequestValue, decode, explore, front, check}
 use Rattle.run_base.specs.Worlds.{NamesValue, World}
 use Rattle.run_base.specs.declared.outcome.Outcome.{Outcome}
 use Rattle.check_run.specs.Checking.{ChecksFile}
 use Rattle.check_run.specs.Calls.{MayBeChecked}
+use Rattle.evo_explore.specs.Counts.{RoseAtMost}
+use Rattle.explore_run.specs.Tools.{ToolsValue, Keeps}
+use Rattle.explore_run.specs.Exploring.{Explores}
+use Rattle.explore_run.specs.Exploring.{WantedValue as ExplorationValue}
 use Rattle.front_run.specs.Fronting.{WantedValue, Fronts}
 use Rattle.dse_run.specs.Decoding.{EvidenceValue, Decodes}
 
--- the files that a request names and that are loaded whole; `front` has no third one
+-- the files that a request names and that are loaded whole; `explore` and `front` have no third one
 abbrev pub names_of : RequestValue → NamesValue
 names_of (decode d) = record { tgff = d.tgff; arch = d.arch; third = d.geno }
+names_of (explore e) = record { tgff = e.tgff; arch = e.arch; third = codes "-" }
 names_of (front f) = record { tgff = f.tgff; arch = f.arch; third = codes "-" }
 names_of (check c) = record { tgff = c.tgff; arch = c.arch; third = c.front }
 
@@ -22,24 +28,43 @@ names_of (check c) = record { tgff = c.tgff; arch = c.arch; third = c.front }
 abbrev pub evidence_of : DecodeValue → EvidenceValue
 evidence_of d = record { budget = d.budget; proof = d.proof }
 
+-- the rounds, the seed, the tools and the proof file of an exploration
+abbrev pub exploration_of : ExploringValue → ExplorationValue
+exploration_of e = record { rounds = e.rounds; seed = e.seed; chosen = e.chosen; proof = e.proof }
+
 -- the budget and the files of a front
 abbrev pub wanted_of : FrontingValue → WantedValue
 wanted_of f = record { budget = f.budget; front = f.front; proof = f.proof }
 
--- what a request comes to; a file that isn't loaded whole is one of those that the desk may tell
-abbrev pub ComesTo : RequestValue → Option Files → World → Result Outcome ReadFault → Type 0
-ComesTo (decode d) files world result = Decodes (evidence_of d) world result
-ComesTo (front f) files world result = Fronts (wanted_of f) world result
-ComesTo (check c) files world result = ChecksFile files c.proof world result
+-- what a request comes to, with tools and the calls that they have had afterwards; a file that isn't loaded whole is one of those that the desk may tell
+abbrev pub ComesTo : RequestValue → ToolsValue → List ℕ → Option Files → World → Result Outcome ReadFault → Type 0
+ComesTo (decode d) tools calls files world result = Decodes (evidence_of d) world result
+ComesTo (explore e) tools calls files world result = Explores (exploration_of e) tools calls world result
+ComesTo (front f) tools calls files world result = Fronts (wanted_of f) world result
+ComesTo (check c) tools calls files world result = ChecksFile files c.proof world result
 
--- where a command may call on a file that isn't loaded whole: `decode` and `front` never, `check` once its front may be checked against
+-- which calls a request makes of tools: `explore` calls the chosen ones at most once a round, and nothing else calls one
+abbrev pub Calls : Option RequestValue → List ℕ → List ℕ → Type 0
+Calls (Some (explore e)) old new = RoseAtMost e.rounds e.chosen old new
+Calls (Some (decode d)) old new = new ≡ old
+Calls (Some (front f)) old new = new ≡ old
+Calls (Some (check c)) old new = new ≡ old
+Calls None old new = new ≡ old
+
+-- what a request leaves of tools: all is as before but those calls
+abbrev pub KeepsTools : Option RequestValue → ToolsValue → ToolsValue → Type 0
+KeepsTools asked old new = Keeps (Calls asked) old new
+
+-- where a command may call on a file that isn't loaded whole: `decode`, `explore` and `front` never, `check` once its front may be checked against
 abbrev pub MayCall : RequestValue → World → Type 0
 MayCall (decode d) world = ⊥
+MayCall (explore e) world = ⊥
 MayCall (front f) world = ⊥
 MayCall (check c) world = MayBeChecked world
 
 -- a request that may end by its budget: it has one, and its proof is written
 abbrev pub HasBudget : RequestValue → Type 0
 HasBudget (decode d) = IsTrue (is_some d.budget && is_some d.proof)
+HasBudget (explore e) = ⊥
 HasBudget (front f) = IsTrue (is_some f.budget)
 HasBudget (check c) = ⊥

@@ -10,7 +10,7 @@ use Rattle.run_base.specs.Worlds.{World, AfterSpec, AfterGenotype}
 use Rattle.file_writes.specs.Writes.{WritesIfNamed}
 use Rattle.run_base.specs.declared.outcome.Ending.TheVariants.{Done, No, Budget}
 use Rattle.run_base.specs.declared.outcome.Outcome.{Outcome}
-use Rattle.dse_run.specs.Proving.{ShowsFirst, Refutes, UsesUp}
+use Rattle.proof_files.specs.Proving.{ShowsFirst, Refutes, UsesUp}
 
 -- what is wanted beside the answer: how many lines the search may derive, and the file that its proof is written to, where these are given
 pub record EvidenceValue : Type 0 where

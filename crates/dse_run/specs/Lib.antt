@@ -1,5 +1,4 @@
 pub mod Refusing
-pub mod Proving
 pub mod Decoding
 pub mod Searching
 pub mod Commands

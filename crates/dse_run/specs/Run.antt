@@ -11,6 +11,7 @@ use Rattle.run_base.specs.declared.outcome.Ending.{Ending}
 use Rattle.run_base.specs.declared.outcome.Ending.TheVariants as endings
 use Rattle.run_base.specs.declared.outcome.Outcome.{Outcome}
 use Rattle.dse_run.specs.Commands.{names_of, ComesTo}
+use Rattle.explore_run.specs.Tools.{ToolsValue}
 use Rattle.dse_run.specs.Refusing.{input_text, word_of}
 use Rattle.dse_run.specs.declared.status.Status.{Status}
 use Rattle.dse_run.specs.declared.status.Status.TheVariants.{Done, No, Usage, Input, Budget, Fault, Memory}
@@ -34,31 +35,31 @@ EndsBy names (Err (faults.Refused r)) reply = reply ≡ record { status = Input;
 EndsBy names (Err faults.NoMemory) reply = ⊥
 
 -- what is answered to a request: what it comes to over the contents of its files, which are those of the desk where
--- the desk tells its files
-pub record AnswersRequest (asked : RequestValue) (files : Option Files) (reply : ReplyValue) : Type 0 where
+-- the desk tells its files, with tools and the calls that they have had afterwards
+pub record AnswersRequest (asked : RequestValue) (tools : ToolsValue) (calls : List ℕ) (files : Option Files) (reply : ReplyValue) : Type 0 where
   pub world : World
   pub found : IsWorldOf files (names_of asked) world
   pub result : Result Outcome ReadFault
-  pub comes : ComesTo asked files world result
+  pub comes : ComesTo asked tools calls files world result
   pub ends : EndsBy (names_of asked) result reply
 
 -- what is answered to words: the lines of usage where they are no request, whatever the files are
-abbrev pub AnswersTo : Option RequestValue → Option Files → ReplyValue → Type 0
-AnswersTo None files reply = reply ≡ record { status = Usage; text = usage_text; writes = [] }
-AnswersTo (Some asked) files reply = AnswersRequest asked files reply
+abbrev pub AnswersTo : Option RequestValue → ToolsValue → List ℕ → Option Files → ReplyValue → Type 0
+AnswersTo None tools calls files reply = reply ≡ record { status = Usage; text = usage_text; writes = [] }
+AnswersTo (Some asked) tools calls files reply = AnswersRequest asked tools calls files reply
 
 -- a whole answer was given: its files were written, and its text was added to what was said, where these are told
-pub record Answered (asked : Option RequestValue) (files new_files : Option Files) (said new_said : Option (List ℕ)) (status : Status) : Type 0 where
+pub record Answered (asked : Option RequestValue) (tools : ToolsValue) (calls : List ℕ) (files new_files : Option Files) (said new_said : Option (List ℕ)) (status : Status) : Type 0 where
   pub reply : ReplyValue
-  pub answers : AnswersTo asked files reply
+  pub answers : AnswersTo asked tools calls files reply
   pub ends : status ≡ reply.status
   pub written : Leaves files new_files (AreWritten reply.writes)
   pub says : Says said new_said (Appends reply.text)
 
 -- the writing of an answer was begun, where files are told
-pub record IsBegun (asked : Option RequestValue) (files new_files : Option Files) : Type 0 where
+pub record IsBegun (asked : Option RequestValue) (tools : ToolsValue) (calls : List ℕ) (files new_files : Option Files) : Type 0 where
   pub reply : ReplyValue
-  pub answers : AnswersTo asked files reply
+  pub answers : AnswersTo asked tools calls files reply
   pub written : Leaves files new_files (ArePartlyWritten reply.writes)
 
 -- a run that was cut short
@@ -66,5 +67,5 @@ abbrev pub IsCut : Status → Type 0
 IsCut status = (status ≡ Fault) ⊎ (status ≡ Memory)
 
 -- what it leaves: all files as before, or those of an answer in part
-abbrev pub IsLeft : Option RequestValue → Option Files → Option Files → Type 0
-IsLeft asked files new_files = (new_files ≡ files) ⊎ IsBegun asked files new_files
+abbrev pub IsLeft : Option RequestValue → ToolsValue → List ℕ → Option Files → Option Files → Type 0
+IsLeft asked tools calls files new_files = (new_files ≡ files) ⊎ IsBegun asked tools calls files new_files

@@ -1,27 +1,19 @@
 -- What the search of `decode` ends with.
-use Rattle.std.specs.Prelude.{◌≡◌, ◌<◌, ◌-◌, ◌^◌, ◌++◌, ◌∷◌, [], ℕ, List, Option, Some, None, codes, decimal, length, option_map, unwrap_or}
+use Rattle.std.specs.Prelude.{◌≡◌, ◌<◌, ◌-◌, ◌^◌, ◌++◌, ℕ, List, Option, Some, codes, decimal, length, option_map, unwrap_or}
 use Rattle.pb_rules.specs.Frames.{Line}
 use Rattle.proof_log.specs.Log.{LogValue}
-use Rattle.proof_log.specs.Text.{proof_text}
-use Rattle.desk_io.specs.Files.{Files}
 use Rattle.spec_model.specs.Spec.{SpecValue, bits_of, design_variables, all_variables}
 use Rattle.spec_model.specs.Vectors.{vector_of}
 use Rattle.spec_model.specs.Genotypes.{GeneValue}
 use Rattle.result_text.specs.Spelling.{implementation_text}
-use Rattle.front_model.specs.Proofs.{Refute}
 use Rattle.run_base.specs.declared.outcome.Ending.{Ending}
 use Rattle.run_base.specs.declared.outcome.Ending.TheVariants as endings
 use Rattle.sat_decoder.specs.Decoding.{DecodedSays}
 use Rattle.sat_decoder.specs.declared.decoded.Decoded.{Decoded}
 use Rattle.sat_decoder.specs.declared.decoded.Decoded.TheVariants.{First, Nothing, Budget}
 use Rattle.dse_run.specs.Decoding.{EvidenceValue}
-use Rattle.dse_run.specs.Proving.{LinesShowFirst, LinesRefute, LinesUseUp}
+use Rattle.proof_files.specs.Proving.{LinesShowFirst, LinesUseUp, RefuteAll}
 use Rattle.dse_run.specs.declared.search.Evidence.{Evidence}
-
--- lines that refute that any design is valid, also for who checks a front
-pub record RefuteAll (s : SpecValue) (budget : Option ℕ) (ls : List Line) : Type 0 where
-  pub lines : LinesRefute s budget ls
-  pub refute : Refute s [] ls
 
 -- a budget is given, and it is used up
 pub record AreUsedUp (s : SpecValue) (budget : Option ℕ) (ls : List Line) : Type 0 where
@@ -61,8 +53,3 @@ abbrev pub answer_text : SpecValue → Option ℕ → Decoded → List ℕ
 answer_text s budget (First design) = implementation_text s (bits_of design) (vector_of s (bits_of design))
 answer_text s budget Nothing = codes "none\n"
 answer_text s budget Budget = codes "budget " ++ decimal (unwrap_or budget (2 ^ 64 - 1)) ++ codes "\n"
-
--- the file that a log is written to, if one is named
-abbrev pub proof_files : Option (List ℕ) → LogValue → Files
-proof_files None log = []
-proof_files (Some name) log = (name, proof_text log.lines) ∷ []

@@ -1,17 +1,20 @@
 //! Where the commands come together: a line for each.
 
-ghost use Rattle.std.specs.Prelude.{◌≡◌, ◌⊎◌, IfOk};
+ghost use Rattle.std.specs.Prelude.{◌≡◌, ◌⊎◌, ◌≤◌, ◌-◌, ◌^◌, All, Some, IfOk, map, vec_len};
 ghost use Rattle.desk_io.specs.Causes.{HasCause};
 ghost use Rattle.run_words.specs.Fit.{IsFit};
 ghost use Rattle.run_words.specs.Values.{request_value};
 ghost use Rattle.run_base.specs.Worlds.{World, AreLoaded, names_value};
 ghost use Rattle.check_run.specs.Calls.{NoneFailed};
-ghost use Rattle.dse_run.specs.Commands.{ComesTo, MayCall, names_of};
+ghost use Rattle.dse_run.specs.Commands.{ComesTo, KeepsTools, MayCall, names_of};
 
 use crate::decode::decode;
+use crate::exploring::explored;
 use crate::search::Evidence;
 use check_run::check;
 use desk_io::{Desk, DeskError};
+use evaluators::Evaluator;
+use explore_run::Wanted as Exploration;
 use front_run::{Wanted, front};
 use line_words::ReadFault;
 use run_base::{Inputs, Names, Outcome};
@@ -33,6 +36,11 @@ pub(crate) fn names_of<'a>(request: &'a Request) -> Names<'a>
             arch: arch.as_str(),
             third: geno.as_str(),
         },
+        Request::Explore { tgff, arch, .. } => Names {
+            tgff: tgff.as_str(),
+            arch: arch.as_str(),
+            third: "-",
+        },
         Request::Front { tgff, arch, .. } => Names {
             tgff: tgff.as_str(),
             arch: arch.as_str(),
@@ -52,14 +60,18 @@ pub(crate) fn names_of<'a>(request: &'a Request) -> Names<'a>
 }
 
 /// What a request comes to, or what a call gave up for: a command reads those files itself that aren't loaded whole.
+#[tactic(auto, using(crate::proofs::Keeping::same_kept))]
 pub(crate) fn answer<D: Desk>(
     alloc: Global,
     desk: &mut D,
     request: &Request,
     inputs: &Inputs,
+    tools: &mut Vec<Box<dyn Evaluator>>,
 ) -> Result<Result<Outcome, ReadFault>, DeskError>
-    requires fit { IsFit (request_value request.now) }
-    ensures comes { IfOk result (λ tried. (world : World) → AreLoaded inputs.now world → ComesTo (request_value request.now) (D.files desk.old) world tried) }
+    requires fit { IsFit (vec_len tools.old) (request_value request.now) }
+    requires room { All (λ n. n ≤ 2 ^ 63 - 65536) (map calls tools.old.items) }
+    ensures comes { IfOk result (λ tried. (world : World) → AreLoaded inputs.now world → ComesTo (request_value request.now) (record { tags = map text tools.old.items; calls = map calls tools.old.items; values = λ s f. map (λ t. value t s f) tools.old.items }) (map calls tools.new.items) (D.files desk.old) world tried) }
+    ensures kept { KeepsTools (Some (request_value request.now)) (record { tags = map text tools.old.items; calls = map calls tools.old.items; values = λ s f. map (λ t. value t s f) tools.old.items }) (record { tags = map text tools.new.items; calls = map calls tools.new.items; values = λ s f. map (λ t. value t s f) tools.new.items }) }
     ensures files { D.files desk.new ≡ D.files desk.old }
     ensures said { D.said desk.new ≡ D.said desk.old }
     ensures cause { HasCause (D.faults desk.old) (D.faults desk.new) result }
@@ -76,6 +88,21 @@ pub(crate) fn answer<D: Desk>(
                 proof_file: proof_file.as_deref(),
             };
             Ok(decode(alloc, inputs, wanted))
+        }
+        Request::Explore {
+            rounds,
+            seed,
+            chosen,
+            proof_file,
+            ..
+        } => {
+            let wanted = Exploration {
+                rounds: *rounds,
+                seed: *seed,
+                chosen,
+                proof_file: proof_file.as_deref(),
+            };
+            Ok(explored(alloc, inputs, tools, wanted))
         }
         Request::Front {
             front_file,

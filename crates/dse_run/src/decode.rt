@@ -1,19 +1,19 @@
 //! What `decode` comes to: the first valid implementation in the genotype's order, with its vector, and the proof file
 //! where one is named.
 
-ghost use Rattle.std.specs.Prelude.{◌≡◌, ◌++◌, ◌≤◌, length, option_map, IfOk, IfSome, OnOk};
+ghost use Rattle.std.specs.Prelude.{◌≡◌, ◌++◌, ◌≤◌, length, IfOk, IfSome, OnOk};
 ghost use Rattle.spec_model.specs.Spec.{design_variables};
 ghost use Rattle.run_base.specs.Loading.{IsLoadedIfNamed};
 ghost use Rattle.run_base.specs.After.{GoesOn};
 ghost use Rattle.run_base.specs.Worlds.{World, AreLoaded};
 ghost use Rattle.dse_run.specs.Decoding.{Decodes, DecodesSpec, DecodesGenes, Finds};
-ghost use Rattle.dse_run.specs.Searching.{IsSearched, IsSized, answer_text, ending_of, evidence_value, proof_files};
+ghost use Rattle.dse_run.specs.Searching.{IsSearched, IsSized, answer_text, ending_of, evidence_value};
 
 use crate::search::{Evidence, Search, find_design};
-use file_writes::{Content, Writes};
 use genotype::Genotype;
 use impl_rules::vector_of;
 use line_words::{ReadFault, put_whole};
+use proof_files::writes_of;
 use proof_log::{Log, law_of_files};
 use result_text::print_design;
 use run_base::{Ending, Inputs, Outcome, read_genes, read_spec};
@@ -55,17 +55,6 @@ fn ending_of(decoded: &Decoded) -> Ending
         Decoded::Nothing => Ending::No,
         Decoded::Budget => Ending::Budget,
     }
-}
-
-/// The file that a log is written to, if one is named.
-fn writes_of(alloc: Global, proof_file: Option<&str>, log: Log) -> Result<Writes, AllocError>
-    ensures { IfOk result (λ writes. writes ≡ proof_files (option_map (λ s. s.now) proof_file.entry) log) }
-{
-    let mut writes = Writes::none(alloc);
-    if let Some(name) = proof_file {
-        writes.add(alloc, name, Content::Proof(log))?;
-    }
-    Ok(writes)
 }
 
 /// What an answer with its log comes to.

@@ -1,5 +1,5 @@
 -- What holds of each request.
-use Rattle.std.proofs.Common.{◌≡◌, ◌≢◌, ◌≤◌, ◌&&◌, ◌||◌, ◌^◌, ℕ, Bool, true, false, List, [], ◌∷◌, Option, Some, None, IfSome, not, refl, sym, ap, subst, arith, cond, option_map, option_and_then, if◌then◌else◌, nat_lt, nat_le, is_some, codes}
+use Rattle.std.proofs.Common.{◌≡◌, ◌≢◌, ◌≤◌, ◌&&◌, ◌||◌, ◌^◌, ℕ, Bool, true, false, List, [], ◌∷◌, Option, Some, None, IfSome, not, refl, subst, arith, cond, option_map, option_and_then, nat_lt, nat_le, codes, length}
 use Rattle.std.specs.Str.{bytes_eq}
 use Rattle.std.specs.Str.Parse.{digits_value}
 use Rattle.std.proofs.lemmas.Bool.Decides.{nat_tests}
@@ -9,11 +9,13 @@ use Rattle.form_words.specs.Table.{form_of}
 use Rattle.run_words.specs.Names.{is_file, is_apart}
 use Rattle.run_words.specs.Numbers.{is_whole, number_from, number_if_given}
 use Rattle.run_words.specs.Decoding.{DecodeValue, are_taken, is_written, budget_with, decode_named, decode_with, decode_of, decode_request, decode_table}
+use Rattle.run_words.specs.Exploring.{explore_request}
 use Rattle.run_words.specs.Fronting.{FrontingValue, are_read, are_written, front_named, front_with, front_of, front_request, front_table}
-use Rattle.run_words.specs.Checking.{CheckValue, check_request}
-use Rattle.run_words.specs.Values.{RequestValue, decode, front, check}
+use Rattle.run_words.specs.Checking.{check_request}
+use Rattle.run_words.specs.Values.{RequestValue, decode, explore, front, check}
 use Rattle.run_words.specs.Requests.{request}
 use Rattle.run_words.specs.Fit.{HasFitBudget, HasFitFiles, IsFit}
+use Rattle.run_words.proofs.Explored.{fit_explore}
 
 -- a number that is read is at least the least one
 number_above : (least : ℕ) (t : Text) → IfSome (number_from least t) (λ n. least ≤ n)
@@ -132,24 +134,20 @@ fit_front words v e = go (line (form_of front_table) words) e
 
 -- ---- each request
 
-fit_of_front : (r : Option FrontingValue) (asked : RequestValue) → ((v : FrontingValue) → r ≡ Some v → HasFitFiles v) → option_map front r ≡ Some asked → IsFit asked
-fit_of_front None asked h e = absurd (cc)
-fit_of_front (Some v) asked h e = let q : front v ≡ asked = cc in subst IsFit q (h v refl)
+fit_of : {X : Type 0} (tools : ℕ) (made : X → RequestValue) (r : Option X) (asked : RequestValue) → ((x : X) → r ≡ Some x → IsFit tools (made x)) → option_map made r ≡ Some asked → IsFit tools asked
+fit_of tools made None asked h e = absurd (cc)
+fit_of tools made (Some x) asked h e = let q : made x ≡ asked = cc in subst (IsFit tools) q (h x refl)
 
-fit_of_decode : (r : Option DecodeValue) (asked : RequestValue) → ((d : DecodeValue) → r ≡ Some d → HasFitBudget d) → option_map decode r ≡ Some asked → IsFit asked
-fit_of_decode None asked h e = absurd (cc)
-fit_of_decode (Some d) asked h e = let q : decode d ≡ asked = cc in subst IsFit q (h d refl)
-
-fit_of_check : (r : Option CheckValue) (asked : RequestValue) → option_map check r ≡ Some asked → IsFit asked
-fit_of_check None asked e = absurd (cc)
-fit_of_check (Some c) asked e = let q : check c ≡ asked = cc in subst IsFit q tt
-
-pub requests_fit : (tags words : List Text) (asked : RequestValue) → request tags words ≡ Some asked → IsFit asked
+pub requests_fit : (tags words : List Text) (asked : RequestValue) → request tags words ≡ Some asked → IsFit (length tags) asked
 requests_fit tags [] asked e = absurd (cc)
-requests_fit tags (name ∷ words) asked e = go (bytes_eq name (codes "decode")) (bytes_eq name (codes "front")) (bytes_eq name (codes "check")) e
+requests_fit tags (name ∷ words) asked e = go (bytes_eq name (codes "decode")) (bytes_eq name (codes "explore")) (bytes_eq name (codes "front")) (bytes_eq name (codes "check")) e
   where
-    go : (d f c : Bool) → cond d (option_map decode (decode_request words)) (cond f (option_map front (front_request words)) (cond c (option_map check (check_request words)) None)) ≡ Some asked → IsFit asked
-    go true f c e = fit_of_decode (decode_request words) asked (fit_decode words) e
-    go false true c e = fit_of_front (front_request words) asked (fit_front words) e
-    go false false true e = fit_of_check (check_request words) asked e
-    go false false false e = absurd (cc)
+    n : ℕ
+    n = length tags
+
+    go : (d x f c : Bool) → cond d (option_map decode (decode_request words)) (cond x (option_map explore (explore_request tags words)) (cond f (option_map front (front_request words)) (cond c (option_map check (check_request words)) None))) ≡ Some asked → IsFit n asked
+    go true x f c e = fit_of n decode (decode_request words) asked (fit_decode words) e
+    go false true f c e = fit_of n explore (explore_request tags words) asked (fit_explore tags words) e
+    go false false true c e = fit_of n front (front_request words) asked (fit_front words) e
+    go false false false true e = fit_of n check (check_request words) asked (λ x q. tt) e
+    go false false false false e = absurd (cc)

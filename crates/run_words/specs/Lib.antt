@@ -1,6 +1,8 @@
 pub mod Names
 pub mod Numbers
 pub mod Decoding
+pub mod Tools
+pub mod Exploring
 pub mod Fronting
 pub mod Checking
 pub mod Values

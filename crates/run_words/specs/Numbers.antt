@@ -1,5 +1,5 @@
 -- Whole numbers on a command line.
-use Rattle.std.specs.Prelude.{◌==◌, ◌&&◌, ◌∷◌, [], ◌^◌, ℕ, Bool, false, length, Option, Some, None, if◌then◌else◌, nat_le, nat_lt, option_map}
+use Rattle.std.specs.Prelude.{◌==◌, ◌&&◌, ◌∷◌, [], ◌^◌, ℕ, Bool, false, length, Option, Some, None, if◌then◌else◌, nat_le, nat_lt, option_and_then, option_map}
 use Rattle.std.specs.Str.{all_ascii_digits}
 use Rattle.std.specs.Str.Parse.{digits_value}
 use Rattle.form_words.specs.Line.{Text}
@@ -19,3 +19,7 @@ number_from least text =
 abbrev pub number_if_given : ℕ → Option Text → Option (Option ℕ)
 number_if_given least None = Some None
 number_if_given least (Some text) = option_map (λ n. Some n) (number_from least text)
+
+-- the number that a word writes, up to a greatest one
+abbrev pub number_up_to : ℕ → Text → Option ℕ
+number_up_to most text = option_and_then (λ n. if nat_le n most then Some n else None) (number_from 0 text)

@@ -2,20 +2,22 @@
 use Rattle.std.specs.Prelude.{◌∷◌, ◌++◌, [], List, Option, None, codes, option_map, if◌then◌else◌}
 use Rattle.std.specs.Str.{bytes_eq}
 use Rattle.form_words.specs.Line.{Text}
-use Rattle.run_words.specs.Values.{RequestValue, decode, front, check}
+use Rattle.run_words.specs.Values.{RequestValue, decode, explore, front, check}
 use Rattle.run_words.specs.Decoding.{decode_request, decode_usage}
+use Rattle.run_words.specs.Exploring.{explore_request, explore_usage}
 use Rattle.run_words.specs.Fronting.{front_request, front_usage}
 use Rattle.run_words.specs.Checking.{check_request, check_usage}
 
--- the request, by the first word; no command asks for a tool by its tag yet
+-- the request, by the first word, of tools with these tags
 abbrev pub request : List Text → List Text → Option RequestValue
 request tags [] = None
 request tags (name ∷ words) =
     if bytes_eq name (codes "decode") then option_map decode (decode_request words)
+    else (if bytes_eq name (codes "explore") then option_map explore (explore_request tags words)
     else (if bytes_eq name (codes "front") then option_map front (front_request words)
     else (if bytes_eq name (codes "check") then option_map check (check_request words)
-    else None))
+    else None)))
 
 -- the lines of all commands
 abbrev pub usage_text : Text
-usage_text = decode_usage ++ front_usage ++ check_usage
+usage_text = decode_usage ++ explore_usage ++ front_usage ++ check_usage

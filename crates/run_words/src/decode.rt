@@ -6,7 +6,7 @@ ghost use Rattle.form_words.specs.Table.{form_of};
 ghost use Rattle.run_words.specs.Decoding.{are_taken, budget_with, decode_named, decode_request, decode_table, decode_usage, decode_with, is_written};
 ghost use Rattle.run_words.specs.Values.{decode, request_value};
 
-use crate::names::{is_apart, is_file, is_file_if_named, is_name};
+use crate::names::{is_apart, is_file, is_file_if_named, is_name, owned};
 use crate::numbers::number_if_given;
 use crate::request::Request;
 use clap::ArgMatches;
@@ -43,16 +43,6 @@ fn budget_with(budget: Option<&str>, proof: Option<&str>) -> Option<Option<u64>>
     match proof {
         None => { if budget.is_some() { None } else { Some(None) } }
         Some(_) => number_if_given(1, budget),
-    }
-}
-
-/// A text of its own, where one is given.
-fn owned(alloc: Global, text: Option<&str>) -> Result<Option<String>, AllocError>
-    ensures { IfOk result (λ s. option_map string_bytes s ≡ option_map (λ s. s.now) text.entry) }
-{
-    match text {
-        None => Ok(None),
-        Some(text) => Ok(Some(String::from_str(alloc, text)?)),
     }
 }
 

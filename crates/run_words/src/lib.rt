@@ -7,11 +7,13 @@
 
 mod check;
 mod decode;
+mod explore;
 mod front;
 pub mod laws;
 mod names;
 mod numbers;
 mod request;
+mod tools;
 
 pub use request::{Request, put_usage, read_words};
 

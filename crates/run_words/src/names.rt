@@ -1,7 +1,9 @@
 //! The names of files on a command line.
 
-ghost use Rattle.std.specs.Prelude.{◌≡◌, map, option_map};
+ghost use Rattle.std.specs.Prelude.{◌≡◌, map, option_map, IfOk, string_bytes};
 ghost use Rattle.run_words.specs.Names.{is_apart, is_dash, is_file, is_file_if_named, is_name};
+
+use std::alloc::{AllocError, Global};
 
 /// Whether a word stands for no file.
 fn is_dash(text: &str) -> bool
@@ -44,5 +46,15 @@ pub(crate) fn is_apart(text: Option<&str>, others: &[&str]) -> bool
     match text {
         None => true,
         Some(name) => !others.contains(&name),
+    }
+}
+
+/// A text of its own, where one is given.
+pub(crate) fn owned(alloc: Global, text: Option<&str>) -> Result<Option<String>, AllocError>
+    ensures { IfOk result (λ s. option_map string_bytes s ≡ option_map (λ s. s.now) text.entry) }
+{
+    match text {
+        None => Ok(None),
+        Some(text) => Ok(Some(String::from_str(alloc, text)?)),
     }
 }

@@ -1,10 +1,10 @@
 //! Whole numbers on a command line.
 
 ghost use Rattle.std.specs.Prelude.{◌≡◌, option_map};
-ghost use Rattle.run_words.specs.Numbers.{number_from, number_if_given};
+ghost use Rattle.run_words.specs.Numbers.{number_from, number_if_given, number_up_to};
 
 /// The number that a word writes, from a least one on: decimal digits without leading zeros.
-fn number_from(least: u64, text: &str) -> Option<u64>
+pub(crate) fn number_from(least: u64, text: &str) -> Option<u64>
     ensures { result ≡ number_from least text.now }
 {
     let bytes = text.as_bytes();
@@ -37,5 +37,15 @@ pub(crate) fn number_if_given(least: u64, text: Option<&str>) -> Option<Option<u
             None => None,
             Some(number) => Some(Some(number)),
         },
+    }
+}
+
+/// The number that a word writes, from 0 up to a greatest one; `None` where it writes no such number.
+pub(crate) fn number_up_to(most: u64, text: &str) -> Option<u64>
+    ensures { result ≡ number_up_to most text.now }
+{
+    match number_from(0, text) {
+        None => None,
+        Some(number) => { if number <= most { Some(number) } else { None } }
     }
 }

@@ -6,6 +6,7 @@ ghost use Rattle.run_words.specs.Values.{request_value};
 
 use crate::check::{put_check_usage, read_check};
 use crate::decode::{put_decode_usage, read_decode};
+use crate::explore::{put_explore_usage, read_explore};
 use crate::front::{put_front_usage, read_front};
 use std::alloc::{AllocError, Global};
 
@@ -24,6 +25,22 @@ pub enum Request {
         /// How many lines the search may derive, at least 1, where it is given; it stands only beside a proof file.
         budget: Option<u64>,
         /// The file that the proof is written to, where one is given: none of the others.
+        proof_file: Option<String>,
+    },
+    /// `explore TGFF ARCH --rounds N --seed S [--measure LIST] [--proof FILE]`: an exploration of the specification of a
+    /// file of task graphs and tables and an architecture file.
+    Explore {
+        /// The file of task graphs and tables, or `-` for no graphs and no tables.
+        tgff: String,
+        /// The architecture file.
+        arch: String,
+        /// How many rounds there are, at most 65,536.
+        rounds: u64,
+        /// The number from which the words of the draws are made.
+        seed: u64,
+        /// The places of the tools that measure, rising; none where no list of tags is given.
+        chosen: Vec<usize>,
+        /// The file that the proof of all decodings is written to, where one is given: none of the others.
         proof_file: Option<String>,
     },
     /// `front TGFF ARCH --front FILE --proof FILE [--budget N]`: the front of the specification of a file of task graphs and
@@ -63,9 +80,11 @@ fn read_named(
 ) -> Result<Option<Request>, AllocError>
     ensures { IfOk result (λ r. option_map request_value r ≡ request (map string_bytes tags.now) (name.now ∷ map string_bytes words.now)) }
 {
-    let _ = tags;
     if name == "decode" {
         return read_decode(alloc, words);
+    }
+    if name == "explore" {
+        return read_explore(alloc, words, tags);
     }
     if name == "front" {
         return read_front(alloc, words);
@@ -77,7 +96,7 @@ fn read_named(
 }
 
 /// The request of the words of a command line, without the program's name, or `None` exactly where there is none. A
-/// line names tools by their tags; no command has tools yet.
+/// line names tools by their tags, which are handed over in the order of the tools.
 pub fn read_words(
     alloc: Global,
     words: &[String],
@@ -96,6 +115,7 @@ pub fn put_usage(out: &mut Vec<u8>) -> Result<(), AllocError>
     ensures { OnOk result (out.new.items ≡ out.old.items ++ usage_text) }
 {
     put_decode_usage(out)?;
+    put_explore_usage(out)?;
     put_front_usage(out)?;
     put_check_usage(out)
 }

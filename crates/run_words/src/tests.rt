@@ -10,7 +10,11 @@ fn asked(alloc: Global, line: &str) -> Result<String, Fail> {
     for word in line.split(' ') {
         words.push(String::from_str(alloc, word)?)?;
     }
-    match read_words(alloc, &words, &[])? {
+    let mut tags = Vec::new(alloc);
+    for tag in ["span", "load", "span"] {
+        tags.push(String::from_str(alloc, tag)?)?;
+    }
+    match read_words(alloc, &words, &tags)? {
         Some(
             Request::Decode {
                 tgff,
@@ -25,6 +29,22 @@ fn asked(alloc: Global, line: &str) -> Result<String, Fail> {
                 None => "no proof",
             };
             Ok(format!(in alloc; "{tgff} {arch} {geno} {budget:?} {proof}")?)
+        }
+        Some(
+            Request::Explore {
+                tgff,
+                arch,
+                rounds,
+                seed,
+                chosen,
+                proof_file,
+            },
+        ) => {
+            let proof = match &proof_file {
+                Some(name) => name.as_str(),
+                None => "no proof",
+            };
+            Ok(format!(in alloc; "{tgff} {arch} {rounds} {seed} {chosen:?} {proof}")?)
         }
         Some(
             Request::Front {
@@ -86,6 +106,34 @@ fn asks_what_each_line_says(rt: HostRuntime) -> Result<(), Fail> {
         ("decode T A - --proof T", "none"),
         ("decode T A - --proof A", "none"),
         ("decode T A G --proof G", "none"),
+        ("explore T A --rounds 3 --seed 1", "T A 3 1 [] no proof"),
+        (
+            "explore --seed=0 - A --proof P --rounds 65536 --measure load",
+            "- A 65536 0 [1] P",
+        ),
+        (
+            "explore T A --rounds 0 --seed 18446744073709551615 --measure load,span",
+            "T A 0 18446744073709551615 [0, 1] no proof",
+        ),
+        ("explore T A --rounds 65537 --seed 1", "none"),
+        ("explore T A --rounds 03 --seed 1", "none"),
+        ("explore T A --rounds 3", "none"),
+        ("explore T A --seed 3", "none"),
+        ("explore T --rounds 3 --seed 1", "none"),
+        ("explore T - --rounds 3 --seed 1", "none"),
+        ("explore T A G --rounds 3 --seed 1", "none"),
+        (
+            "explore T A --rounds 3 --seed 1 --measure span,span",
+            "none",
+        ),
+        ("explore T A --rounds 3 --seed 1 --measure span,", "none"),
+        ("explore T A --rounds 3 --seed 1 --measure=", "none"),
+        ("explore T A --rounds 3 --seed 1 --measure time", "none"),
+        ("explore T A --rounds 3 --seed 1 --measure Span", "none"),
+        ("explore T A --rounds 3 --seed 1 --proof A", "none"),
+        ("explore T A --rounds 3 --seed 1 --proof T", "none"),
+        ("explore T A --rounds 3 --seed 1 --proof -", "none"),
+        ("explore T A --rounds 3 --seed 1 --budget 1", "none"),
         ("front T A --front F --proof P", "T A F P None"),
         (
             "front --budget 3 - A --proof P --front=F",

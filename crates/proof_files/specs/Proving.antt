@@ -1,4 +1,4 @@
--- What the proof file of `decode` is worth: the text of lines that are legal over the specification's encoding.
+-- What the proof file of decodings is worth: the text of lines that are legal over the specification's encoding.
 use Rattle.std.specs.Prelude.{◌≡◌, ℕ, ◌<◌, ◌≤◌, ◌∷◌, ◌++◌, [], List, Bool, true, Option, Some, None, All}
 use Rattle.pb_rules.specs.Linear.{Linear}
 use Rattle.pb_rules.specs.Clauses.{contradiction}
@@ -10,7 +10,7 @@ use Rattle.spec_model.specs.Genotypes.{GeneValue}
 use Rattle.encode_model.specs.Encoding.{encoding}
 use Rattle.encode_model.specs.Block.{cover_frame}
 use Rattle.result_text.specs.Fronts.{FrontValue, front_text}
-use Rattle.front_model.specs.Proofs.{AcceptsTexts}
+use Rattle.front_model.specs.Proofs.{AcceptsTexts, Refute}
 use Rattle.sat_decoder.specs.Decoding.{ShowsFirstDesign}
 
 -- n is below the budget, or at most the budget, if one is given
@@ -22,7 +22,7 @@ abbrev pub IsWithin : Option ℕ → ℕ → Type 0
 IsWithin None n = Unit {0}
 IsWithin (Some budget) n = n ≤ budget
 
--- no line is a cover: `decode` rules out no vector
+-- no line is a cover: a decoding rules out no vector
 abbrev pub AreDerived : List Line → Type 0
 AreDerived ls = All (λ l. is_derived l ≡ true) ls
 
@@ -46,6 +46,11 @@ pub record LinesUseUp (s : SpecValue) (budget : ℕ) (ls : List Line) : Type 0 w
   pub derived_each : AreDerived ls
   pub honest : IsHonestLog (cover_frame s) ls
   pub count : derived_count ls ≡ budget
+
+-- lines that refute that any design is valid, also for who checks a front
+pub record RefuteAll (s : SpecValue) (budget : Option ℕ) (ls : List Line) : Type 0 where
+  pub lines : LinesRefute s budget ls
+  pub refute : Refute s [] ls
 
 -- a proof file that shows that a design is the first
 abbrev pub ShowsFirst : SpecValue → List GeneValue → List Bool → Option ℕ → List ℕ → Type 0

@@ -1,0 +1,5 @@
+pub mod Tools
+pub mod Words
+pub mod Saying
+pub mod Exploring
+pub mod Wanting
