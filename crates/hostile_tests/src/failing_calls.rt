@@ -73,7 +73,12 @@ fn left(alloc: Global, line: &str, failing: u64) -> Result<(Status, MemoryDesk),
         return Err(AllocError);
     }
     let mut desk = MemoryDesk::new(alloc, files, vec![in alloc; failing]?);
-    let status = run(alloc, &words_of(alloc, line)?, &mut desk);
+    let status = run(
+        alloc,
+        &words_of(alloc, line)?,
+        &mut desk,
+        &mut Vec::new(alloc),
+    );
     Ok((status, desk))
 }
 
