@@ -6,7 +6,7 @@ use Rattle.genotype.specs.Draws.{below, random_genes, child_genes, after_gene, a
 use Rattle.front_archive.specs.declared.member.Member.{Member}
 use Rattle.evo_explore.specs.Breeding.{genotype_of, genotype_at, HasGenes, bred, after_bred}
 
-pub genotype_there : (members : List Member) (p : ℕ) (d : Member) → p < length members → genotype_at members p ≡ (get_or members p d).genotype
+genotype_there : (members : List Member) (p : ℕ) (d : Member) → p < length members → genotype_at members p ≡ (get_or members p d).genotype
 genotype_there members p d l = get_or-map genotype_of members p d [] l
 
 pub length-random : {S : Type 0} (gives : S → ℕ) (after : S → S) (n : ℕ) (s : S) → length (random_genes gives after n s) ≡ n

@@ -11,7 +11,7 @@ use Rattle.evo_explore.specs.Counts.{times, RoseBy, RoseAtMost, HasRoom, picked}
 eqb_same : (p : ℕ) → eqb p p ≡ true
 eqb_same p = eq-eqb p p refl
 
-pub times_grow : (k : ℕ) (ps : List ℕ) (i : ℕ) → times k (take i ps) ≤ times k ps
+times_grow : (k : ℕ) (ps : List ℕ) (i : ℕ) → times k (take i ps) ≤ times k ps
 times_grow k ps i = sum_by-take-le (λ p. cond (eqb p k) 1 0) ps i
 
 times_more : (k : ℕ) (ps : List ℕ) (i : ℕ) → i < length ps → times k (take (i + 1) ps) ≡ times k (take i ps) + cond (eqb (get_or ps i 0) k) 1 0

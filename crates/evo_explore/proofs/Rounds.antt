@@ -37,7 +37,7 @@ pub first_design : (t s : SpecValue) (genes : List GeneValue) (answer : Option (
     → DecodedSays t genes (answer_of answer) → IsFirstDesign s genes design
 first_design t s genes answer design same is says = subst (λ (u : SpecValue). IsFirstDesign u genes design) same (subst (λ (a : Option (List Bool)). DecodedSays t genes (answer_of a)) is says)
 
-pub no_design : (t s : SpecValue) (genes : List GeneValue) (answer : Option (List Bool)) → t ≡ s → answer ≡ None → DecodedSays t genes (answer_of answer) → HasNoValid s
+no_design : (t s : SpecValue) (genes : List GeneValue) (answer : Option (List Bool)) → t ≡ s → answer ≡ None → DecodedSays t genes (answer_of answer) → HasNoValid s
 no_design t s genes answer same is says = subst HasNoValid same (subst (λ (a : Option (List Bool)). DecodedSays t genes (answer_of a)) is says)
 
 -- ---- counts, vectors and members
@@ -45,9 +45,6 @@ no_design t s genes answer same is says = subst HasNoValid same (subst (λ (a : 
 -- a place that wasn't counted was counted at most so often
 pub none_rose : (n : ℕ) (ps xs : List ℕ) → RoseAtMost n ps xs xs
 none_rose n ps xs = record { low = λ k. omega arith; high = λ k. omega arith }
-
-pub counts_same : (n : ℕ) (ps old new : List ℕ) → new ≡ old → RoseAtMost n ps old new
-counts_same n ps old new e = subst (RoseAtMost n ps old) (sym e) (none_rose n ps old)
 
 -- how many numbers the vector of a member has
 pub whole_width : (s : SpecValue) (f : Bits) (vector numbers chosen : List ℕ) → vector ≡ vector_of s f ++ picked numbers chosen → length vector ≡ length s.objectives + length chosen
@@ -57,7 +54,7 @@ whole_width s f vector numbers chosen is =
     omega (arith, ap length is, length-append (vector_of s f) (picked numbers chosen), first, later)
 
 -- what holds of the members and of a new one holds after it is offered
-pub all_offered : (P : Member → Type 0) (members : List Member) (m : Member) → All P members → P m → All P (offered covers members m)
+all_offered : (P : Member → Type 0) (members : List Member) (m : Member) → All P members → P m → All P (offered covers members m)
 all_offered P members m all one = elim (list_any (λ (x : Member). covers x m) members) as (λ (b : Bool). All P (cond b members (filter (λ (x : Member). not (covers m x)) members ++ m ∷ []))) [
   | true ↦ all
   | false ↦ All-append P (filter (λ (x : Member). not (covers m x)) members) (m ∷ [])
