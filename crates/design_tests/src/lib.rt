@@ -10,6 +10,8 @@ mod broken;
 #[cfg(test)]
 mod fronts;
 #[cfg(test)]
+mod lanes;
+#[cfg(test)]
 mod models;
 #[cfg(test)]
 mod reading;

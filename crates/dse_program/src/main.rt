@@ -4,13 +4,16 @@
 use desk_io::RealDesk;
 use dse_run::{Status, run};
 use std::env;
+use std::io::ErrorKind;
 use std::process::ExitCode;
 use std::rt::Env;
 
 /// The words of the command line, without the program's name. Where they can't be had, the status to end with.
 fn words(rt: &(impl Env + AllocGlobal)) -> Result<Vec<String>, Status> {
-    let Ok(arguments) = env::args(rt) else {
-        return Err(Status::Fault);
+    let arguments = match env::args(rt) {
+        Ok(arguments) => arguments,
+        Err(error) if error.kind() == ErrorKind::OutOfMemory => return Err(Status::Memory),
+        Err(_) => return Err(Status::Fault),
     };
     let mut words = Vec::new(rt.alloc());
     for word in arguments.skip(1) {

@@ -21,7 +21,7 @@ use Rattle.sat_decoder.specs.Decoder.{IsFrameOf}
 use Rattle.sat_decoder.specs.Decoding.{DecodedSays, LineCountSays, NewLinesSay, IsShown}
 use Rattle.sat_decoder.specs.declared.decoded.Decoded.{Decoded}
 use Rattle.sat_decoder.specs.declared.decoded.Decoded.TheVariants.{First, Nothing, Budget}
-use Rattle.dse_run.specs.Proving.{IsBelow, IsWithin}
+use Rattle.dse_run.specs.Proving.{AreDerived, IsBelow, IsWithin}
 use Rattle.dse_run.specs.Searching.{AreUsedUp, LinesAreWorth, IsSearched}
 use Rattle.dse_run.proofs.Budgets.{all_count}
 
@@ -97,13 +97,13 @@ honest_log f ls h = record {
   last = λ cs c e. never_last (derived_by f ls) h.no_contradiction cs c e;
 }
 
-used_up : (s : SpecValue) (budget : Option ℕ) (ls : List Line) → AreHonestSteps (cover_frame s) (base_of (cover_frame s)) (encoding s) ls → derived_count ls ≡ unwrap_or budget most → derived_count ls < 2 ^ all_variables s → derived_count ls < 2 ^ 63 → AreUsedUp s budget ls
-used_up s None ls h n few small = absurd (omega (arith, n, small))
-used_up s (Some b) ls h n few small = record {
+used_up : (s : SpecValue) (budget : Option ℕ) (ls : List Line) → AreDerived ls → AreHonestSteps (cover_frame s) (base_of (cover_frame s)) (encoding s) ls → derived_count ls ≡ unwrap_or budget most → derived_count ls < 2 ^ all_variables s → derived_count ls < 2 ^ 63 → AreUsedUp s budget ls
+used_up s None ls each h n few small = absurd (omega (arith, n, small))
+used_up s (Some b) ls each h n few small = record {
   most = b;
   given = refl;
   few = subst (λ (k : ℕ). k < 2 ^ all_variables s) n few;
-  lines = record { honest = honest_log (cover_frame s) ls h; count = n };
+  lines = record { derived_each = each; honest = honest_log (cover_frame s) ls h; count = n };
 }
 
 -- ---- a search
@@ -114,12 +114,14 @@ empty first = record { first = first; lines = [] }
 
 worth : (s : SpecValue) (genes : List GeneValue) (budget : Option ℕ) (decoded : Decoded) (ls : List Line) (after : Given) → All (λ l. is_derived l ≡ true) ls → given_by (cover_frame s) ls ≡ Some after → LineCountSays s (unwrap_or budget most) (derived_count ls) decoded → derived_count ls < 2 ^ 63 → NewLinesSay (cover_frame s) (base_of (cover_frame s)) s genes ls ls decoded → LinesAreWorth s genes budget decoded ls
 worth s genes budget (First design) ls after each legal count small says = record {
+  derived_each = each;
   legal = (after, legal);
   shows = says.shows;
   fewer = below budget (derived_count ls) count.0;
 }
 worth s genes budget Nothing ls after each legal count small says = record {
   lines = record {
+    derived_each = each;
     legal = (after, legal);
     early = derived_by (cover_frame s) says.steps;
     last = says.contradicts;
@@ -127,7 +129,7 @@ worth s genes budget Nothing ls after each legal count small says = record {
   };
   refute = refutes s says.steps says.last ls each (last_derived says.steps says.last ls each says.split) says.split says.honest.honest.after says.honest.honest.legal says.contradicts;
 }
-worth s genes budget Budget ls after each legal count small says = used_up s budget ls says count.0 count.1 small
+worth s genes budget Budget ls after each legal count small says = used_up s budget ls each says count.0 count.1 small
 
 searched : (s : SpecValue) (genes : List GeneValue) (budget : Option ℕ) (decoded : Decoded) (first : ℕ) (new : LogValue) → IsFrameOf s (cover_frame s) → DecodedSays s genes decoded → LineCountSays s (unwrap_or budget most) (length (new_lines (empty first) new)) decoded → GoesOnDerived (empty first) new → IsShown s genes (empty first) new decoded → derived_count new.lines < 2 ^ 63 → IsSearched s genes budget decoded new
 searched s genes budget decoded first new frame says count goes shown small =

@@ -1,8 +1,8 @@
 -- What the proof file of `decode` is worth: the text of lines that are legal over the specification's encoding.
-use Rattle.std.specs.Prelude.{◌≡◌, ℕ, ◌<◌, ◌≤◌, ◌∷◌, ◌++◌, [], List, Bool, true, Option, Some, None}
+use Rattle.std.specs.Prelude.{◌≡◌, ℕ, ◌<◌, ◌≤◌, ◌∷◌, ◌++◌, [], List, Bool, true, Option, Some, None, All}
 use Rattle.pb_rules.specs.Linear.{Linear}
 use Rattle.pb_rules.specs.Clauses.{contradiction}
-use Rattle.pb_rules.specs.Frames.{Line, derived_by, derived_count}
+use Rattle.pb_rules.specs.Frames.{Line, is_derived, derived_by, derived_count}
 use Rattle.proof_log.specs.HonestLog.{IsHonestLog}
 use Rattle.proof_log.specs.Files.{OfFile, AreLegal}
 use Rattle.spec_model.specs.Spec.{SpecValue, bits_of}
@@ -22,21 +22,28 @@ abbrev pub IsWithin : Option ℕ → ℕ → Type 0
 IsWithin None n = Unit {0}
 IsWithin (Some budget) n = n ≤ budget
 
--- each line is legal at its place, and the encoding and what the lines derive show by propagation alone that a design is the first
+-- no line is a cover: `decode` rules out no vector
+abbrev pub AreDerived : List Line → Type 0
+AreDerived ls = All (λ l. is_derived l ≡ true) ls
+
+-- each line is a derived one and legal at its place, and the encoding and what the lines derive show by propagation alone that a design is the first
 pub record LinesShowFirst (s : SpecValue) (genes : List GeneValue) (design : List Bool) (budget : Option ℕ) (ls : List Line) : Type 0 where
+  pub derived_each : AreDerived ls
   pub legal : AreLegal (cover_frame s) ls
   pub shows : ShowsFirstDesign (encoding s ++ derived_by (cover_frame s) ls) genes (bits_of design)
   pub fewer : IsBelow budget (derived_count ls)
 
--- each line is legal at its place, and the last one that is derived gives `0 >= 1`
+-- each line is a derived one and legal at its place, and the last one gives `0 >= 1`
 pub record LinesRefute (s : SpecValue) (budget : Option ℕ) (ls : List Line) : Type 0 where
+  pub derived_each : AreDerived ls
   pub legal : AreLegal (cover_frame s) ls
   pub early : List Linear
   pub last : derived_by (cover_frame s) ls ≡ early ++ contradiction ∷ []
   pub within : IsWithin budget (derived_count ls)
 
--- honest lines, the last of which doesn't give `0 >= 1`, and of which as many are derived as the budget has
+-- honest lines over the encoding alone, the last of which doesn't give `0 >= 1`, and which are as many as the budget has
 pub record LinesUseUp (s : SpecValue) (budget : ℕ) (ls : List Line) : Type 0 where
+  pub derived_each : AreDerived ls
   pub honest : IsHonestLog (cover_frame s) ls
   pub count : derived_count ls ≡ budget
 

@@ -76,12 +76,12 @@ and_right true true e = absurd (cc)
 and_right true false e = refl
 and_right false b e = absurd (cc)
 
-same_bool : (a b : Bool) → (a ≡ true → b ≡ true) → (b ≡ true → a ≡ true) → a ≡ b
+pub same_bool : (a b : Bool) → (a ≡ true → b ≡ true) → (b ≡ true → a ≡ true) → a ≡ b
 same_bool true b f g = sym (f refl)
 same_bool false true f g = g refl
 same_bool false false f g = refl
 
-is_false : (a : Bool) → (a ≡ true → ⊥) → a ≡ false
+pub is_false : (a : Bool) → (a ≡ true → ⊥) → a ≡ false
 is_false true n = absurd (n refl)
 is_false false n = refl
 
@@ -241,7 +241,7 @@ module _ {X : Type 0} (cov : X → X → Bool) (trans : (a b c : X) → cov a b 
 shifted : (a b : ℕ) → ltb a b ≡ ltb (1 + a) (suc b)
 shifted a b = grind (arith, nat_tests)
 
-any_position : {X : Type 0} (p : X → Bool) (xs : List X) → list_any p xs ≡ ltb (position_or_len p xs) (length xs)
+pub any_position : {X : Type 0} (p : X → Bool) (xs : List X) → list_any p xs ≡ ltb (position_or_len p xs) (length xs)
 any_position p [] = refl
 any_position p (x ∷ xs) = elim (cases_Bool (p x)) [
   | inl y ↦ subst (λ b. (b || list_any p xs) ≡ ltb (cond (not b) (1 + position_or_len p xs) 0) (suc (length xs))) (sym y) (sym (lt-ltb 0 (suc (length xs)) (omega arith)))

@@ -1,4 +1,5 @@
 pub mod Bests
+pub mod Marked
+pub mod Moved
 pub mod Offering
-pub mod Retained
 pub mod Places

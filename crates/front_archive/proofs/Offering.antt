@@ -1,14 +1,11 @@
 -- What an offer leaves, from what the steps of the call say.
-use Rattle.std.proofs.Common.{◌≡◌, ◌++◌, ◌&&◌, not, cond, List, [], ◌∷◌, Bool, true, false, refl, sym, ap, ap₂, ◌∙◌, subst}
-use Rattle.std.proofs.Common.{ℕ, None, Result, Ok, Err, OnOk, IfOk, arith, ◌≤◌}
+use Rattle.std.proofs.Common.{◌≡◌, ◌++◌, ◌&&◌, not, cond, List, [], ◌∷◌, Bool, true, false, refl, sym, ap, ap₂, ◌∙◌}
+use Rattle.std.proofs.Common.{ℕ, None, Result, Ok, Err, OnOk, arith, ◌≤◌}
 use Rattle.std.proofs.lemmas.Bool.{leb-true, le-leb}
 use Rattle.std.specs.List.{list_any, filter, position}
-use Rattle.front_archive.specs.declared.archive.Offer.{Offer}
-use Rattle.front_archive.specs.declared.archive.Offer.TheVariants.{Entered}
 use Rattle.front_archive.specs.declared.member.Member.{Member}
 use Rattle.front_archive.specs.AtMost.{at_most}
 use Rattle.front_archive.specs.Members.{covers}
-use Rattle.front_archive.specs.Offers.{Answers}
 use Rattle.front_archive.specs.Best.{best, offered}
 use Rattle.front_archive.proofs.Bests.{best_offered, none_any}
 
@@ -44,13 +41,9 @@ pub on_ok : {T E P Q : Type 0} (r : Result T E) → (P → Q) → OnOk r P → O
 on_ok (Ok x) f p = f p
 on_ok (Err e) f p = tt
 
-pub entered_answer : {E : Type 0} (r : Result Offer E) (old : List Member) (m : Member) → None ≡ position (λ x. covers x m) old → IfOk r (λ o. o ≡ Entered) → IfOk r (Answers old m)
-entered_answer (Ok o) old m none is = subst (Answers old m) (sym is) (sym none)
-entered_answer (Err e) old m none is = tt
-
-pub entered_members : {T E : Type 0} (r : Result T E) (old inside new : List Member) (m : Member) → inside ≡ old → None ≡ position (λ x. covers x m) old → OnOk r (new ≡ filter (λ x. not (covers m x)) inside ++ m ∷ []) → OnOk r (new ≡ offered covers old m)
-entered_members (Ok x) old inside new m is none e = e ∙ ap (λ l. filter (λ x. not (covers m x)) l ++ m ∷ []) is ∙ none_offered old m (none_any (λ x. covers x m) old none)
-entered_members (Err x) old inside new m is none e = tt
+pub entered_members : {T E : Type 0} (r : Result T E) (old new : List Member) (m : Member) → None ≡ position (λ x. covers x m) old → OnOk r (new ≡ filter (λ x. not (covers m x)) old ++ m ∷ []) → OnOk r (new ≡ offered covers old m)
+entered_members (Ok x) old new m none e = e ∙ none_offered old m (none_any (λ x. covers x m) old none)
+entered_members (Err x) old new m none e = tt
 
 pub entered_best : {T E : Type 0} (r : Result T E) (old new : List Member) (m : Member) → OnOk r (new ≡ offered covers old m) → OnOk r ((history : List Member) → old ≡ best covers history → new ≡ best covers (history ++ m ∷ []))
 entered_best (Ok x) old new m e = λ history was. best_offer history m new old e was

@@ -1,5 +1,6 @@
 -- Members, and which covers which.
-use Rattle.std.specs.Prelude.{◌≡◌, ℕ, List, Bool, length}
+use Rattle.std.specs.Prelude.{◌≡◌, ℕ, List, Bool, All, length, map}
+use Rattle.dominance_lanes.specs.Columns.{Vectors}
 use Rattle.front_archive.specs.AtMost.{at_most}
 use Rattle.front_archive.specs.declared.member.Member.{Member}
 
@@ -15,3 +16,11 @@ HasWidth width m = length m.vector ≡ width
 pub record ArchiveValue : Type 0 where
   pub width : ℕ
   pub members : List Member
+
+abbrev pub vectors_of : List Member → List (List ℕ)
+vectors_of members = map (λ m. m.vector) members
+
+-- columns keep the vectors of members, in their order
+pub record AreColumnsOf (members : List Member) (columns : Vectors) : Type 0 where
+  pub same : columns.vectors ≡ vectors_of members
+  pub widths : All (HasWidth columns.width) members

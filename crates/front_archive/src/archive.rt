@@ -1,13 +1,18 @@
 //! The archive, and what becomes of an offer.
+//!
+//! The vector of each member stands a second time, in columns, at the member's place. Whatever is asked of all vectors is
+//! asked of the columns; the members only follow.
 
-ghost use Rattle.std.specs.Prelude.{◌≡◌, ℕ, ◌≤◌, ◌++◌, List, [], ◌∷◌, All, length, filter, position, not, vec_len, vec_capacity, IfOk, OnOk, OnErr};
+ghost use Rattle.std.specs.Prelude.{◌≡◌, ◌<◌, ◌++◌, List, [], ◌∷◌, All, length, filter, position, not, vec_len, IfOk, OnOk, OnErr};
+ghost use Rattle.dominance_lanes.specs.Columns.{unmarked};
 ghost use Rattle.front_archive.specs.Best.{best, offered};
-ghost use Rattle.front_archive.specs.Members.{covers, HasWidth};
+ghost use Rattle.front_archive.specs.Members.{covers, HasWidth, AreColumnsOf};
 ghost use Rattle.front_archive.specs.Offers.{Answers};
 ghost use Rattle.front_archive.specs.declared.member.Member.{Member};
 ghost use Rattle.front_archive.specs.declared.archive.Offer.{Offer};
 
-use crate::member::{Member, is_covering};
+use crate::member::Member;
+use dominance_lanes::Columns;
 use std::alloc::{AllocError, Global};
 use std::marker::Model;
 
@@ -23,48 +28,51 @@ pub enum Offer {
 /// The best of the members that were offered, with vectors of so many numbers.
 #[derive(Drop)]
 pub struct Archive {
-    width: usize,
+    alloc: Global,
+    columns: Columns,
     members: Vec<Member>,
 }
 
 impl Model for Archive {
-    ghost use Rattle.std.specs.Prelude.{All};
-    ghost use Rattle.front_archive.specs.Members.{ArchiveValue, HasWidth};
+    ghost use Rattle.front_archive.specs.Members.{ArchiveValue, AreColumnsOf};
 
     ghost Value = { ArchiveValue };
 
-    ghost view = { λ a. record { width = a.width; members = a.members.items } };
+    ghost view = { λ a. record { width = a.columns.width; members = a.members.items } };
 
-    ghost invariant = { λ a. All (HasWidth a.width) a.members.items };
+    ghost invariant = { λ a. AreColumnsOf a.members.items a.columns };
 }
 
-/// The place of the first member that covers `m`.
-fn first_covering(members: &[Member], m: &Member) -> Option<usize>
-    ensures { result ≡ position (λ x. covers x m.now) members.now }
+/// Drops the marked members. The others keep their order.
+fn drop_marked(members: &mut Vec<Member>, marks: &[bool])
+    requires { length marks.now ≡ vec_len members.old }
+    ensures { members.new.items ≡ unmarked marks.now members.old.items }
 {
-    members.iter().position(|x| is_covering(x, m))
+    let mut kept = 0;
+    for (k, mark) in marks.iter().enumerate() {
+        if !*mark {
+            members.swap(kept, k);
+            kept += 1;
+        }
+    }
+    members.truncate(kept);
 }
 
-/// Drops the members that `m` covers.
-fn drop_covered(members: &mut Vec<Member>, m: &Member)
-    ensures items { members.new.items ≡ filter (λ x. not (covers m.now x)) members.old.items }
-    ensures fewer { vec_len members.new ≤ vec_len members.old }
-    ensures capacity { vec_capacity members.new ≡ vec_capacity members.old }
+/// Drops the members that the last one covers, and their vectors, but keeps the last one. Each member has a mark, and what the
+/// marks were before doesn't count.
+fn drop_covered(columns: &mut Columns, members: &mut Vec<Member>, marks: &mut [bool])
+    requires some { 0 < vec_len members.old }
+    requires places { length marks.old ≡ vec_len members.old }
+    requires same { AreColumnsOf members.old.items columns.old }
+    ensures items { (before : List Member) (m : Member) → members.old.items ≡ before ++ m ∷ [] → members.new.items ≡ filter (λ x. not (covers m x)) before ++ m ∷ [] }
+    ensures same { AreColumnsOf members.new.items columns.new }
+    ensures width { columns.new.width ≡ columns.old.width }
 {
-    members.retain(|x| !is_covering(m, x));
-}
-
-/// Takes in a member that none covers.
-fn enter(members: &mut Vec<Member>, m: Member) -> Result<Offer, AllocError>
-    ensures entered { IfOk result (λ o. o ≡ Offer.Entered) }
-    ensures items { OnOk result (members.new.items ≡ filter (λ x. not (covers m x)) members.old.items ++ m ∷ []) }
-    ensures unchanged { OnErr result (members.new.items ≡ members.old.items) }
-    ensures widths { (width : ℕ) → All (HasWidth width) members.old.items → length m.vector ≡ width → All (HasWidth width) members.new.items }
-{
-    members.try_reserve(1)?;
-    drop_covered(members, &m);
-    members.push(m)?;
-    Ok(Offer::Entered)
+    let last = members.len() - 1;
+    columns.mark_above(members[last].vector.numbers(), marks);
+    marks[last] = false;
+    columns.keep(marks);
+    drop_marked(members, marks);
 }
 
 impl Archive {
@@ -74,7 +82,8 @@ impl Archive {
         ensures empty { result.members ≡ [] }
     {
         Archive {
-            width,
+            alloc,
+            columns: Columns::new(alloc, width),
             members: Vec::new(alloc),
         }
     }
@@ -85,6 +94,34 @@ impl Archive {
         ensures widths { All (HasWidth self.now.width) self.now.members }
     {
         &self.members
+    }
+
+    /// The place of the first member that covers `m`.
+    fn first_covering(&self, m: &Member) -> Option<usize>
+        requires { length m.now.vector ≡ self.now.width }
+        ensures { result ≡ position (λ x. covers x m.now) self.now.members }
+    {
+        self.columns.first_below(m.vector.numbers())
+    }
+
+    /// Takes in a member that none covers. It is put behind the others before any goes, since its place in the columns is the
+    /// last thing that may want memory.
+    fn enter(&mut self, m: Member) -> Result<Offer, AllocError>
+        requires { length m.vector ≡ self.old.width }
+        ensures entered { IfOk result (λ o. o ≡ Offer.Entered) }
+        ensures members { OnOk result (self.new.members ≡ filter (λ x. not (covers m x)) self.old.members ++ m ∷ []) }
+        ensures width { self.new.width ≡ self.old.width }
+        ensures unchanged { OnErr result (self.new ≡ self.old) }
+    {
+        let Some(places) = self.members.len().checked_add(1) else {
+            return Err(AllocError);
+        };
+        let mut marks = vec![in self.alloc; false; places]?;
+        self.members.try_reserve(1)?;
+        self.columns.push(m.vector.numbers())?;
+        self.members.push(m)?;
+        drop_covered(&mut self.columns, &mut self.members, &mut marks);
+        Ok(Offer::Entered)
     }
 
     /// Offers a member. Where a kept vector is at most its vector in each place, nothing changes; else it enters, and the
@@ -98,9 +135,9 @@ impl Archive {
         ensures width { self.new.width ≡ self.old.width }
         ensures unchanged { OnErr result (self.new ≡ self.old) }
     {
-        match first_covering(&self.members, &m) {
+        match self.first_covering(&m) {
             Some(p) => Ok(Offer::Covered(p)),
-            None => enter(&mut self.members, m),
+            None => self.enter(m),
         }
     }
 }

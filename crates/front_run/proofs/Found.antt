@@ -59,8 +59,9 @@ finds back s wanted budget found front log ends.Complete outcome given few prefi
   exact = exact refl;
   proof = proof_text log.lines;
   accepted = accepted refl;
-  lines = of_lines back (LinesFind found wanted.budget) s log.lines (legal_refuting s (vectors_in found) log.lines says.refute) (record {
+  lines = of_lines back (LinesFind s found wanted.budget) s log.lines (legal_refuting s (vectors_in found) log.lines says.refute) (record {
     covers = covers;
+    last = says.last;
     within = λ n is. within_given wanted.budget budget (derived_count log.lines) n given says.within is;
   });
   writes = writes;

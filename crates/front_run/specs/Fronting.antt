@@ -12,7 +12,7 @@ use Rattle.result_text.specs.Fronts.{FrontValue, front_text}
 use Rattle.front_model.specs.Fronts.{IsFrontOf}
 use Rattle.front_model.specs.Proofs.{AcceptsTexts}
 use Rattle.front_lists.specs.Lists.{FoundPrefix, FoundWhole, AreUndominated, vectors_in, covers_of}
-use Rattle.front_search.specs.Searches.{IsBelowBound}
+use Rattle.front_search.specs.Searches.{IsBelowBound, LastContradicts}
 use Rattle.run_base.specs.After.{Makes}
 use Rattle.run_base.specs.Worlds.{World, AfterSpec}
 use Rattle.run_base.specs.declared.outcome.Ending.TheVariants.{Done, Budget}
@@ -35,9 +35,10 @@ complete_text entries = codes "front complete " ++ decimal entries ++ codes "\n"
 abbrev pub open_text : ℕ → List ℕ
 open_text entries = codes "front open " ++ decimal entries ++ codes "\n"
 
--- the lines of a proof have the found vectors as covers, in order, and there are no more derived ones than the budget, if one is given
-pub record LinesFind (found : List EntryValue) (budget : Option ℕ) (ls : List Line) : Type 0 where
+-- the lines of a proof have the found vectors as covers, in order, the last derived one gives `0 >= 1`, and there are no more of these than the budget, if one is given
+pub record LinesFind (s : SpecValue) (found : List EntryValue) (budget : Option ℕ) (ls : List Line) : Type 0 where
   pub covers : covers_of ls ≡ vectors_in found
+  pub last : LastContradicts s ls
   pub within : (n : ℕ) → budget ≡ Some n → derived_count ls ≤ n
 
 -- the same of honest lines, of which as many are derived as the budget has
@@ -56,7 +57,7 @@ pub record FindsAll (wanted : WantedValue) (s : SpecValue) (outcome : Outcome) :
   pub exact : IsFrontOf s front
   pub proof : List ℕ
   pub accepted : AcceptsTexts s (front_text s front) proof
-  pub lines : OfFile (LinesFind found wanted.budget) proof
+  pub lines : OfFile (LinesFind s found wanted.budget) proof
   pub writes : outcome.writes ≡ both_files wanted (front_text s front) proof
   pub says : outcome.text.items ≡ complete_text (length front.entries)
 

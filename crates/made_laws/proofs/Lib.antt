@@ -7,3 +7,12 @@ pub mod Lines
 pub mod Parts
 pub mod Whole
 pub mod Numbers
+pub mod Named
+pub mod Forward
+pub mod Sizes
+pub mod Made
+pub mod Accepted
+pub mod Carried
+pub mod Carrying
+pub mod Ended
+pub mod Joined

@@ -49,7 +49,7 @@ weight key n = record { key = key; amount = amount n }
 abbrev pub resource_of : ℕ → ℕ → Statement
 resource_of i cost = Resource (resource_name i) (weight (codes "cost") cost ∷ [])
 
-resource_formed : (i cost : ℕ) → cost < 100 → form_of (resource_words i cost) ≡ Some (plain (resource_of i cost))
+pub resource_formed : (i cost : ℕ) → cost < 100 → form_of (resource_words i cost) ≡ Some (plain (resource_of i cost))
 unfolding form_of keyword_of resource_form amounts
 resource_formed i cost lt = rw ((number cost lt).read) refl
 
@@ -89,7 +89,7 @@ link_between e a b cost = codes "link" ∷ link_name e ∷ resource_name a ∷ c
 abbrev pub link_of : ℕ → ℕ → ℕ → ℕ → Statement
 link_of e a b cost = Link (link_name e) (resource_name a) (resource_name b) true (weight (codes "cost") cost ∷ [])
 
-link_formed : (e a b cost : ℕ) → cost < 100 → form_of (link_between e a b cost) ≡ Some (plain (link_of e a b cost))
+pub link_formed : (e a b cost : ℕ) → cost < 100 → form_of (link_between e a b cost) ≡ Some (plain (link_of e a b cost))
 unfolding form_of keyword_of link_form amounts
 link_formed e a b cost lt = rw ((number cost lt).read) refl
 
@@ -132,7 +132,7 @@ link_step r e a b cost joined few lt =
 abbrev pub traffic_of : ℕ → Statement
 traffic_of e = Traffic (link_name e) (weight (codes "energy") 1 ∷ [])
 
-traffic_formed : (e : ℕ) → form_of (traffic_words e) ≡ Some (plain (traffic_of e))
+pub traffic_formed : (e : ℕ) → form_of (traffic_words e) ≡ Some (plain (traffic_of e))
 unfolding form_of keyword_of traffic_form amounts
 traffic_formed e = let n = number 1 (omega arith) in rw (n.read) refl
 
@@ -157,7 +157,7 @@ traffic_step r e few =
 
 -- ---- tasks
 
-hops_formed : (n : ℕ) → n < 100 → form_of (codes "hops" ∷ decimal n ∷ []) ≡ Some (plain (Hops None n))
+pub hops_formed : (n : ℕ) → n < 100 → form_of (codes "hops" ∷ decimal n ∷ []) ≡ Some (plain (Hops None n))
 unfolding form_of keyword_of hops_form
 hops_formed n lt = let whole = whole_of-decimal n (omega (arith, lt)) in rw whole refl
 
@@ -176,7 +176,7 @@ hops_step r l side few =
       declared = same_then r l false;
     }
 
-task_formed : (i : ℕ) → form_of (task_words i) ≡ Some (plain (Task (task_name i)))
+pub task_formed : (i : ℕ) → form_of (task_words i) ≡ Some (plain (Task (task_name i)))
 unfolding form_of keyword_of task_form
 task_formed i = refl
 
@@ -207,7 +207,7 @@ message_with two i sender = codes "message" ∷ message_name i ∷ task_name sen
 abbrev pub message_of : Bool → ℕ → ℕ → Statement
 message_of two i sender = Message (message_name i) (task_name sender) (receiving two i)
 
-message_formed : (two : Bool) (i sender : ℕ) → form_of (message_with two i sender) ≡ Some (plain (message_of two i sender))
+pub message_formed : (two : Bool) (i sender : ℕ) → form_of (message_with two i sender) ≡ Some (plain (message_of two i sender))
 unfolding form_of keyword_of message_form
 message_formed true i sender = refl
 message_formed false i sender = refl
@@ -241,7 +241,7 @@ message_step r l two i sender lt low = record {
 abbrev pub option_of : ℕ → ℕ → ℕ → ℕ → Statement
 option_of t r time energy = Map (task_name t) (resource_name r) (Some (amount time)) (weight (codes "energy") energy ∷ [])
 
-option_formed : (t r time energy : ℕ) → time < 100 → energy < 100 → form_of (map_words t r time energy) ≡ Some (plain (option_of t r time energy))
+pub option_formed : (t r time energy : ℕ) → time < 100 → energy < 100 → form_of (map_words t r time energy) ≡ Some (plain (option_of t r time energy))
 unfolding form_of keyword_of map_form amounts
 option_formed t r time energy lt low =
     let n = number time lt in

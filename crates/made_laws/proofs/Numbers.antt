@@ -20,13 +20,13 @@ rotated x by lt =
 word_small : (g : Lcg) → word_of g < 2 ^ 32
 word_small g = rotated _ _ (mod-lt _ (omega arith))
 
-words_small : (number : ℕ) → AreOf32Bits (words_of_seed number)
+pub words_small : (number : ℕ) → AreOf32Bits (words_of_seed number)
 words_small number k = word_small (after_words next_of k (pcg32_of_seed (pcg32_seed 16 number)))
 
-some_side : (number : ℕ) → 2 ≤ side_of number
+pub some_side : (number : ℕ) → 2 ≤ side_of number
 some_side number = omega arith
 
-few_side : (number : ℕ) → side_of number ≤ 5
+pub few_side : (number : ℕ) → side_of number ≤ 5
 few_side number = omega arith
 
 pub made_short : MadeTextIsShort

@@ -1,5 +1,5 @@
 -- Lines of an architecture file, one after another: what is declared before each, and after it.
-use Rattle.std.proofs.Common.{◌≡◌, ℕ, ◌+◌, List, [], ◌∷◌, ◌++◌, Some, None, Option, refl, sym, ap, ◌∙◌, subst}
+use Rattle.std.proofs.Common.{◌≡◌, ℕ, ◌+◌, List, [], ◌∷◌, ◌++◌, Some, None, Option, refl, sym, ap, ◌∙◌, subst, append-nil, append_assoc}
 use Rattle.std.proofs.lemmas.List.{flat_map_more, map_push}
 use Rattle.line_words.specs.Rules.{Words, Statement as Line, first_broken}
 use Rattle.arch_reader.specs.Shapes.{form_of, plain}
@@ -11,7 +11,7 @@ use Rattle.arch_reader.specs.declared.statement.ArchLine.{ArchLine}
 use Rattle.arch_reader.specs.declared.form.Form.{Form}
 use Rattle.arch_reader.specs.declared.seen.Seen.{Seen}
 use Rattle.arch_reader.proofs.Declared.{seen-push}
-use Rattle.made_laws.specs.Reading.{BreakNone}
+use Rattle.made_laws.specs.Reading.{numbered, BreakNone}
 use Rattle.made_laws.specs.Unbroken.{arch_tests}
 use Rattle.made_laws.proofs.Short.{IsShortLine, AreShortLines, line_of_short}
 
@@ -54,6 +54,15 @@ declared_then before s t number ws so h =
     ∙ seen-push (statements_in (lines_of before)) h.statement
     ∙ ap (λ (x : Seen). after x h.statement) so
     ∙ h.declared
+
+-- what is declared after all of them
+pub seen_after : (number : ℕ) (before : List Line) (s t : Seen) (ls : List Words) → seen (statements_in (lines_of before)) ≡ s → Goes s ls t
+    → seen (statements_in (lines_of (before ++ numbered number ls))) ≡ t
+seen_after number before s t [] so g = ap (λ (bs : List Line). seen (statements_in (lines_of bs))) (append-nil before) ∙ so ∙ g
+seen_after number before s t (ws ∷ ls) so g =
+    let l : Line = record { number = number; words = ws } in
+    ap (λ (bs : List Line). seen (statements_in (lines_of bs))) (sym (append_assoc before (l ∷ []) (numbered (number + 1) ls)))
+    ∙ seen_after (number + 1) (before ++ l ∷ []) g.0 t ls (declared_then before s g.0 number ws so g.1) g.2
 
 pub break_none : (header : Line) (number : ℕ) (before : List Line) (s t : Seen) (ls : List Words)
     → seen (statements_in (lines_of before)) ≡ s

@@ -83,7 +83,7 @@ mesh (suc (suc (suc (suc (suc (suc n)))))) some few = absurd (omega (arith, few)
 
 -- ---- all lines after the header
 
-abbrev nothing : Seen
+abbrev pub nothing : Seen
 nothing = record { objectives = []; resources = []; links = []; clock = None; is_timed = false }
 
 abbrev cost_alone : Seen
@@ -103,7 +103,7 @@ link_pair r words e a b h few joined =
     (having r (e + 1) false, link_step r e a b (1 + draw words 9 0) (joined_of r a b joined) few (omega (arith, cost)), one_step (having r (e + 1) false) (having r (e + 1) false) (traffic_words e) (traffic_step r e few))
 
 -- all parts after the objectives
-abbrev parts_of : ℕ → Stream → List Words
+abbrev pub parts_of : ℕ → Stream → List Words
 parts_of side words =
     let joined = all_ends side in
     let messages = messages_of (tasks_of side) in
@@ -159,13 +159,13 @@ parts_go side words few m h =
     goes_on start linked end (a ++ b ++ c ++ d) e sent (maps_part side l maps_words m (later_words (r + l + length messages) words h))
 
 -- the objectives before them
-abbrev later_lines : ℕ → Stream → List Words
+abbrev pub later_lines : ℕ → Stream → List Words
 later_lines side words = (codes "objective" ∷ codes "cost" ∷ []) ∷ (codes "objective" ∷ codes "energy" ∷ []) ∷ parts_of side words
 
-abbrev at_last : ℕ → Seen
+abbrev pub at_last : ℕ → Seen
 at_last side = having (resources_of side) (length (all_ends side)) true
 
-later_go : (side : ℕ) (words : Stream) → side ≤ 5 → IsMesh side → AreOf32Bits words → Goes nothing (later_lines side words) (at_last side)
+pub later_go : (side : ℕ) (words : Stream) → side ≤ 5 → IsMesh side → AreOf32Bits words → Goes nothing (later_lines side words) (at_last side)
 later_go side words few m h = (cost_alone, cost_step, (having 0 0 false, energy_step, parts_go side words few m h))
 
 -- ---- the whole file
