@@ -6,7 +6,7 @@ use Rattle.genotype.specs.Draws.{below, random_genes, child_genes, after_gene, a
 use Rattle.front_archive.specs.declared.member.Member.{Member}
 use Rattle.evo_explore.specs.Breeding.{genotype_of, genotype_at, HasGenes, bred, after_bred}
 
-pub genotype_there : (members : List Member) (p : ℕ) (d : Member) → p < length members → genotype_at members p ≡ (get_or members p d).genotype
+genotype_there : (members : List Member) (p : ℕ) (d : Member) → p < length members → genotype_at members p ≡ (get_or members p d).genotype
 genotype_there members p d l = get_or-map genotype_of members p d [] l
 
 pub length-random : {S : Type 0} (gives : S → ℕ) (after : S → S) (n : ℕ) (s : S) → length (random_genes gives after n s) ≡ n
@@ -21,11 +21,14 @@ length-child gives after n (x ∷ xs) (y ∷ ys) s e = ap suc (length-child give
 -- ---- the child of two members that are drawn
 
 -- the member at a drawn place, by the state of the words
-drawn_at : {S : Type 0} (gives : S → ℕ) (members : List Member) (count p : ℕ) (d : Member) (g : List GeneValue) (s t : S) → count ≡ length members → p ≡ below gives count s → p < length members → g ≡ (get_or members p d).genotype → s ≡ t → g ≡ genotype_at members (below gives (length members) t)
+drawn_at : {S : Type 0} (gives : S → ℕ) (members : List Member) (count p : ℕ) (d : Member) (g : List GeneValue) (s t : S) → count ≡ length members
+    → p ≡ below gives count s → p < length members → g ≡ (get_or members p d).genotype → s ≡ t → g ≡ genotype_at members (below gives (length members) t)
 drawn_at gives members count p d g s t all place l is same =
     is ∙ (sym (genotype_there members p d l) ∙ ap (genotype_at members) (place ∙ (ap (λ (k : ℕ). below gives k s) all ∙ ap (below gives (length members)) same)))
 
-pub bred_is : {S : Type 0} (gives : S → ℕ) (after : S → S) (n count p q : ℕ) (members : List Member) (d e : Member) (a b : List GeneValue) (s t u : S) → All (HasGenes n) members → count ≡ length members → p ≡ below gives count s → t ≡ after s → q ≡ below gives count t → u ≡ after t → p < length members → q < length members → a ≡ (get_or members p d).genotype → b ≡ (get_or members q e).genotype → child_genes gives after (length a) a b u ≡ bred gives after n members s
+pub bred_is : {S : Type 0} (gives : S → ℕ) (after : S → S) (n count p q : ℕ) (members : List Member) (d e : Member) (a b : List GeneValue) (s t u : S)
+    → All (HasGenes n) members → count ≡ length members → p ≡ below gives count s → t ≡ after s → q ≡ below gives count t → u ≡ after t → p < length members
+    → q < length members → a ≡ (get_or members p d).genotype → b ≡ (get_or members q e).genotype → child_genes gives after (length a) a b u ≡ bred gives after n members s
 unfolding bred
 bred_is gives after n count p q members d e a b s t u genes all first t_is second u_is l k a_is b_is =
     let long : length a ≡ n = ap length a_is ∙ genes p d l in
@@ -35,7 +38,9 @@ bred_is gives after n count p q members d e a b s t u genes all first t_is secon
     ∙ (ap₂ (λ (v w : List GeneValue). child_genes gives after n v w u) x y
     ∙ ap (child_genes gives after n (genotype_at members (below gives (length members) s)) (genotype_at members (below gives (length members) (after s)))) (u_is ∙ ap after t_is))
 
-pub after_bred_is : {S : Type 0} (gives : S → ℕ) (after : S → S) (n count p : ℕ) (members : List Member) (d : Member) (a : List GeneValue) (s t u : S) → All (HasGenes n) members → count ≡ length members → p ≡ below gives count s → t ≡ after s → u ≡ after t → p < length members → a ≡ (get_or members p d).genotype → after_child gives after (length a) a u ≡ after_bred gives after n members s
+pub after_bred_is : {S : Type 0} (gives : S → ℕ) (after : S → S) (n count p : ℕ) (members : List Member) (d : Member) (a : List GeneValue) (s t u : S)
+    → All (HasGenes n) members → count ≡ length members → p ≡ below gives count s → t ≡ after s → u ≡ after t → p < length members → a ≡ (get_or members p d).genotype
+    → after_child gives after (length a) a u ≡ after_bred gives after n members s
 unfolding after_bred
 after_bred_is gives after n count p members d a s t u genes all first t_is u_is l a_is =
     let long : length a ≡ n = ap length a_is ∙ genes p d l in

@@ -1,8 +1,8 @@
 -- A place stands once in a rising list.
-use Rattle.std.proofs.Common.{◌≡◌, ◌≢◌, ℕ, zero, suc, ◌+◌, ◌*◌, ◌^◌, ◌<◌, ◌≤◌, List, [], ◌∷◌, length, get_or, cond, eqb, Bool, true, false, inl, inr, ◌∙◌, ap, sym, subst, refl, arith}
+use Rattle.std.proofs.Common.{◌≡◌, ◌≢◌, ℕ, zero, suc, ◌+◌, ◌*◌, ◌<◌, List, [], ◌∷◌, get_or, cond, eqb, Bool, inl, inr, ◌∙◌, ap, refl, arith}
 use Rattle.std.proofs.lemmas.Bool.Decides.{eqb_tells}
 use Rattle.std.proofs.lemmas.List.Sums.{sum_by-cons}
-use Rattle.evo_explore.specs.Counts.{times, HasRoom, AreRising}
+use Rattle.evo_explore.specs.Counts.{times}
 use Rattle.evo_explore.specs.Laws.{ChosenOnce, OthersNever, RoomForRising}
 
 times_cons : (k p : ℕ) (ps : List ℕ) → times k (p ∷ ps) ≡ cond (eqb p k) 1 0 + times k ps
@@ -31,7 +31,8 @@ chosen_once (p ∷ ps) zero rising l =
     times_here p p ps refl ∙ omega (arith, none)
 chosen_once (p ∷ ps) (suc i) rising l =
     let above : p < get_or ps i 0 = rising 0 (suc i) (omega arith) l in
-    times_there (get_or ps i 0) p ps (λ same. omega (arith, above, same)) ∙ chosen_once ps i (λ j k below within. rising (suc j) (suc k) (omega (arith, below)) (omega (arith, within))) (omega (arith, l))
+    times_there (get_or ps i 0) p ps (λ same. omega (arith, above, same))
+    ∙ chosen_once ps i (λ j k below within. rising (suc j) (suc k) (omega (arith, below)) (omega (arith, within))) (omega (arith, l))
 
 pub room_for_rising : RoomForRising
 room_for_rising rounds chosen counts rising room i l =

@@ -11,7 +11,7 @@ use Rattle.evo_explore.specs.Counts.{times, RoseBy, RoseAtMost, HasRoom, picked}
 eqb_same : (p : ℕ) → eqb p p ≡ true
 eqb_same p = eq-eqb p p refl
 
-pub times_grow : (k : ℕ) (ps : List ℕ) (i : ℕ) → times k (take i ps) ≤ times k ps
+times_grow : (k : ℕ) (ps : List ℕ) (i : ℕ) → times k (take i ps) ≤ times k ps
 times_grow k ps i = sum_by-take-le (λ p. cond (eqb p k) 1 0) ps i
 
 times_more : (k : ℕ) (ps : List ℕ) (i : ℕ) → i < length ps → times k (take (i + 1) ps) ≡ times k (take i ps) + cond (eqb (get_or ps i 0) k) 1 0
@@ -24,7 +24,8 @@ times_more_no : (k : ℕ) (ps : List ℕ) (i : ℕ) → i < length ps → eqb (g
 times_more_no k ps i h e = times_more k ps i h ∙ ap (λ b. times k (take i ps) + cond b 1 0) e ∙ omega arith
 
 -- the place p is measured as the next one
-pub rose_more : (ps old mid new : List ℕ) (i p : ℕ) → i < length ps → p ≡ get_or ps i 0 → p < length mid → new ≡ set mid p (get_or mid p 0 + 1) → RoseBy 1 (take i ps) old mid → RoseBy 1 (take (i + 1) ps) old new
+pub rose_more : (ps old mid new : List ℕ) (i p : ℕ) → i < length ps → p ≡ get_or ps i 0 → p < length mid → new ≡ set mid p (get_or mid p 0 + 1)
+    → RoseBy 1 (take i ps) old mid → RoseBy 1 (take (i + 1) ps) old new
 rose_more ps old mid new i p h e room is r = subst (RoseBy 1 (take (i + 1) ps) old) (sym is) record {
   each = λ k. elim (eqb_tells (get_or ps i 0) k) [
     | inl y ↦ (let q : k ≡ p = sym (y.1) ∙ sym e in subst (λ n. get_or (set mid p (get_or mid p 0 + 1)) n 0 ≡ get_or old n 0 + 1 * times n (take (i + 1) ps)) (sym q)
@@ -46,8 +47,12 @@ room_for ps old mid i p h e r room =
     omega (arith, times_more_yes p ps i h e, r.each p, here, times_grow p ps (i + 1))
 
 -- the answer of the place is the next number
-pub picked_more : (values now ps out new : List ℕ) (i v : ℕ) → i < length ps → v ≡ get_or now (get_or ps i 0) 0 → now ≡ values → new ≡ out ++ v ∷ [] → out ≡ picked values (take i ps) → new ≡ picked values (take (i + 1) ps)
-picked_more values now ps out new i v h e same is so = let more = map_more (λ p. get_or values p 0) ps i 0 h in let here : v ≡ get_or values (get_or ps i 0) 0 = e ∙ ap (λ xs. get_or xs (get_or ps i 0) 0) same in is ∙ ap (λ xs. xs ++ v ∷ []) so ∙ ap (λ n. picked values (take i ps) ++ n ∷ []) here ∙ sym more
+pub picked_more : (values now ps out new : List ℕ) (i v : ℕ) → i < length ps → v ≡ get_or now (get_or ps i 0) 0 → now ≡ values → new ≡ out ++ v ∷ []
+    → out ≡ picked values (take i ps) → new ≡ picked values (take (i + 1) ps)
+picked_more values now ps out new i v h e same is so =
+    let more = map_more (λ p. get_or values p 0) ps i 0 h in
+    let here : v ≡ get_or values (get_or ps i 0) 0 = e ∙ ap (λ xs. get_or xs (get_or ps i 0) 0) same in
+    is ∙ ap (λ xs. xs ++ v ∷ []) so ∙ ap (λ n. picked values (take i ps) ++ n ∷ []) here ∙ sym more
 
 pub place_below : {X : Type 0} (f : X → ℕ) (xs : List X) (ps : List ℕ) (i : ℕ) {m : ℕ} → i < length ps → All (λ p. p < m) ps → m ≡ length xs → get_or ps i 0 < length (map f xs)
 place_below f xs ps i {m} h all e = let below = All-get_or (λ p. p < m) ps i 0 h all in omega (arith, below, length-map xs f)
@@ -57,7 +62,10 @@ round_more n ps old mid new r s = record { each = λ k. omega (arith, r.each k, 
 
 -- a round that was begun, of m rounds
 pub round_at_most : (n m : ℕ) (ps old mid new : List ℕ) → n < m → RoseBy n ps old mid → RoseAtMost 1 ps mid new → RoseAtMost m ps old new
-round_at_most n m ps old mid new h r s = record { low = λ k. omega (arith, r.each k, s.low k); high = λ k. let more : (n + 1) * times k ps ≤ m * times k ps = mul-le-mul_right (times k ps) (omega arith) in omega (arith, r.each k, s.high k, more) }
+round_at_most n m ps old mid new h r s = record {
+  low = λ k. omega (arith, r.each k, s.low k);
+  high = λ k. let more : (n + 1) * times k ps ≤ m * times k ps = mul-le-mul_right (times k ps) (omega arith) in omega (arith, r.each k, s.high k, more);
+}
 
 -- there is room for one round more
 pub round_room : (n m : ℕ) (ps old mid : List ℕ) → n < m → RoseBy n ps old mid → HasRoom m ps old → HasRoom 1 ps mid

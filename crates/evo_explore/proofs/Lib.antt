@@ -5,3 +5,4 @@ pub mod Logs
 pub mod Chosen
 pub mod Exploring
 pub mod Rounds
+pub mod Unique

@@ -1,5 +1,5 @@
 -- What a log shows it shows when it has gone on; and a log has too few derived lines for the greatest budget.
-use Rattle.std.proofs.Common.{◌≡◌, ◌≢◌, ℕ, suc, ◌^◌, ◌<◌, ◌≤◌, ◌++◌, Bool, true, cond, Option, Some, List, [], ◌∷◌, length, All, refl, sym, ap, ◌∙◌, subst, arith, append_assoc, append-nil}
+use Rattle.std.proofs.Common.{◌≡◌, ℕ, suc, ◌^◌, ◌<◌, ◌≤◌, ◌++◌, Bool, true, cond, List, [], ◌∷◌, length, All, refl, sym, ap, ◌∙◌, subst, arith, append_assoc, append-nil}
 use Rattle.std.specs.List.{count_by}
 use Rattle.std.proofs.lemmas.List.Elements.{All-cons}
 use Rattle.pb_rules.specs.Linear.{Linear}
@@ -35,9 +35,12 @@ shown_by_more cs ds genes x h v l differs p closed same = h v l differs p (close
 shown_later : (s : SpecValue) (m : Member) (old next new : LogValue) (more : List Line) → Decodes s m old next → new.lines ≡ next.lines ++ more → (f : Frame) → IsFrameOf s f → IsShownBy s f new m
 shown_later s m old next new more d is f g =
     let shown = d.shown f g in
-    let lines : derived_by f new.lines ≡ derived_by f next.lines ++ derived_from f shown.after more = ap (derived_by f) is ∙ derived-append f (base_of f) shown.after next.lines more shown.legal_after in
-    let all : encoding s ++ derived_by f new.lines ≡ (encoding s ++ derived_by f next.lines) ++ derived_from f shown.after more = ap (λ (cs : List Linear). encoding s ++ cs) lines ∙ sym (append_assoc (encoding s) (derived_by f next.lines) (derived_from f shown.after more)) in
-    subst (λ (cs : List Linear). ShowsFirstDesign cs m.genotype (bits_of m.design)) (sym all) (shown_by_more (encoding s ++ derived_by f next.lines) (derived_from f shown.after more) m.genotype (bits_of m.design) shown.lines.shows)
+    let lines : derived_by f new.lines ≡ derived_by f next.lines ++ derived_from f shown.after more =
+    ap (derived_by f) is ∙ derived-append f (base_of f) shown.after next.lines more shown.legal_after in
+    let all : encoding s ++ derived_by f new.lines ≡ (encoding s ++ derived_by f next.lines) ++ derived_from f shown.after more =
+    ap (λ (cs : List Linear). encoding s ++ cs) lines ∙ sym (append_assoc (encoding s) (derived_by f next.lines) (derived_from f shown.after more)) in
+    subst (λ (cs : List Linear). ShowsFirstDesign cs m.genotype (bits_of m.design)) (sym all)
+    (shown_by_more (encoding s ++ derived_by f next.lines) (derived_from f shown.after more) m.genotype (bits_of m.design) shown.lines.shows)
 
 all_shown : (s : SpecValue) (entries : List Member) (old new : LogValue) → AreDecodings s entries old new → (f : Frame) → IsFrameOf s f → All (IsShownBy s f new) entries
 all_shown s [] old new e f g = λ k d l. absurd (omega (arith, l))

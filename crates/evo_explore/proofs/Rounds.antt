@@ -1,12 +1,12 @@
 -- One round: what is drawn, decoded, measured and kept, put together.
-use Rattle.std.proofs.Common.{◌≡◌, ◌≢◌, ℕ, ◌+◌, ◌-◌, ◌*◌, ◌^◌, ◌<◌, ◌≤◌, ◌++◌, not, cond, Bool, true, false, Option, Some, None, List, [], ◌∷◌, length, map, get_or, All, sym, ap, ◌∙◌, subst, refl, arith, append_assoc, length-append}
+use Rattle.std.proofs.Common.{◌≡◌, ◌≢◌, ℕ, ◌+◌, ◌^◌, ◌<◌, ◌≤◌, ◌++◌, not, cond, Bool, true, false, Option, Some, None, List, [], ◌∷◌, length, get_or, All, sym, ap, ◌∙◌, subst, arith, length-append}
 use Rattle.std.specs.List.{list_any, filter}
 use Rattle.std.proofs.lemmas.List.{length-map}
 use Rattle.std.proofs.lemmas.List.Elements.{All-cons, All-append, All-filter}
 use Rattle.std.proofs.lemmas.List.FromFn.{length-map-range_with_len}
 use Rattle.pb_rules.specs.Frames.{derived_count}
 use Rattle.proof_log.specs.Log.{LogValue}
-use Rattle.spec_model.specs.Spec.{SpecValue, Bits, bits_of, below, design_variables}
+use Rattle.spec_model.specs.Spec.{SpecValue, Bits, bits_of, design_variables}
 use Rattle.spec_model.specs.Genotypes.{GeneValue, HasNoValid}
 use Rattle.spec_model.specs.Vectors.{vector_at, vector_of}
 use Rattle.ordered_solver.specs.Answers.{GoesOnDerived, new_lines}
@@ -26,16 +26,18 @@ use Rattle.evo_explore.proofs.Logs.{budget_unreached}
 -- ---- the decoder's answer
 
 -- the greatest budget isn't used up
-pub never_used_up : (s : SpecValue) (old new : LogValue) (budget : ℕ) (decoded : Decoded) → LineCountSays s budget (length (new_lines old new)) decoded → GoesOnDerived old new → 2 ^ 63 ≤ budget → derived_count new.lines < 2 ^ 63 → decoded ≢ Budget
+pub never_used_up : (s : SpecValue) (old new : LogValue) (budget : ℕ) (decoded : Decoded) → LineCountSays s budget (length (new_lines old new)) decoded
+    → GoesOnDerived old new → 2 ^ 63 ≤ budget → derived_count new.lines < 2 ^ 63 → decoded ≢ Budget
 never_used_up s old new budget decoded says goes large small is =
     let used = subst (LineCountSays s budget (length (new_lines old new))) is says in
     budget_unreached old new budget goes used.0 large small
 
 -- the first valid design, where the answer has one
-pub first_design : (t s : SpecValue) (genes : List GeneValue) (answer : Option (List Bool)) (design : List Bool) → t ≡ s → answer ≡ Some design → DecodedSays t genes (answer_of answer) → IsFirstDesign s genes design
+pub first_design : (t s : SpecValue) (genes : List GeneValue) (answer : Option (List Bool)) (design : List Bool) → t ≡ s → answer ≡ Some design
+    → DecodedSays t genes (answer_of answer) → IsFirstDesign s genes design
 first_design t s genes answer design same is says = subst (λ (u : SpecValue). IsFirstDesign u genes design) same (subst (λ (a : Option (List Bool)). DecodedSays t genes (answer_of a)) is says)
 
-pub no_design : (t s : SpecValue) (genes : List GeneValue) (answer : Option (List Bool)) → t ≡ s → answer ≡ None → DecodedSays t genes (answer_of answer) → HasNoValid s
+no_design : (t s : SpecValue) (genes : List GeneValue) (answer : Option (List Bool)) → t ≡ s → answer ≡ None → DecodedSays t genes (answer_of answer) → HasNoValid s
 no_design t s genes answer same is says = subst HasNoValid same (subst (λ (a : Option (List Bool)). DecodedSays t genes (answer_of a)) is says)
 
 -- ---- counts, vectors and members
@@ -43,9 +45,6 @@ no_design t s genes answer same is says = subst HasNoValid same (subst (λ (a : 
 -- a place that wasn't counted was counted at most so often
 pub none_rose : (n : ℕ) (ps xs : List ℕ) → RoseAtMost n ps xs xs
 none_rose n ps xs = record { low = λ k. omega arith; high = λ k. omega arith }
-
-pub counts_same : (n : ℕ) (ps old new : List ℕ) → new ≡ old → RoseAtMost n ps old new
-counts_same n ps old new e = subst (RoseAtMost n ps old) (sym e) (none_rose n ps old)
 
 -- how many numbers the vector of a member has
 pub whole_width : (s : SpecValue) (f : Bits) (vector numbers chosen : List ℕ) → vector ≡ vector_of s f ++ picked numbers chosen → length vector ≡ length s.objectives + length chosen
@@ -55,10 +54,11 @@ whole_width s f vector numbers chosen is =
     omega (arith, ap length is, length-append (vector_of s f) (picked numbers chosen), first, later)
 
 -- what holds of the members and of a new one holds after it is offered
-pub all_offered : (P : Member → Type 0) (members : List Member) (m : Member) → All P members → P m → All P (offered covers members m)
+all_offered : (P : Member → Type 0) (members : List Member) (m : Member) → All P members → P m → All P (offered covers members m)
 all_offered P members m all one = elim (list_any (λ (x : Member). covers x m) members) as (λ (b : Bool). All P (cond b members (filter (λ (x : Member). not (covers m x)) members ++ m ∷ []))) [
   | true ↦ all
-  | false ↦ All-append P (filter (λ (x : Member). not (covers m x)) members) (m ∷ []) (All-filter (λ (x : Member). not (covers m x)) P members all) (All-cons P m [] one (λ k d l. absurd (omega (arith, l))))
+  | false ↦ All-append P (filter (λ (x : Member). not (covers m x)) members) (m ∷ [])
+      (All-filter (λ (x : Member). not (covers m x)) P members all) (All-cons P m [] one (λ k d l. absurd (omega (arith, l))))
 ]
 
 pub genes_as : (n k : ℕ) (ms ns : List Member) → n ≡ k → ms ≡ ns → All (HasGenes k) ns → All (HasGenes n) ms
@@ -108,7 +108,8 @@ module _ {S : Type 0} (s : SpecValue) (gives : S → ℕ) (after : S → S) (mea
         vector = vector;
         decodes = record {
           goes_on = goes;
-          shown = subst (λ (u : SpecValue). IsShown u member.genotype old new (First member.design)) same (subst (λ (a : Option (List Bool)). IsShown t member.genotype old new (answer_of a)) is shown);
+          shown = subst (λ (u : SpecValue). IsShown u member.genotype old new (First member.design)) same
+              (subst (λ (a : Option (List Bool)). IsShown t member.genotype old new (answer_of a)) is shown);
         };
         history = history;
         best_are = best_are;

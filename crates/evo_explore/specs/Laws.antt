@@ -1,14 +1,30 @@
--- What the log of a run shows in the end, and how often the places of a rising list are chosen.
+-- That there is one run, what its log shows in the end, and how often the places of a rising list are chosen.
 use Rattle.std.specs.Prelude.{◌≡◌, ◌≢◌, ℕ, ◌+◌, ◌^◌, ◌<◌, ◌≤◌, ◌++◌, List, length, All, slice_index}
 use Rattle.pb_rules.specs.Frames.{Frame, derived_by}
 use Rattle.proof_log.specs.Log.{LogValue}
-use Rattle.spec_model.specs.Spec.{SpecValue, bits_of}
+use Rattle.spec_model.specs.Spec.{SpecValue, Bits, bits_of}
 use Rattle.encode_model.specs.Encoding.{encoding}
 use Rattle.sat_decoder.specs.Decoder.{IsFrameOf}
 use Rattle.sat_decoder.specs.Decoding.{ShowsFirstDesign}
 use Rattle.front_archive.specs.declared.member.Member.{Member}
 use Rattle.evo_explore.specs.Counts.{times, HasRoom, AreRising}
-use Rattle.evo_explore.specs.Run.{AreDecodings, no_lines}
+use Rattle.evo_explore.specs.Run.{AreDecodings, IsRunOf, no_lines}
+use Rattle.evo_explore.specs.declared.run.Run.{Run}
+use Rattle.evo_explore.specs.declared.run.End.{End}
+
+-- two runs found the same, ended alike and left the same words
+pub record AreAlike {S : Type 0} (one other : Run) (left more : S) (d e : End) : Type 0 where
+  pub history : one.history ≡ other.history
+  pub members : one.archive.members ≡ other.archive.members
+  pub end : d ≡ e
+  pub words : left ≡ more
+
+-- there is one run of a specification, of what is measured, of the words and of a number of rounds
+abbrev pub RunIsOne : {S : Type 0} → (S → ℕ) → (S → S) → Type 0
+RunIsOne {S} gives after =
+    (s : SpecValue) (measured : Bits → List ℕ) (start words more : S) (rounds : ℕ) (one other : Run)
+    → IsRunOf s gives after measured start words rounds one → IsRunOf s gives after measured start more rounds other
+    → AreAlike one other words more one.end other.end
 
 -- the encoding and all that a log derives show a member's design to be the first one of its genotype
 abbrev pub IsShownBy : SpecValue → Frame → LogValue → Member → Type 0

@@ -1,6 +1,16 @@
 //! What the definitions imply, as functions that do nothing: the layers above rest on these laws.
 
-ghost use Rattle.evo_explore.specs.Laws.{DecodingsStayShown, ChosenOnce, OthersNever, RoomForRising};
+ghost use Rattle.evo_explore.specs.Laws.{RunIsOne, DecodingsStayShown, ChosenOnce, OthersNever, RoomForRising};
+
+use genotype::Words;
+
+/// There is one run: the specification, what the tools measure, the words and the number of rounds determine what it
+/// finds, how it ends and which words it leaves.
+pub fn law_of_runs<W: Words>(words: &W)
+    ensures { RunIsOne W.gives W.after }
+{
+    let _ = words;
+}
 
 /// In each frame of the specification the whole log of a run shows of each round's design that it is the first.
 pub fn law_of_logs()

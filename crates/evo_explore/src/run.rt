@@ -34,7 +34,9 @@ use std::alloc::{AllocError, Global};
 /// How many rounds a run has, and at which places the tools stand that measure.
 #[derive(Drop)]
 pub struct Params {
+    /// How many rounds there are; 0 is a run without a genotype.
     pub rounds: u64,
+    /// The places of the tools that measure, from 0, in the order in which their numbers stand in a vector.
     pub chosen: Vec<usize>,
 }
 
@@ -50,9 +52,13 @@ pub enum End {
 /// What a run found: the vectors by round, the best members, and the log of all its decodings.
 #[derive(Drop)]
 pub struct Run {
+    /// The vectors by round, none where no design is valid.
     pub history: History,
+    /// The best members, with vectors of the objectives and of what is measured.
     pub archive: Archive,
+    /// The derived lines of all decodings, in order, over the encoding; none where there were no rounds.
     pub log: Log,
+    /// How it ended.
     pub end: End,
 }
 

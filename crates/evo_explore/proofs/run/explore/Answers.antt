@@ -1,5 +1,4 @@
-use Rattle.std.proofs.Common.{◌≡◌, ◌+◌, ◌<◌, ◌≤◌, ℕ, Bool, true, false, List, [], All, length, vec_len, map, get_or, sym, ap, ap₂, ◌∙◌, subst, refl, arith, rules}
-use Rattle.proof_log.specs.Log.{LogValue}
+use Rattle.std.proofs.Common.{◌≡◌, ◌<◌, ℕ, Bool, List, All, length, vec_len, map, sym, ap, ap₂, ◌∙◌, subst, refl, arith, rules}
 use Rattle.sat_decoder.specs.Decoder.{DecoderValue, IsLogOf}
 use Rattle.spec_model.specs.Spec.{SpecValue, Bits, design_variables}
 use Rattle.front_archive.specs.declared.member.Member.{Member}
