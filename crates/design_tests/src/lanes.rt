@@ -1,7 +1,7 @@
-//! An archive whose members fill no group of lanes, just one, or two and a rest: what is found, dropped and kept is as in a
-//! plain list.
+//! An archive whose members fill no group of lanes, just one, or two and a rest: what is found, dropped and kept is as
+//! in a plain list.
 
-ghost use Rattle.std.specs.Prelude.{◌≡◌, length, IfOk};
+ghost use Rattle.std.specs.Prelude.{◌≡◌, IfOk};
 
 use super::reading::spec_of;
 use front_archive::{Archive, Member, Offer};

@@ -1,7 +1,7 @@
 //! The archive, and what becomes of an offer.
 //!
-//! The vector of each member stands a second time, in columns, at the member's place. Whatever is asked of all vectors is
-//! asked of the columns; the members only follow.
+//! The vector of each member stands a second time, in columns, at the member's place. Whatever is asked of all vectors
+//! is asked of the columns; the members only follow.
 
 ghost use Rattle.std.specs.Prelude.{◌≡◌, ◌<◌, ◌++◌, List, [], ◌∷◌, All, length, filter, position, not, vec_len, IfOk, OnOk, OnErr};
 ghost use Rattle.dominance_lanes.specs.Columns.{unmarked};
@@ -58,8 +58,8 @@ fn drop_marked(members: &mut Vec<Member>, marks: &[bool])
     members.truncate(kept);
 }
 
-/// Drops the members that the last one covers, and their vectors, but keeps the last one. Each member has a mark, and what the
-/// marks were before doesn't count.
+/// Drops the members that the last one covers, and their vectors, but keeps the last one. Each member has a mark, and
+/// what the marks were before doesn't count.
 fn drop_covered(columns: &mut Columns, members: &mut Vec<Member>, marks: &mut [bool])
     requires some { 0 < vec_len members.old }
     requires places { length marks.old ≡ vec_len members.old }
@@ -104,8 +104,8 @@ impl Archive {
         self.columns.first_below(m.vector.numbers())
     }
 
-    /// Takes in a member that none covers. It is put behind the others before any goes, since its place in the columns is the
-    /// last thing that may want memory.
+    /// Takes in a member that none covers. It is put behind the others before any goes, since its place in the columns
+    /// is the last thing that may want memory.
     fn enter(&mut self, m: Member) -> Result<Offer, AllocError>
         requires { length m.vector ≡ self.old.width }
         ensures entered { IfOk result (λ o. o ≡ Offer.Entered) }
