@@ -12,9 +12,6 @@ use spec_graph::Spec;
 use std::alloc::{AllocError, Global};
 use std::test::Fail;
 
-/// How many members an archive has.
-const COUNTS: [u32; 6] = [0, 1, 7, 8, 9, 17];
-
 /// The vector of the member at a place. Where the first number rises the second falls, so none is at most another.
 fn kept(place: u32) -> [u64; 2] {
     [
@@ -91,56 +88,47 @@ fn is_replaced(members: &[Member], count: u32, place: u32) -> bool {
         && last.vector.numbers() == below(place).as_slice()
 }
 
-#[test]
-fn archives_are_filled(rt: HostRuntime) -> Result<(), Fail> {
-    let alloc = rt.alloc();
-    let spec = spec_of(alloc, b"arch 1\nobjective cost\nobjective energy\n")?;
-    for count in COUNTS {
-        let archive = archive_of(alloc, &spec, count)?;
-        assert!(rt; are_kept(archive.members(), 0, count), "at {count}");
-    }
-    Ok(())
+/// Whether the lowest place covers what is offered: the vector at a place, and one that the next member covers too.
+fn is_covered(alloc: Global, spec: &Spec, count: u32, place: u32) -> Result<bool, AllocError> {
+    let mut archive = archive_of(alloc, spec, count)?;
+    let covered = Offer::Covered(place as usize);
+    let same = offer(alloc, spec, &mut archive, kept(place))?;
+    let higher = offer(alloc, spec, &mut archive, above(place))?;
+    Ok(same == covered && higher == covered && are_kept(archive.members(), 0, count))
 }
 
-#[test]
-fn the_lowest_place_covers(rt: HostRuntime) -> Result<(), Fail> {
-    let alloc = rt.alloc();
-    let spec = spec_of(alloc, b"arch 1\nobjective cost\nobjective energy\n")?;
-    for count in COUNTS {
-        for place in 0..count {
-            let mut archive = archive_of(alloc, &spec, count)?;
-            let covered = Offer::Covered(place as usize);
-            assert_eq!(rt; offer(alloc, &spec, &mut archive, kept(place))?, covered, "at {count}");
-            assert_eq!(rt; offer(alloc, &spec, &mut archive, above(place))?, covered, "at {count}");
-            assert!(rt; are_kept(archive.members(), 0, count), "at {count}");
+/// Whether an offer that covers the member at a place alone enters in its stead.
+fn is_entered(alloc: Global, spec: &Spec, count: u32, place: u32) -> Result<bool, AllocError> {
+    let mut archive = archive_of(alloc, spec, count)?;
+    let answer = offer(alloc, spec, &mut archive, below(place))?;
+    Ok(answer == Offer::Entered && is_replaced(archive.members(), count, place))
+}
+
+/// Whether an offer that covers all members enters, and is alone then.
+fn is_alone(alloc: Global, spec: &Spec, count: u32) -> Result<bool, AllocError> {
+    let mut archive = archive_of(alloc, spec, count)?;
+    let first = offer(alloc, spec, &mut archive, [0, 0])?;
+    let second = offer(alloc, spec, &mut archive, kept(0))?;
+    Ok(first == Offer::Entered && second == Offer::Covered(0) && archive.members().len() == 1)
+}
+
+/// Whether an archive of so many members is filled, and answers offers, as a plain list would.
+fn is_as_a_list(alloc: Global, spec: &Spec, count: u32) -> Result<bool, AllocError> {
+    let archive = archive_of(alloc, spec, count)?;
+    for place in 0..count {
+        if !is_covered(alloc, spec, count, place)? || !is_entered(alloc, spec, count, place)? {
+            return Ok(false);
         }
     }
-    Ok(())
+    Ok(are_kept(archive.members(), 0, count) && is_alone(alloc, spec, count)?)
 }
 
 #[test]
-fn one_member_is_replaced(rt: HostRuntime) -> Result<(), Fail> {
+fn whole_groups_and_rests(rt: HostRuntime) -> Result<(), Fail> {
     let alloc = rt.alloc();
     let spec = spec_of(alloc, b"arch 1\nobjective cost\nobjective energy\n")?;
-    for count in COUNTS {
-        for place in 0..count {
-            let mut archive = archive_of(alloc, &spec, count)?;
-            assert_eq!(rt; offer(alloc, &spec, &mut archive, below(place))?, Offer::Entered, "at {count}");
-            assert!(rt; is_replaced(archive.members(), count, place), "at {count}");
-        }
-    }
-    Ok(())
-}
-
-#[test]
-fn all_members_are_replaced(rt: HostRuntime) -> Result<(), Fail> {
-    let alloc = rt.alloc();
-    let spec = spec_of(alloc, b"arch 1\nobjective cost\nobjective energy\n")?;
-    for count in COUNTS {
-        let mut archive = archive_of(alloc, &spec, count)?;
-        assert_eq!(rt; offer(alloc, &spec, &mut archive, [0, 0])?, Offer::Entered, "at {count}");
-        assert_eq!(rt; archive.members().len(), 1, "at {count}");
-        assert_eq!(rt; offer(alloc, &spec, &mut archive, kept(0))?, Offer::Covered(0), "at {count}");
+    for count in [0, 1, 7, 8, 9, 17] {
+        assert!(rt; is_as_a_list(alloc, &spec, count)?, "{count} members");
     }
     Ok(())
 }

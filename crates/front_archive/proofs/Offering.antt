@@ -1,14 +1,11 @@
 -- What an offer leaves, from what the steps of the call say.
-use Rattle.std.proofs.Common.{◌≡◌, ◌++◌, ◌&&◌, not, cond, List, [], ◌∷◌, Bool, true, false, refl, sym, ap, ap₂, ◌∙◌, subst}
-use Rattle.std.proofs.Common.{ℕ, None, Result, Ok, Err, OnOk, IfOk, arith, ◌≤◌}
+use Rattle.std.proofs.Common.{◌≡◌, ◌++◌, ◌&&◌, not, cond, List, [], ◌∷◌, Bool, true, false, refl, sym, ap, ap₂, ◌∙◌}
+use Rattle.std.proofs.Common.{ℕ, None, Result, Ok, Err, OnOk, arith, ◌≤◌}
 use Rattle.std.proofs.lemmas.Bool.{leb-true, le-leb}
 use Rattle.std.specs.List.{list_any, filter, position}
-use Rattle.front_archive.specs.declared.archive.Offer.{Offer}
-use Rattle.front_archive.specs.declared.archive.Offer.TheVariants.{Entered}
 use Rattle.front_archive.specs.declared.member.Member.{Member}
 use Rattle.front_archive.specs.AtMost.{at_most}
 use Rattle.front_archive.specs.Members.{covers}
-use Rattle.front_archive.specs.Offers.{Answers}
 use Rattle.front_archive.specs.Best.{best, offered}
 use Rattle.front_archive.proofs.Bests.{best_offered, none_any}
 
@@ -43,10 +40,6 @@ none_offered old m e = ap (λ b. cond b old (filter (λ x. not (covers m x)) old
 pub on_ok : {T E P Q : Type 0} (r : Result T E) → (P → Q) → OnOk r P → OnOk r Q
 on_ok (Ok x) f p = f p
 on_ok (Err e) f p = tt
-
-pub entered_answer : {E : Type 0} (r : Result Offer E) (old : List Member) (m : Member) → None ≡ position (λ x. covers x m) old → IfOk r (λ o. o ≡ Entered) → IfOk r (Answers old m)
-entered_answer (Ok o) old m none is = subst (Answers old m) (sym is) (sym none)
-entered_answer (Err e) old m none is = tt
 
 pub entered_members : {T E : Type 0} (r : Result T E) (old new : List Member) (m : Member) → None ≡ position (λ x. covers x m) old → OnOk r (new ≡ filter (λ x. not (covers m x)) old ++ m ∷ []) → OnOk r (new ≡ offered covers old m)
 entered_members (Ok x) old new m none e = e ∙ none_offered old m (none_any (λ x. covers x m) old none)
