@@ -1,5 +1,5 @@
 -- What an answer says of the words, and what is left where it was given.
-use Rattle.std.proofs.Common.{◌≡◌, ◌&&◌, ◌∙◌, ℕ, List, Option, Some, None, IsSomeAnd, IsTrue, Result, Ok, Err, ap, inl, inr, is_some, refl, sym}
+use Rattle.std.proofs.Common.{◌≡◌, ◌&&◌, ◌∙◌, ℕ, List, Option, Some, None, IsSomeAnd, IsTrue, Result, Ok, Err, ap, inl, inr, is_some, refl, sym, subst}
 use Rattle.desk_io.specs.Files.{Files}
 use Rattle.line_words.specs.declared.refusals.ReadFault.{ReadFault}
 use Rattle.line_words.specs.declared.refusals.ReadFault.TheVariants as faults
@@ -9,7 +9,8 @@ use Rattle.file_writes.specs.Writes.{AreWritten, ArePartlyWritten}
 use Rattle.file_writes.proofs.Rewriting.{leaves_then}
 use Rattle.file_writes.proofs.Written.{whole}
 use Rattle.run_base.specs.After.{After, GoesOn}
-use Rattle.run_base.specs.Worlds.{World}
+use Rattle.run_base.specs.Worlds.{World, NamesValue, AreLoaded, AreLoadedFrom, IsWorldOf}
+use Rattle.run_base.specs.declared.inputs.Inputs.{Inputs}
 use Rattle.run_base.specs.declared.outcome.Ending.{Ending}
 use Rattle.run_base.specs.declared.outcome.Ending.TheVariants as endings
 use Rattle.run_base.specs.declared.outcome.Outcome.{Outcome}
@@ -20,9 +21,22 @@ use Rattle.front_run.specs.Fronting.{WantedValue}
 use Rattle.front_run.specs.Fronting.{Finds as FindsFront}
 use Rattle.dse_run.specs.Commands.{ComesTo, HasBudget, exploration_of, names_of, wanted_of}
 use Rattle.dse_run.specs.Decoding.{EvidenceValue, Finds}
-use Rattle.dse_run.specs.Run.{Answered, AnswersTo, EndsBy, IsLeft, ReplyValue, status_of}
+use Rattle.dse_run.specs.Run.{Answered, AnswersRequest, AnswersTo, EndsBy, IsLeft, ReplyValue, status_of}
 use Rattle.dse_run.specs.declared.status.Status.{Status}
 use Rattle.dse_run.specs.declared.status.Status.TheVariants.{Usage, Budget}
+
+-- ---- what is answered
+
+-- what a request comes to over what was loaded is what is answered
+pub answered : (asked : RequestValue) (tools : ToolsValue) (calls : List ℕ) (files now_files : Option Files) (names : NamesValue) (inputs : Inputs) (tried : Result Outcome ReadFault) (reply : ReplyValue) → names ≡ names_of asked → AreLoadedFrom files names inputs → now_files ≡ files
+    → ((world : World) → AreLoaded inputs world → ComesTo asked tools calls now_files world tried) → EndsBy names tried reply → AnswersRequest asked tools calls files reply
+answered asked tools calls files now_files names inputs tried reply names_is loaded files_is comes ends = record {
+  world = loaded.world;
+  found = subst (λ (n : NamesValue). IsWorldOf files n loaded.world) names_is loaded.found;
+  result = tried;
+  comes = subst (λ (f : Option Files). ComesTo asked tools calls f loaded.world tried) files_is (comes loaded.world loaded.loaded);
+  ends = subst (λ (n : NamesValue). EndsBy n tried reply) names_is ends;
+}
 
 -- ---- what is left
 

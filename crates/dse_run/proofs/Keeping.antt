@@ -1,5 +1,6 @@
 -- What is left of tools that no command calls.
-use Rattle.std.proofs.Common.{◌≡◌, Option, Some, None, refl, sym, subst}
+use Rattle.std.proofs.Common.{◌≡◌, ◌∙◌, ◌+◌, ◌<◌, ◌++◌, ◌∷◌, [], ℕ, List, Option, Some, None, get_or, length, map, take, refl, sym, ap, subst}
+use Rattle.std.proofs.lemmas.List.{take_more, map_push}
 use Rattle.run_words.specs.Values.{RequestValue, decode, explore, front, check}
 use Rattle.explore_run.specs.Tools.{ToolsValue}
 use Rattle.explore_run.proofs.Kept.{same_calls}
@@ -19,3 +20,9 @@ same_kept asked tools = record { tags = refl; values = λ s f. refl; calls = non
 -- what a request leaves is left by the words that are this request
 pub kept_by_words : (words : Option RequestValue) (asked : RequestValue) (old new : ToolsValue) → words ≡ Some asked → KeepsTools (Some asked) old new → KeepsTools words old new
 kept_by_words words asked old new is h = subst (λ (w : Option RequestValue). KeepsTools w old new) (sym is) h
+
+-- one more text beside one more of what it is made of
+pub one_more : {X Y : Type 0} (f : X → List ℕ) (h : Y → List ℕ) (xs : List X) (i : ℕ) (x : X) (now next : List Y) (y : Y) → map h now ≡ map f (take i xs) → next ≡ now ++ y ∷ [] → h y ≡ f x → x ≡ get_or xs i x → i < length xs → map h next ≡ map f (take (i + 1) xs)
+one_more f h xs i x now next y so_far push is there lt =
+    ap (map h) push ∙ (map_push h now y ∙ (ap (λ (ts : List (List ℕ)). ts ++ h y ∷ []) so_far ∙ (ap (λ (t : List ℕ). map f (take i xs) ++ t ∷ []) (is ∙ ap f there)
+    ∙ sym (ap (map f) (take_more xs i x lt) ∙ map_push f (take i xs) (get_or xs i x)))))

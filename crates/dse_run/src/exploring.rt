@@ -15,6 +15,13 @@ use line_words::ReadFault;
 use run_base::{Inputs, Outcome};
 use std::alloc::{AllocError, Global};
 
+/// The tag of a tool, as a text of its own.
+fn tag_of(alloc: Global, tool: &Box<dyn Evaluator>) -> Result<String, AllocError>
+    ensures { IfOk result (λ tag. string_bytes tag ≡ text tool.now) }
+{
+    String::from_str(alloc, tool.tag())
+}
+
 /// The tags of tools, in their order.
 pub(crate) fn tags_of(
     alloc: Global,
@@ -24,7 +31,8 @@ pub(crate) fn tags_of(
 {
     let mut tags = Vec::new(alloc);
     for i in 0..tools.len() {
-        tags.push(String::from_str(alloc, tools[i].tag())?)?;
+        let tag = tag_of(alloc, &tools[i])?;
+        tags.push(tag)?;
     }
     Ok(tags)
 }
