@@ -4,11 +4,15 @@
 #![tactic(auto)]
 
 #[cfg(test)]
+mod archives;
+#[cfg(test)]
 mod blocks;
 #[cfg(test)]
 mod broken;
 #[cfg(test)]
 mod fronts;
+#[cfg(test)]
+mod measures;
 #[cfg(test)]
 mod models;
 #[cfg(test)]
