@@ -26,17 +26,16 @@ fn member(alloc: Global, spec: &Spec, numbers: &[u64]) -> Result<Member, AllocEr
 }
 
 /// What an archive of pairs answers to a pair.
-fn offer(
+pub fn offer(
     alloc: Global,
     spec: &Spec,
     archive: &mut Archive,
-    a: u64,
-    b: u64,
+    numbers: [u64; 2],
 ) -> Result<Offer, AllocError>
     requires { archive.old.width ≡ 2 }
     ensures { archive.new.width ≡ 2 }
 {
-    let offered = member(alloc, spec, &[a, b])?;
+    let offered = member(alloc, spec, &numbers)?;
     archive.offer(offered)
 }
 
@@ -53,11 +52,17 @@ fn five_offers(rt: HostRuntime) -> Result<(), Fail> {
     let alloc = rt.alloc();
     let spec = spec_of(alloc, b"arch 1\n")?;
     let mut archive = Archive::new(alloc, 2);
-    assert_eq!(rt; offer(alloc, &spec, &mut archive, 3, 3)?, Offer::Entered);
-    assert_eq!(rt; offer(alloc, &spec, &mut archive, 1, 5)?, Offer::Entered);
-    assert_eq!(rt; offer(alloc, &spec, &mut archive, 3, 3)?, Offer::Covered(0));
-    assert_eq!(rt; offer(alloc, &spec, &mut archive, 2, 2)?, Offer::Entered);
-    assert_eq!(rt; offer(alloc, &spec, &mut archive, 9, 9)?, Offer::Covered(0));
+    assert_eq!(rt; offer(alloc, &spec, &mut archive, [3, 3])?, Offer::Entered);
+    assert_eq!(rt; offer(alloc, &spec, &mut archive, [1, 5])?, Offer::Entered);
+    assert_eq!(rt;
+        offer(alloc, &spec, &mut archive, [3, 3])?,
+        Offer::Covered(0)
+    );
+    assert_eq!(rt; offer(alloc, &spec, &mut archive, [2, 2])?, Offer::Entered);
+    assert_eq!(rt;
+        offer(alloc, &spec, &mut archive, [9, 9])?,
+        Offer::Covered(0)
+    );
     has_two(&rt, &archive, &[1, 5], &[2, 2]);
     Ok(())
 }

@@ -15,13 +15,13 @@ use std::test::Fail;
 fn measured(
     rt: &impl Abort,
     alloc: Global,
-    tool: &mut Box<dyn Evaluator>,
+    mut tool: Box<dyn Evaluator>,
     tag: &str,
     spec: &Spec,
     design: &Design,
 ) -> Result<u64, AllocError>
     requires bits { length design.now ≡ design_variables spec.now }
-    requires uncalled { calls tool.old ≡ 0 }
+    requires uncalled { calls tool ≡ 0 }
 {
     let broken = first_broken(spec, design);
     assert!(rt; broken.is_none());
@@ -41,9 +41,9 @@ fn one_resource(rt: HostRuntime) -> Result<(), Fail> {
         table PE 0 pe0 time=1 energy=2 price@0\n",
     )?;
     let design = design_with(&rt, alloc, &spec, &[0, 1, 2, 3])?;
-    let mut makespan: Box<dyn Evaluator> = Box::new(alloc, Makespan::new())?;
+    let makespan = Box::new(alloc, Makespan::new())?;
     assert_eq!(rt;
-        measured(&rt, alloc, &mut makespan, "makespan", &spec, &design)?,
+        measured(&rt, alloc, makespan, "makespan", &spec, &design)?,
         1070
     );
     Ok(())
@@ -58,24 +58,21 @@ fn two_links(rt: HostRuntime) -> Result<(), Fail> {
         delay 3\nmessage m s -> w\nmap s a time=5\nmap w c time=4\ndeadline w 12\n",
     )?;
     let design = design_with(&rt, alloc, &spec, &[0, 1, 2, 4, 6, 7, 8, 9, 10])?;
-    let mut makespan: Box<dyn Evaluator> = Box::new(alloc, Makespan::new())?;
+    let makespan = Box::new(alloc, Makespan::new())?;
     assert_eq!(rt;
-        measured(&rt, alloc, &mut makespan, "makespan", &spec, &design)?,
+        measured(&rt, alloc, makespan, "makespan", &spec, &design)?,
         15
     );
-    let mut lateness: Box<dyn Evaluator> = Box::new(alloc, Lateness::new())?;
+    let lateness = Box::new(alloc, Lateness::new())?;
     assert_eq!(rt;
-        measured(&rt, alloc, &mut lateness, "lateness", &spec, &design)?,
+        measured(&rt, alloc, lateness, "lateness", &spec, &design)?,
         3
     );
-    let mut hopsum: Box<dyn Evaluator> = Box::new(alloc, HopSum::new())?;
+    let hopsum = Box::new(alloc, HopSum::new())?;
+    assert_eq!(rt; measured(&rt, alloc, hopsum, "hopsum", &spec, &design)?, 2);
+    let peakload = Box::new(alloc, PeakLoad::new())?;
     assert_eq!(rt;
-        measured(&rt, alloc, &mut hopsum, "hopsum", &spec, &design)?,
-        2
-    );
-    let mut peakload: Box<dyn Evaluator> = Box::new(alloc, PeakLoad::new())?;
-    assert_eq!(rt;
-        measured(&rt, alloc, &mut peakload, "peakload", &spec, &design)?,
+        measured(&rt, alloc, peakload, "peakload", &spec, &design)?,
         5
     );
     Ok(())
