@@ -39,9 +39,25 @@ pub fn offer(
     archive.offer(offered)
 }
 
-/// The members of an archive are those with these two vectors.
-fn has_two(rt: &impl Abort, archive: &Archive, first: &[u64], second: &[u64]) {
-    let members = archive.members();
+/// What an archive of pairs without members answers to five offers, one after another.
+fn answers_five(
+    rt: &impl Abort,
+    alloc: Global,
+    spec: &Spec,
+    archive: &mut Archive,
+) -> Result<(), AllocError>
+    requires { archive.old.width ≡ 2 }
+{
+    assert_eq!(rt; offer(alloc, spec, archive, [3, 3])?, Offer::Entered);
+    assert_eq!(rt; offer(alloc, spec, archive, [1, 5])?, Offer::Entered);
+    assert_eq!(rt; offer(alloc, spec, archive, [3, 3])?, Offer::Covered(0));
+    assert_eq!(rt; offer(alloc, spec, archive, [2, 2])?, Offer::Entered);
+    assert_eq!(rt; offer(alloc, spec, archive, [9, 9])?, Offer::Covered(0));
+    Ok(())
+}
+
+/// The members are those with these two vectors.
+fn are_two(rt: &impl Abort, members: &[Member], first: &[u64], second: &[u64]) {
     assert_eq!(rt; members.len(), 2);
     assert_eq!(rt; members[0].vector.numbers(), first);
     assert_eq!(rt; members[1].vector.numbers(), second);
@@ -52,17 +68,7 @@ fn five_offers(rt: HostRuntime) -> Result<(), Fail> {
     let alloc = rt.alloc();
     let spec = spec_of(alloc, b"arch 1\n")?;
     let mut archive = Archive::new(alloc, 2);
-    assert_eq!(rt; offer(alloc, &spec, &mut archive, [3, 3])?, Offer::Entered);
-    assert_eq!(rt; offer(alloc, &spec, &mut archive, [1, 5])?, Offer::Entered);
-    assert_eq!(rt;
-        offer(alloc, &spec, &mut archive, [3, 3])?,
-        Offer::Covered(0)
-    );
-    assert_eq!(rt; offer(alloc, &spec, &mut archive, [2, 2])?, Offer::Entered);
-    assert_eq!(rt;
-        offer(alloc, &spec, &mut archive, [9, 9])?,
-        Offer::Covered(0)
-    );
-    has_two(&rt, &archive, &[1, 5], &[2, 2]);
+    answers_five(&rt, alloc, &spec, &mut archive)?;
+    are_two(&rt, archive.members(), &[1, 5], &[2, 2]);
     Ok(())
 }

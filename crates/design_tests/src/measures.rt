@@ -29,6 +29,55 @@ fn measured(
     tool.measure(alloc, spec, design)
 }
 
+/// When the last task of a valid design ends.
+fn makespan(rt: &impl Abort, alloc: Global, spec: &Spec, design: &Design) -> Result<u64, AllocError>
+    requires { length design.now ≡ design_variables spec.now }
+{
+    let tool = Box::new(alloc, Makespan::new())?;
+    measured(rt, alloc, tool, "makespan", spec, design)
+}
+
+/// How late a task of a valid design ends at most.
+fn lateness(rt: &impl Abort, alloc: Global, spec: &Spec, design: &Design) -> Result<u64, AllocError>
+    requires { length design.now ≡ design_variables spec.now }
+{
+    let tool = Box::new(alloc, Lateness::new())?;
+    measured(rt, alloc, tool, "lateness", spec, design)
+}
+
+/// What the messages of a valid design carry over links.
+fn hopsum(rt: &impl Abort, alloc: Global, spec: &Spec, design: &Design) -> Result<u64, AllocError>
+    requires { length design.now ≡ design_variables spec.now }
+{
+    let tool = Box::new(alloc, HopSum::new())?;
+    measured(rt, alloc, tool, "hopsum", spec, design)
+}
+
+/// How long the busiest resource of a valid design is busy.
+fn peakload(rt: &impl Abort, alloc: Global, spec: &Spec, design: &Design) -> Result<u64, AllocError>
+    requires { length design.now ≡ design_variables spec.now }
+{
+    let tool = Box::new(alloc, PeakLoad::new())?;
+    measured(rt, alloc, tool, "peakload", spec, design)
+}
+
+/// The values of the four tools are these.
+fn are_values(
+    rt: &impl Abort,
+    alloc: Global,
+    spec: &Spec,
+    design: &Design,
+    values: [u64; 4],
+) -> Result<(), AllocError>
+    requires { length design.now ≡ design_variables spec.now }
+{
+    assert_eq!(rt; makespan(rt, alloc, spec, design)?, values[0]);
+    assert_eq!(rt; lateness(rt, alloc, spec, design)?, values[1]);
+    assert_eq!(rt; hopsum(rt, alloc, spec, design)?, values[2]);
+    assert_eq!(rt; peakload(rt, alloc, spec, design)?, values[3]);
+    Ok(())
+}
+
 #[test]
 fn one_resource(rt: HostRuntime) -> Result<(), Fail> {
     let alloc = rt.alloc();
@@ -41,11 +90,7 @@ fn one_resource(rt: HostRuntime) -> Result<(), Fail> {
         table PE 0 pe0 time=1 energy=2 price@0\n",
     )?;
     let design = design_with(&rt, alloc, &spec, &[0, 1, 2, 3])?;
-    let makespan = Box::new(alloc, Makespan::new())?;
-    assert_eq!(rt;
-        measured(&rt, alloc, makespan, "makespan", &spec, &design)?,
-        1070
-    );
+    assert_eq!(rt; makespan(&rt, alloc, &spec, &design)?, 1070);
     Ok(())
 }
 
@@ -58,22 +103,6 @@ fn two_links(rt: HostRuntime) -> Result<(), Fail> {
         delay 3\nmessage m s -> w\nmap s a time=5\nmap w c time=4\ndeadline w 12\n",
     )?;
     let design = design_with(&rt, alloc, &spec, &[0, 1, 2, 4, 6, 7, 8, 9, 10])?;
-    let makespan = Box::new(alloc, Makespan::new())?;
-    assert_eq!(rt;
-        measured(&rt, alloc, makespan, "makespan", &spec, &design)?,
-        15
-    );
-    let lateness = Box::new(alloc, Lateness::new())?;
-    assert_eq!(rt;
-        measured(&rt, alloc, lateness, "lateness", &spec, &design)?,
-        3
-    );
-    let hopsum = Box::new(alloc, HopSum::new())?;
-    assert_eq!(rt; measured(&rt, alloc, hopsum, "hopsum", &spec, &design)?, 2);
-    let peakload = Box::new(alloc, PeakLoad::new())?;
-    assert_eq!(rt;
-        measured(&rt, alloc, peakload, "peakload", &spec, &design)?,
-        5
-    );
+    are_values(&rt, alloc, &spec, &design, [15, 3, 2, 5])?;
     Ok(())
 }
