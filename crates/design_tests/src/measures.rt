@@ -3,7 +3,7 @@ ghost use Rattle.std.specs.Prelude.{◌≡◌, length};
 ghost use Rattle.spec_model.specs.Spec.{design_variables};
 
 use super::models::design_with;
-use super::reading::{spec_of, spec_of_graphs};
+use super::reading::spec_of;
 use evaluators::{Evaluator, HopSum, Lateness, Makespan, PeakLoad};
 use impl_rules::{Design, first_broken};
 use spec_graph::Spec;
@@ -81,13 +81,12 @@ fn are_values(
 #[test]
 fn one_resource(rt: HostRuntime) -> Result<(), Fail> {
     let alloc = rt.alloc();
-    let spec = spec_of_graphs(
+    let spec = spec_of(
         alloc,
-        b"@TASK_GRAPH 0 {\nPERIOD 300\nTASK t0_0 TYPE 2\nTASK t0_1 TYPE 5\nARC a0_0 FROM t0_0 TO t0_1 TYPE 1\n\
-        HARD_DEADLINE d0_0 ON t0_1 AT 200\n}\n@TASK_GRAPH 1 {\nPERIOD 150\nTASK t1_0 TYPE 2\n}\n\
-        @PE 0 {\n33\n2 48.5 1.23457e-05\n5 10 2\n}\n",
-        b"arch 1\nobjective energy scale 10\nobjective price\nclock scale 1\nresource pe0\n\
-        table PE 0 pe0 time=1 energy=2 price@0\n",
+        b"arch 1\nobjective energy scale 10\nobjective price\nclock scale 1\nresource pe0 price=33\n\
+        task 0.t0_0\ntask 0.t0_1\ntask 1.t1_0\nmessage 0.a0_0 0.t0_0 -> 0.t0_1\n\
+        map 0.t0_0 pe0 time=48.5 energy=1.23457e-05\nmap 0.t0_1 pe0 time=10 energy=2\n\
+        map 1.t1_0 pe0 time=48.5 energy=1.23457e-05\ndeadline 0.t0_1 200\n",
     )?;
     let design = design_with(&rt, alloc, &spec, &[0, 1, 2, 3])?;
     assert_eq!(rt; makespan(&rt, alloc, &spec, &design)?, 1070);

@@ -4,7 +4,7 @@ use spec_graph::Spec;
 use spec_join::join;
 use std::alloc::Global;
 use std::test::Fail;
-use tgff_reader::{Tgff, read_tgff};
+use tgff_reader::Tgff;
 
 /// The specification of what was read of task graphs, and an architecture file.
 fn joined(alloc: Global, tgff: &Tgff, text: &[u8]) -> Result<Spec, Fail> {
@@ -23,15 +23,4 @@ fn joined(alloc: Global, tgff: &Tgff, text: &[u8]) -> Result<Spec, Fail> {
 /// The specification of an architecture file without task graphs.
 pub fn spec_of(alloc: Global, text: &[u8]) -> Result<Spec, Fail> {
     joined(alloc, &Tgff::none(alloc), text)
-}
-
-/// The specification of a file of task graphs and an architecture file.
-pub fn spec_of_graphs(alloc: Global, graphs: &[u8], text: &[u8]) -> Result<Spec, Fail> {
-    if graphs.len() > 16_777_216 {
-        return Err(Fail::from("the task graphs are too long"));
-    }
-    let Ok(tgff) = read_tgff(alloc, graphs) else {
-        return Err(Fail::from("the task graphs are refused"));
-    };
-    joined(alloc, &tgff, text)
 }
