@@ -1,20 +1,14 @@
-//! Tests of what no clause of the calls on a specification, on tools that measure and on archives says: that those which can
-//! want memory succeed where there is some. Each specification is read from an architecture file, as the program does. They
-//! stand in a crate of their own, since a crate with tests is proved twice.
+//! Tests of what no clause of the calls on a specification says: that those which can want memory succeed where there is
+//! some. Each specification is read from an architecture file, as the program does. They stand in a crate of their own,
+//! since a crate with tests is proved twice.
 #![tactic(auto)]
 
-#[cfg(test)]
-mod archives;
 #[cfg(test)]
 mod blocks;
 #[cfg(test)]
 mod broken;
 #[cfg(test)]
 mod fronts;
-#[cfg(test)]
-mod lanes;
-#[cfg(test)]
-mod measures;
 #[cfg(test)]
 mod models;
 #[cfg(test)]
