@@ -200,7 +200,7 @@ zeros-push [] (suc i) = refl
 zeros-push (x ∷ xs) zero = refl
 zeros-push (x ∷ xs) (suc i) = zeros-push xs i
 
-pub empty-push : (slots : List (Option Linear)) (i : ℕ) → get_or (slots ++ empty ∷ []) i empty ≡ get_or slots i empty
+pub empty-push : {X : Type 0} → (slots : List (Option X)) (i : ℕ) → (let none : Option X = None in get_or (slots ++ none ∷ []) i none ≡ get_or slots i none)
 empty-push [] zero = refl
 empty-push [] (suc i) = refl
 empty-push (s ∷ slots) zero = refl
