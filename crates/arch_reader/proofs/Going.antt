@@ -76,7 +76,8 @@ stops old new line header done ws s total why g e is so_far broken =
 pub alone : (old new : Left) (before : List Line) (refusal : Refusal1) (total : Reading) → Refuses old new refusal → run arch_rules old.number before old.lines ≡ total → total ≡ Err refusal
 alone old new before refusal total r so_far = refused_alone statement end before old new refusal total r so_far
 
-pub ends : (old new : Left) (header : Line) (done : List Line) (total : Reading) → Passes old new → new.lines ≡ [] → run arch_rules old.number (header ∷ done) old.lines ≡ total → total ≡ Ok (header ∷ done)
+pub ends : (old new : Left) (header : Line) (done : List Line) (total : Reading) → Passes old new → new.lines ≡ [] → run arch_rules old.number (header ∷ done) old.lines ≡ total
+    → total ≡ Ok (header ∷ done)
 ends old new header done total p none so_far = ends_well statement end (header ∷ done) old new total p none so_far refl
 
 -- ---- what the reader answers

@@ -92,7 +92,9 @@ clock_named ws = made clock_with (settings_of ws) (λ (s : Settings). said (cloc
 resource_named : (ws : Words) → AreWords ws → Named (resource_form ws)
 unfolding resource_form
 resource_named [] h = tt
-resource_named (name ∷ ws) h = when (are_keyed ws) (Some (record { statement = statements.Resource name (amounts ws).items; misread = (amounts ws).misread })) (said (statements.Resource name (amounts ws).items) (h.0, tt) (amounts_small ws))
+resource_named (name ∷ ws) h =
+    when (are_keyed ws) (Some (record { statement = statements.Resource name (amounts ws).items; misread = (amounts ws).misread }))
+    (said (statements.Resource name (amounts ws).items) (h.0, tt) (amounts_small ws))
 
 link_named : (ws : Words) → AreWords ws → Named (link_form ws)
 unfolding link_form
@@ -108,7 +110,8 @@ traffic_named : (ws : Words) → AreWords ws → Named (traffic_form ws)
 unfolding traffic_form
 traffic_named [] h = tt
 traffic_named (link ∷ []) h = tt
-traffic_named (link ∷ w ∷ ws) h = when (are_keyed (w ∷ ws)) (Some (record { statement = statements.Traffic link (amounts (w ∷ ws)).items; misread = (amounts (w ∷ ws)).misread })) (said (statements.Traffic link (amounts (w ∷ ws)).items) (h.0, tt) (amounts_some w ws, amounts_small (w ∷ ws)))
+traffic_named (link ∷ w ∷ ws) h = when (are_keyed (w ∷ ws)) (Some (record { statement = statements.Traffic link (amounts (w ∷ ws)).items; misread = (amounts (w ∷ ws)).misread }))
+    (said (statements.Traffic link (amounts (w ∷ ws)).items) (h.0, tt) (amounts_some w ws, amounts_small (w ∷ ws)))
 
 task_named : (ws : Words) → AreWords ws → Named (task_form ws)
 unfolding task_form
@@ -122,7 +125,8 @@ message_named [] h = tt
 message_named (name ∷ []) h = tt
 message_named (name ∷ sender ∷ []) h = tt
 message_named (name ∷ sender ∷ way ∷ []) h = tt
-message_named (name ∷ sender ∷ way ∷ r ∷ rs) h = when (bytes_eq way (codes "->")) (Some (plain (statements.Message name sender (r ∷ rs)))) (said (statements.Message name sender (r ∷ rs)) (h.0, (h.1.0, h.1.1.1)) (omega arith))
+message_named (name ∷ sender ∷ way ∷ r ∷ rs) h =
+    when (bytes_eq way (codes "->")) (Some (plain (statements.Message name sender (r ∷ rs)))) (said (statements.Message name sender (r ∷ rs)) (h.0, (h.1.0, h.1.1.1)) (omega arith))
 
 merge_named : (ws : Words) → AreWords ws → Named (merge_form ws)
 unfolding merge_form
@@ -134,9 +138,12 @@ map_named : (ws : Words) → AreWords ws → Named (map_form ws)
 unfolding map_form
 map_named [] h = tt
 map_named (task ∷ []) h = tt
-map_named (task ∷ resource ∷ ws) h = elim (cases_Bool (are_keyed ws)) [ inl t ↦ rw t (said (statements.Map task resource (time_in ws) (amounts (after_time ws)).items) (h.0, (h.1.0, tt)) (time_small ws, amounts_small (after_time ws))) | inr f ↦ rw f tt ]
+map_named (task ∷ resource ∷ ws) h =
+    elim (cases_Bool (are_keyed ws)) [ inl t ↦ rw t (said (statements.Map task resource (time_in ws) (amounts (after_time ws)).items) (h.0, (h.1.0, tt))
+    (time_small ws, amounts_small (after_time ws))) | inr f ↦ rw f tt ]
 
-said_table : (name index resource : List ℕ) (ws : Words) → AreWords (name ∷ resource ∷ []) → IsSaid (statements.Table name (whole_in index) resource (columns equals (keys_in ws)).items (columns at_sign (after_keys ws)).items)
+said_table : (name index resource : List ℕ) (ws : Words) → AreWords (name ∷ resource ∷ []) → IsSaid (statements.Table name (whole_in index) resource (columns equals (keys_in ws)).items
+    (columns at_sign (after_keys ws)).items)
 said_table name index resource ws n = record {
   named = n;
   formed = record { index_is_whole = whole_small index; keys_are_whole = columns_whole equals (keys_in ws); places_are_whole = columns_whole at_sign (after_keys ws) };
@@ -161,7 +168,9 @@ quantity_named [] h = tt
 quantity_named (message ∷ []) h = tt
 quantity_named (message ∷ amount ∷ []) h = said (statements.Quantity message (decimal_in amount)) (h.0, tt) (decimal_small amount)
 quantity_named (t ∷ name ∷ index ∷ []) h = tt
-quantity_named (t ∷ name ∷ index ∷ column ∷ []) h = when (bytes_eq t (codes "table")) (quantity_table name index column) (said (statements.QuantityTable name (whole_in index) (whole_in column) None) (h.1.0, tt) (record { index_is_whole = whole_small index; column_is_whole = whole_small column; rows_are_whole = tt }))
+quantity_named (t ∷ name ∷ index ∷ column ∷ []) h = when (bytes_eq t (codes "table")) (quantity_table name index column)
+    (said (statements.QuantityTable name (whole_in index) (whole_in column) None) (h.1.0, tt) (record
+    { index_is_whole = whole_small index; column_is_whole = whole_small column; rows_are_whole = tt }))
 quantity_named (t ∷ name ∷ index ∷ column ∷ rows ∷ []) h =
     when (bytes_eq t (codes "table")) (quantity_table_rows name index column rows) (elim (cases_Bool (rows_key rows)) [ inl k ↦ rw k (said_rows name index column rows (h.1.0, tt)) | inr k ↦ rw k tt ])
 quantity_named (t ∷ name ∷ index ∷ column ∷ rows ∷ w ∷ more) h = tt

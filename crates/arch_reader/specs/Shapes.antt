@@ -47,7 +47,8 @@ unfoldable pub settings_of : Words → Option Settings
 settings_of [] = Some (record { scale = None; floor = false; misread = fine })
 settings_of (w ∷ []) = if bytes_eq w (codes "floor") then Some (record { scale = None; floor = true; misread = fine }) else None
 settings_of (w ∷ n ∷ []) = if bytes_eq w (codes "scale") then Some (record { scale = Some (whole_in n); floor = false; misread = whole_misread n }) else None
-settings_of (w ∷ n ∷ f ∷ []) = if bytes_eq w (codes "scale") then (if bytes_eq f (codes "floor") then Some (record { scale = Some (whole_in n); floor = true; misread = whole_misread n }) else None) else None
+settings_of (w ∷ n ∷ f ∷ []) =
+    if bytes_eq w (codes "scale") then (if bytes_eq f (codes "floor") then Some (record { scale = Some (whole_in n); floor = true; misread = whole_misread n }) else None) else None
 settings_of (w ∷ n ∷ f ∷ g ∷ more) = None
 
 -- `objective NAME [scale N] [floor]`
@@ -128,7 +129,8 @@ after_time (w ∷ ws) = if is_time w then ws else w ∷ ws
 unfoldable pub map_form : Words → Option Form
 map_form [] = None
 map_form (task ∷ []) = None
-map_form (task ∷ resource ∷ ws) = if are_keyed ws then Some (record { statement = Map task resource (time_in ws) (amounts (after_time ws)).items; misread = both (time_misread ws) (amounts (after_time ws)).misread }) else None
+map_form (task ∷ resource ∷ ws) =
+    if are_keyed ws then Some (record { statement = Map task resource (time_in ws) (amounts (after_time ws)).items; misread = both (time_misread ws) (amounts (after_time ws)).misread }) else None
 
 -- the words of a `table` line up to the first one that isn't `KEY=N`, and those from there on
 abbrev pub keys_in : Words → Words

@@ -25,8 +25,10 @@ all_small : (s : SpecValue) (j : ℕ) → IsWellFormed s → All IsSmall (weight
 unfolding weights_of
 all_small s j wf =
     let k : ℕ = length s.objectives in
-    All-append IsSmall (map (weight_in s.option_weights j) (below (length s.options)) ++ flat_map (arc_weights s j) (below (length s.messages)) ++ map (weight_in s.resource_weights j) (below (length s.resources))) (map (weight_in s.link_weights j) (below (length s.links)))
-    (All-append IsSmall (map (weight_in s.option_weights j) (below (length s.options)) ++ flat_map (arc_weights s j) (below (length s.messages))) (map (weight_in s.resource_weights j) (below (length s.resources)))
+    All-append IsSmall (map (weight_in s.option_weights j) (below (length s.options)) ++ flat_map (arc_weights s j) (below (length s.messages))
+        ++ map (weight_in s.resource_weights j) (below (length s.resources))) (map (weight_in s.link_weights j) (below (length s.links)))
+    (All-append IsSmall (map (weight_in s.option_weights j) (below (length s.options)) ++ flat_map (arc_weights s j) (below (length s.messages)))
+        (map (weight_in s.resource_weights j) (below (length s.resources)))
     (All-append IsSmall (map (weight_in s.option_weights j) (below (length s.options))) (flat_map (arc_weights s j) (below (length s.messages)))
     (All-ones IsSmall (weight_in s.option_weights j) (length s.options) (λ i l. weight_in_small k (length s.options) s.option_weights j i wf.plan.option_rows))
     (All-pieces IsSmall (arc_weights s j) (length s.messages) (λ m hm. All-ones IsSmall (arc_weight s j m) (length s.arcs) (λ a ha. arc_weight_small s j m a wf hm ha))))
@@ -66,14 +68,18 @@ abbrev pub unused_below : SpecValue → ℕ → ℕ → List Term
 unused_below s j n = map (weighted (weight s j) false) (those (has_weight (weight s j)) n)
 
 pub unused-more : (s : SpecValue) (j n : ℕ) → unused_below s j (n + 1) ≡ unused_below s j n ++ map (weighted (weight s j) false) (cond (has_weight (weight s j) n) (n ∷ []) [])
-unused-more s j n = ap (map (weighted (weight s j) false)) (those-more (has_weight (weight s j)) n) ∙ map-append (weighted (weight s j) false) (those (has_weight (weight s j)) n) (cond (has_weight (weight s j) n) (n ∷ []) [])
+unused-more s j n =
+    ap (map (weighted (weight s j) false)) (those-more (has_weight (weight s j)) n) ∙ map-append (weighted (weight s j) false) (those (has_weight (weight s j)) n)
+    (cond (has_weight (weight s j) n) (n ∷ []) [])
 
-pub unused-more_some : (s : SpecValue) (j n w : ℕ) (t : Term) (ts now : List Term) → ts ≡ unused_below s j n → w ≡ weight s j n → 0 < w → t ≡ record { coef = w; lit = record { var = n; yes = false } } → now ≡ ts ++ t ∷ [] → now ≡ unused_below s j (n + 1)
+pub unused-more_some : (s : SpecValue) (j n w : ℕ) (t : Term) (ts now : List Term) → ts ≡ unused_below s j n → w ≡ weight s j n → 0 < w
+    → t ≡ record { coef = w; lit = record { var = n; yes = false } } → now ≡ ts ++ t ∷ [] → now ≡ unused_below s j (n + 1)
 unfolding has_weight weighted
 unused-more_some s j n w t ts now h e l k p =
     let is : has_weight (weight s j) n ≡ true = lt-ltb 0 (weight s j n) (omega (arith, e, l)) in
     let term : t ≡ weighted (weight s j) false n = k ∙ ap (λ (c : ℕ). make c) e in
-    p ∙ (ap (λ (us : List Term). us ++ t ∷ []) h ∙ (ap (λ (u : Term). unused_below s j n ++ u ∷ []) term ∙ sym (unused-more s j n ∙ ap (λ (b : Bool). unused_below s j n ++ map (weighted (weight s j) false) (cond b (n ∷ []) [])) is)))
+    p ∙ (ap (λ (us : List Term). us ++ t ∷ []) h ∙ (ap (λ (u : Term). unused_below s j n ++ u ∷ []) term
+        ∙ sym (unused-more s j n ∙ ap (λ (b : Bool). unused_below s j n ++ map (weighted (weight s j) false) (cond b (n ∷ []) [])) is)))
   where
     make : ℕ → Term
     make c = record { coef = c; lit = record { var = n; yes = false } }
@@ -86,7 +92,8 @@ unused-more_none s j n w ts now h e l p =
     p ∙ (h ∙ sym (unused-more s j n ∙ (ap (λ (b : Bool). unused_below s j n ++ map (weighted (weight s j) false) (cond b (n ∷ []) [])) is ∙ append-nil (unused_below s j n))))
 
 -- one of the block's variables more
-pub own-more : (s : SpecValue) (b j x : ℕ) (l : Literal) (ts now : List Term) → ts ≡ map (is_below s b) (below j) → x ≡ below_var s b j → l ≡ record { var = x; yes = true } → now ≡ ts ++ record { coef = 1; lit = l } ∷ [] → now ≡ map (is_below s b) (below (j + 1))
+pub own-more : (s : SpecValue) (b j x : ℕ) (l : Literal) (ts now : List Term) → ts ≡ map (is_below s b) (below j) → x ≡ below_var s b j → l ≡ record { var = x; yes = true }
+    → now ≡ ts ++ record { coef = 1; lit = l } ∷ [] → now ≡ map (is_below s b) (below (j + 1))
 unfolding is_below
 own-more s b j x l ts now h e k p =
     let term : record { coef = 1; lit = l } ≡ positive (below_var s b j) = ap (λ (m : Literal). make m) k ∙ ap (λ (y : ℕ). positive y) e in
@@ -96,18 +103,21 @@ own-more s b j x l ts now h e k p =
     make m = record { coef = 1; lit = m }
 
 -- one constraint more
-pub place-more : (s : SpecValue) (b j n : ℕ) (v : List ℕ) (c : Linear) (cs now : List Linear) → cs ≡ below_somewhere s b ∷ map (below_place s b v) (below j) → c ≡ below_number s b j n → n ≡ slice_index v j → now ≡ cs ++ c ∷ [] → now ≡ below_somewhere s b ∷ map (below_place s b v) (below (j + 1))
+pub place-more : (s : SpecValue) (b j n : ℕ) (v : List ℕ) (c : Linear) (cs now : List Linear) → cs ≡ below_somewhere s b ∷ map (below_place s b v) (below j) → c ≡ below_number s b j n
+    → n ≡ slice_index v j → now ≡ cs ++ c ∷ [] → now ≡ below_somewhere s b ∷ map (below_place s b v) (below (j + 1))
 unfolding below_place
 place-more s b j n v c cs now h e k p =
     let one : c ≡ below_place s b v j = e ∙ ap (below_number s b j) k in
-    p ∙ (ap (λ (ds : List Linear). ds ++ c ∷ []) h ∙ (ap (λ (d : Linear). below_somewhere s b ∷ (map (below_place s b v) (below j) ++ d ∷ [])) one ∙ ap (λ (ds : List Linear). below_somewhere s b ∷ ds) (sym (map-below_more (below_place s b v) j))))
+    p ∙ (ap (λ (ds : List Linear). ds ++ c ∷ []) h ∙ (ap (λ (d : Linear). below_somewhere s b ∷ (map (below_place s b v) (below j) ++ d ∷ [])) one
+        ∙ ap (λ (ds : List Linear). below_somewhere s b ∷ ds) (sym (map-below_more (below_place s b v) j))))
 
 pub place-all : (s : SpecValue) (b n : ℕ) (v : List ℕ) (cs : List Linear) → cs ≡ below_somewhere s b ∷ map (below_place s b v) (below n) → n ≡ length v → cs ≡ block_of s b v
 unfolding block_of
 place-all s b n v cs h e = h ∙ ap (λ (k : ℕ). below_somewhere s b ∷ map (below_place s b v) (below k)) e
 
 -- the terms of one constraint
-pub number-terms : (s : SpecValue) (b j n g x : ℕ) (l : Literal) (ts now : List Term) → ts ≡ unused_terms s j → g ≡ gap s j n → x ≡ below_var s b j → l ≡ record { var = x; yes = false } → now ≡ ts ++ record { coef = g; lit = l } ∷ [] → now ≡ unused_terms s j ++ not_below s b j n ∷ []
+pub number-terms : (s : SpecValue) (b j n g x : ℕ) (l : Literal) (ts now : List Term) → ts ≡ unused_terms s j → g ≡ gap s j n → x ≡ below_var s b j → l ≡ record { var = x; yes = false }
+    → now ≡ ts ++ record { coef = g; lit = l } ∷ [] → now ≡ unused_terms s j ++ not_below s b j n ∷ []
 number-terms s b j n g x l ts now h e k p q =
     q
     ∙ (ap (λ (us : List Term). us ++ record { coef = g; lit = l } ∷ []) h

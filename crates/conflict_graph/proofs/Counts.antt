@@ -30,7 +30,8 @@ currents-has (suc n) k p es f l h =
     ]
 
 -- a clause that is changed at one variable
-pub currents-change : (n k p : ℕ) (es : List Entry) (f g : ℕ → Option Bool) → k ≤ p → p < k + n → ((x : ℕ) → x ≢ p → f x ≡ g x) → currents n k es f + current_at es p (g p) ≡ currents n k es g + current_at es p (f p)
+pub currents-change : (n k p : ℕ) (es : List Entry) (f g : ℕ → Option Bool) → k ≤ p → p < k + n → ((x : ℕ) → x ≢ p → f x ≡ g x)
+    → currents n k es f + current_at es p (g p) ≡ currents n k es g + current_at es p (f p)
 currents-change zero k p es f g l h same = absurd (omega arith)
 currents-change (suc n) k p es f g l h same =
     let ih : k + 1 ≤ p → currents n (k + 1) es f + current_at es p (g p) ≡ currents n (k + 1) es g + current_at es p (f p) = λ l'. currents-change n (k + 1) p es f g l' (omega arith) same in
@@ -68,7 +69,8 @@ pub currents-row : (n k : ℕ) (es : List Entry) (f : ℕ → Option Bool) → c
 currents-row zero k es f = refl
 currents-row (suc n) k es f = go (f k) (currents-row n (k + 1) es f)
   where
-    go : (o : Option Bool) → count_by (λ (t : Term). eqb (level_in es t.lit.var) (level_of es)) (clause_row n (k + 1) f) ≡ currents n (k + 1) es f → count_by (λ (t : Term). eqb (level_in es t.lit.var) (level_of es)) (with_literal k o (clause_row n (k + 1) f)) ≡ current_at es k o + currents n (k + 1) es f
+    go : (o : Option Bool) → count_by (λ (t : Term). eqb (level_in es t.lit.var) (level_of es)) (clause_row n (k + 1) f) ≡ currents n (k + 1) es f
+        → count_by (λ (t : Term). eqb (level_in es t.lit.var) (level_of es)) (with_literal k o (clause_row n (k + 1) f)) ≡ current_at es k o + currents n (k + 1) es f
     go None ih = ih ∙ omega arith
     go (Some b) ih =
         let t : Term = record { coef = 1; lit = record { var = k; yes = b } } in

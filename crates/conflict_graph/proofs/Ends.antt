@@ -25,7 +25,8 @@ row-ones : (n k : ℕ) (f : ℕ → Option Bool) (i : ℕ) (d : Term) → i < le
 row-ones zero k f i d h = absurd (omega arith)
 row-ones (suc n) k f i d h = go (f k) i (λ j. row-ones n (k + 1) f j d) h
   where
-    go : (o : Option Bool) (i : ℕ) → ((j : ℕ) → j < length (clause_row n (k + 1) f) → (get_or (clause_row n (k + 1) f) j d).coef ≡ 1) → i < length (with_literal k o (clause_row n (k + 1) f)) → (get_or (with_literal k o (clause_row n (k + 1) f)) i d).coef ≡ 1
+    go : (o : Option Bool) (i : ℕ) → ((j : ℕ) → j < length (clause_row n (k + 1) f) → (get_or (clause_row n (k + 1) f) j d).coef ≡ 1) → i < length (with_literal k o (clause_row n (k + 1) f))
+        → (get_or (with_literal k o (clause_row n (k + 1) f)) i d).coef ≡ 1
     go None i ih h = ih i h
     go (Some b) zero ih h = refl
     go (Some b) (suc i) ih h = ih i (omega arith)
@@ -48,14 +49,16 @@ row-normal n f small = record {
 }
 
 -- the falsified clause, as a constraint and as signs
-row-false : (n k : ℕ) (f a : ℕ → Option Bool) → ((i : ℕ) (d : Term) → i < length (clause_row n k f) → is_false a (get_or (clause_row n k f) i d).lit ≡ true) → (x : ℕ) (b : Bool) → k ≤ x → x < k + n → f x ≡ Some b → falsifies (a x) b ≡ true
+row-false : (n k : ℕ) (f a : ℕ → Option Bool) → ((i : ℕ) (d : Term) → i < length (clause_row n k f) → is_false a (get_or (clause_row n k f) i d).lit ≡ true) → (x : ℕ) (b : Bool) → k ≤ x
+    → x < k + n → f x ≡ Some b → falsifies (a x) b ≡ true
 row-false zero k f a h x b l m s = absurd (omega arith)
 row-false (suc n) k f a h x b l m s = go (f k) refl (λ g l'. row-false n (k + 1) f a g x b l' (omega arith) s) h
   where
     P : Option Bool → Type 0
     P o = (i : ℕ) (d : Term) → i < length (with_literal k o (clause_row n (k + 1) f)) → is_false a (get_or (with_literal k o (clause_row n (k + 1) f)) i d).lit ≡ true
 
-    go : (o : Option Bool) → f k ≡ o → (((i : ℕ) (d : Term) → i < length (clause_row n (k + 1) f) → is_false a (get_or (clause_row n (k + 1) f) i d).lit ≡ true) → k + 1 ≤ x → falsifies (a x) b ≡ true) → P o → falsifies (a x) b ≡ true
+    go : (o : Option Bool) → f k ≡ o → (((i : ℕ) (d : Term) → i < length (clause_row n (k + 1) f) → is_false a (get_or (clause_row n (k + 1) f) i d).lit ≡ true) → k + 1 ≤ x
+        → falsifies (a x) b ≡ true) → P o → falsifies (a x) b ≡ true
     go None e ih h = elim (cases_eq x k) [
       | inl q ↦ absurd (let z : f x ≡ None = ap f q ∙ e in cc)
       | inr ne ↦ ih h (omega arith)
@@ -70,11 +73,13 @@ row-false (suc n) k f a h x b l m s = go (f k) refl (λ g l'. row-false n (k + 1
     ]
 
 -- and back
-row-falsified : (n k : ℕ) (f a : ℕ → Option Bool) → ((x : ℕ) (b : Bool) → f x ≡ Some b → falsifies (a x) b ≡ true) → (i : ℕ) (d : Term) → i < length (clause_row n k f) → is_false a (get_or (clause_row n k f) i d).lit ≡ true
+row-falsified : (n k : ℕ) (f a : ℕ → Option Bool) → ((x : ℕ) (b : Bool) → f x ≡ Some b → falsifies (a x) b ≡ true) → (i : ℕ) (d : Term) → i < length (clause_row n k f)
+    → is_false a (get_or (clause_row n k f) i d).lit ≡ true
 row-falsified zero k f a h i d l = absurd (omega arith)
 row-falsified (suc n) k f a h i d l = go (f k) refl i (row-falsified n (k + 1) f a h) l
   where
-    go : (o : Option Bool) → f k ≡ o → (i : ℕ) → ((i : ℕ) (d : Term) → i < length (clause_row n (k + 1) f) → is_false a (get_or (clause_row n (k + 1) f) i d).lit ≡ true) → i < length (with_literal k o (clause_row n (k + 1) f)) → is_false a (get_or (with_literal k o (clause_row n (k + 1) f)) i d).lit ≡ true
+    go : (o : Option Bool) → f k ≡ o → (i : ℕ) → ((i : ℕ) (d : Term) → i < length (clause_row n (k + 1) f) → is_false a (get_or (clause_row n (k + 1) f) i d).lit ≡ true)
+        → i < length (with_literal k o (clause_row n (k + 1) f)) → is_false a (get_or (with_literal k o (clause_row n (k + 1) f)) i d).lit ≡ true
     go None e i ih l = ih i d l
     go (Some b) e zero ih l = h k b e
     go (Some b) e (suc i) ih l = ih i d (omega arith)
@@ -108,7 +113,9 @@ below-start es ts = record { above = λ k d h f. absurd (none ts h); attained = 
     none [] h = omega arith
     none (u ∷ us) h = omega arith
 
-pub below-more : (es : List Entry) (ts : List Term) (i : ℕ) (t : Term) (back next : ℕ) → i < length ts → t ≡ get_or ts i t → back ≤ next → (level_in es t.lit.var ≢ level_of es → level_in es t.lit.var ≤ next) → (next ≡ back) ⊎ ((next ≡ level_in es t.lit.var) × (level_in es t.lit.var ≢ level_of es)) → IsLevelBelow es (take i ts) back → IsLevelBelow es (take (i + 1) ts) next
+pub below-more : (es : List Entry) (ts : List Term) (i : ℕ) (t : Term) (back next : ℕ) → i < length ts → t ≡ get_or ts i t → back ≤ next
+    → (level_in es t.lit.var ≢ level_of es → level_in es t.lit.var ≤ next) → (next ≡ back) ⊎ ((next ≡ level_in es t.lit.var) × (level_in es t.lit.var ≢ level_of es))
+    → IsLevelBelow es (take i ts) back → IsLevelBelow es (take (i + 1) ts) next
 below-more es ts i t back next h e kept here either so_far =
     let len = length-take i ts in
     let len' = length-take (i + 1) ts in

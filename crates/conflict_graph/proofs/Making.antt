@@ -116,7 +116,9 @@ making (suc n) k d a (t ∷ ts) p h =
     rest : List Term
     rest = clause_row n (k + 1) (false_signs a (t ∷ ts))
 
-    at-head : t.lit.var ≡ k → eqb t.lit.var k ≡ true → 0 < t.coef → map (divided d) (cut d (false_terms a ts)) ≡ clause_row n (k + 1) (false_signs a (t ∷ ts)) → map (divided d) (cut d (false_terms a (t ∷ ts))) ≡ with_literal k (cond (eqb t.lit.var k) (cond (is_false a t.lit) (Some t.lit.yes) None) (false_signs a ts k)) (clause_row n (k + 1) (false_signs a (t ∷ ts)))
+    at-head : t.lit.var ≡ k → eqb t.lit.var k ≡ true → 0 < t.coef → map (divided d) (cut d (false_terms a ts)) ≡ clause_row n (k + 1) (false_signs a (t ∷ ts))
+        → map (divided d) (cut d (false_terms a (t ∷ ts))) ≡ with_literal k (cond (eqb t.lit.var k) (cond (is_false a t.lit) (Some t.lit.yes) None) (false_signs a ts k))
+        (clause_row n (k + 1) (false_signs a (t ∷ ts)))
     at-head e hit pos ih = rw hit (go (is_false a t.lit))
       where
         go : (b : Bool) → map (divided d) (cut d (cond b (t ∷ false_terms a ts) (false_terms a ts))) ≡ with_literal k (cond b (Some t.lit.yes) None) (clause_row n (k + 1) (false_signs a (t ∷ ts)))

@@ -36,16 +36,19 @@ pub record CanResolve (live : List Live) (es : List Entry) (n p : ℕ) (l : Lite
   pub forces : Forces (value_in (take p es)) (constraint_of live r) l
   pub set : value_in es l.var ≡ Some l.yes
   pub there : f l.var ≡ Some (not l.yes)
-  pub step : IsNormal (constraint_of live r).terms (constraint_of live r).degree → (h : ℕ → Option Bool) → IsResolvent f (false_signs (value_in (take p es)) (constraint_of live r).terms) h l.var → Learning live es n p h (currents n 0 es h) (ops ++ (clause_ops (proof_id_of live r) (flipped (value_in (take p es)) l) (constraint_of live r) ++ Add ∷ Saturate ∷ []))
+  pub step : IsNormal (constraint_of live r).terms (constraint_of live r).degree → (h : ℕ → Option Bool) → IsResolvent f (false_signs (value_in (take p es)) (constraint_of live r).terms) h l.var
+      → Learning live es n p h (currents n 0 es h) (ops ++ (clause_ops (proof_id_of live r) (flipped (value_in (take p es)) l) (constraint_of live r) ++ Add ∷ Saturate ∷ []))
 
-pub at-place : (es : List Entry) (n p : ℕ) (l : Literal) → p < length es → IsDistinct es → All (λ (e : Entry). e.lit.var < n) es → l ≡ get_or (map (λ (e : Entry). e.lit) es) p l → (l.var < n) × (value_in (take p es) l.var ≡ None)
+pub at-place : (es : List Entry) (n p : ℕ) (l : Literal) → p < length es → IsDistinct es → All (λ (e : Entry). e.lit.var < n) es → l ≡ get_or (map (λ (e : Entry). e.lit) es) p l → (l.var < n)
+    × (value_in (take p es) l.var ≡ None)
 at-place es n p l h distinct in_range e =
     let d : Entry = record { lit = l; reason = None } in
     let q = lit-at es p l d h e in
     let P : Literal → Type 0 = λ l. (l.var < n) × (value_in (take p es) l.var ≡ None) in
     subst P (sym q) (in_range p d h, distinct p d h)
 
-pub can-resolve : (live : List Live) (es : List Entry) (n p : ℕ) (l : Literal) (r : ConId) (f : ℕ → Option Bool) (count : ℕ) (ops : List Op) → p < length es → n < 2 ^ 62 → IsDistinct es → l ≡ get_or (map (λ (e : Entry). e.lit) es) p l → AllForced live n es →
+pub can-resolve : (live : List Live) (es : List Entry) (n p : ℕ) (l : Literal) (r : ConId) (f : ℕ → Option Bool) (count : ℕ) (ops : List Op) → p < length es → n < 2 ^ 62 → IsDistinct es
+    → l ≡ get_or (map (λ (e : Entry). e.lit) es) p l → AllForced live n es →
     ((d : Entry) → is_some (f (get_or es p d).lit.var) ≡ true) → (0 < level_of es → 1 < count) → Learning live es n (p + 1) f count ops → reason_in es l.var ≡ Some r → CanResolve live es n p l r f ops
 can-resolve live es n p l r f count ops h few distinct e forced marked two learning reason =
     let d : Entry = record { lit = l; reason = None } in
@@ -67,7 +70,8 @@ can-resolve live es n p l r f count ops h few distinct e forced marked two learn
       step = λ normal g is. learning-resolve live es n p d f g count ops r m.0 few h distinct by normal m.1 two is learning;
     })
 
-pub no-decision : (live : List Live) (es : List Entry) (n p : ℕ) (l : Literal) (f : ℕ → Option Bool) (count : ℕ) (ops : List Op) → p < length es → IsDistinct es → l ≡ get_or (map (λ (e : Entry). e.lit) es) p l → (0 < level_of es → 1 < count) → Learning live es n (p + 1) f count ops → reason_in es l.var ≡ None → ⊥
+pub no-decision : (live : List Live) (es : List Entry) (n p : ℕ) (l : Literal) (f : ℕ → Option Bool) (count : ℕ) (ops : List Op) → p < length es → IsDistinct es
+    → l ≡ get_or (map (λ (e : Entry). e.lit) es) p l → (0 < level_of es → 1 < count) → Learning live es n (p + 1) f count ops → reason_in es l.var ≡ None → ⊥
 no-decision live es n p l f count ops h distinct e two learning reason =
     let d : Entry = record { lit = l; reason = None } in
     let q : l ≡ (get_or es p d).lit = lit-at es p l d h e in
@@ -88,7 +92,8 @@ no-sign a ts n x w free None s = refl
 no-sign a ts n x w free (Some b) s = absurd (let v = (signs-false a ts n w x b s).0 in cc)
 
 -- what dropping and marking leave is the resolvent
-pub is-resolvent : (a b : ℕ → Option Bool) (ts : List Term) (n x : ℕ) (f mid h : ℕ → Option Bool) → ((i : ℕ) (d : Term) → i < length ts → (get_or ts i d).lit.var < n) → b ≡ a → a x ≡ None → ((y : ℕ) → mid y ≡ cond (eqb x y) None (f y)) → ((y : ℕ) → h y ≡ either (mid y) (false_signs b ts y)) → IsResolvent f (false_signs a ts) h x
+pub is-resolvent : (a b : ℕ → Option Bool) (ts : List Term) (n x : ℕ) (f mid h : ℕ → Option Bool) → ((i : ℕ) (d : Term) → i < length ts → (get_or ts i d).lit.var < n) → b ≡ a → a x ≡ None
+    → ((y : ℕ) → mid y ≡ cond (eqb x y) None (f y)) → ((y : ℕ) → h y ≡ either (mid y) (false_signs b ts y)) → IsResolvent f (false_signs a ts) h x
 is-resolvent a b ts n x f mid h w e free dropped added = record {
   here = (let t : eqb x x ≡ true = grind (arith, nat_tests) in
       let m : mid x ≡ None = dropped x ∙ rw t refl in
@@ -98,7 +103,8 @@ is-resolvent a b ts n x f mid h w e free dropped added = record {
       added y ∙ ap (λ o. either o (false_signs b ts y)) m ∙ ap (λ (q : ℕ → Option Bool). either (f y) (false_signs q ts y)) e);
 }
 
-pub learning-same : (live : List Live) (es : List Entry) (n p k : ℕ) (h : ℕ → Option Bool) (ops ops' : List Op) → k ≡ currents n 0 es h → ops' ≡ ops → Learning live es n p h (currents n 0 es h) ops → Learning live es n p h k ops'
+pub learning-same : (live : List Live) (es : List Entry) (n p k : ℕ) (h : ℕ → Option Bool) (ops ops' : List Op) → k ≡ currents n 0 es h → ops' ≡ ops
+    → Learning live es n p h (currents n 0 es h) ops → Learning live es n p h k ops'
 learning-same live es n p k h ops ops' e q l =
     let P : ℕ → List Op → Type 0 = λ k os. Learning live es n p h k os in
     let Q : ℕ → Type 0 = λ k. P k ops in
@@ -111,13 +117,15 @@ whole-trail es ls e =
     let len : length ls ≡ length es = ap length e ∙ length-map es (λ (e : Entry). e.lit) in
     take_all (length ls) es (omega arith)
 
-pub skip-place : (live : List Live) (es : List Entry) (n p : ℕ) (l : Literal) (f : ℕ → Option Bool) (count : ℕ) (ops : List Op) → p < length es → l ≡ get_or (map (λ (e : Entry). e.lit) es) p l → f l.var ≡ None → Learning live es n (p + 1) f count ops → Learning live es n p f count ops
+pub skip-place : (live : List Live) (es : List Entry) (n p : ℕ) (l : Literal) (f : ℕ → Option Bool) (count : ℕ) (ops : List Op) → p < length es → l ≡ get_or (map (λ (e : Entry). e.lit) es) p l
+    → f l.var ≡ None → Learning live es n (p + 1) f count ops → Learning live es n p f count ops
 skip-place live es n p l f count ops h e none learning =
     let d : Entry = record { lit = l; reason = None } in
     let q : l ≡ (get_or es p d).lit = lit-at es p l d h e in
     learning-skip live es n p d f count ops h (ap (λ (m : Literal). f m.var) (sym q) ∙ none) learning
 
-pub marked-place : (es : List Entry) (p : ℕ) (l : Literal) (f : ℕ → Option Bool) → p < length es → l ≡ get_or (map (λ (e : Entry). e.lit) es) p l → is_some (f l.var) ≡ true → (d : Entry) → is_some (f (get_or es p d).lit.var) ≡ true
+pub marked-place : (es : List Entry) (p : ℕ) (l : Literal) (f : ℕ → Option Bool) → p < length es → l ≡ get_or (map (λ (e : Entry). e.lit) es) p l → is_some (f l.var) ≡ true → (d : Entry)
+    → is_some (f (get_or es p d).lit.var) ≡ true
 marked-place es p l f h e m d =
     let q : l ≡ (get_or es p d).lit = lit-at es p l d h e in
     ap (λ (m : Literal). is_some (f m.var)) (sym q) ∙ m
@@ -130,11 +138,14 @@ pub on-ok : {T E : Type 0} (r : Result T E) (P Q : Type 0) → (P → Q) → OnO
 on-ok (Ok x) P Q f h = f h
 on-ok (Err e) P Q f h = tt
 
-pub start-same : (live : List Live) (es : List Entry) (n p k : ℕ) (f g : ℕ → Option Bool) (ops ops' : List Op) → p ≡ length es → f ≡ g → k ≡ currents n 0 es f → ops' ≡ ops → Learning live es n (length es) g (currents n 0 es g) ops → Learning live es n p f k ops'
+pub start-same : (live : List Live) (es : List Entry) (n p k : ℕ) (f g : ℕ → Option Bool) (ops ops' : List Op) → p ≡ length es → f ≡ g → k ≡ currents n 0 es f → ops' ≡ ops
+    → Learning live es n (length es) g (currents n 0 es g) ops → Learning live es n p f k ops'
 start-same live es n p k f g ops ops' ep ef ek eo l =
     let A : ℕ → Type 0 = λ p. Learning live es n p f k ops' in
     let B : (ℕ → Option Bool) → Type 0 = λ g. Learning live es n (length es) g (currents n 0 es g) ops in
     subst A (sym ep) (learning-same live es n (length es) k f ops ops' ek eo (subst B (sym ef) l))
 
-pub marked-start : (a b : ℕ → Option Bool) (ts us : List Term) (start now : ℕ → Option Bool) → ((x : ℕ) → start x ≡ None) → b ≡ a → us ≡ ts → ((y : ℕ) → now y ≡ either (start y) (false_signs b us y)) → now ≡ false_signs a ts
-marked-start a b ts us start now none e t added = fun_ext (λ y. added y ∙ ap (λ o. either o (false_signs b us y)) (none y) ∙ ap (λ (q : ℕ → Option Bool). false_signs q us y) e ∙ ap (λ us. false_signs a us y) t)
+pub marked-start : (a b : ℕ → Option Bool) (ts us : List Term) (start now : ℕ → Option Bool) → ((x : ℕ) → start x ≡ None) → b ≡ a → us ≡ ts
+    → ((y : ℕ) → now y ≡ either (start y) (false_signs b us y)) → now ≡ false_signs a ts
+marked-start a b ts us start now none e t added =
+    fun_ext (λ y. added y ∙ ap (λ o. either o (false_signs b us y)) (none y) ∙ ap (λ (q : ℕ → Option Bool). false_signs q us y) e ∙ ap (λ us. false_signs a us y) t)

@@ -64,22 +64,27 @@ pub record IsResolved (s : Sum) (row : List Term) (lost bound : ℕ) : Type 0 wh
   pub cancelled : s.cancelled ≡ lost
   pub small : total s.terms ≤ bound
 
-resolved-onto : (s : Sum) (row : List Term) (lost bound bound' : ℕ) (k : ℕ) (b : Bool) (n : ℕ) → (n ≡ 1) ⊎ (n ≡ 2) → bound + 2 ≤ bound' → IsResolved s row lost bound → IsResolved (record { terms = record { coef = n; lit = record { var = k; yes = b } } ∷ s.terms; cancelled = s.cancelled }) (literal k b ∷ row) lost bound'
+resolved-onto : (s : Sum) (row : List Term) (lost bound bound' : ℕ) (k : ℕ) (b : Bool) (n : ℕ) → (n ≡ 1) ⊎ (n ≡ 2) → bound + 2 ≤ bound' → IsResolved s row lost bound
+    → IsResolved (record { terms = record { coef = n; lit = record { var = k; yes = b } } ∷ s.terms; cancelled = s.cancelled }) (literal k b ∷ row) lost bound'
 resolved-onto s row lost bound bound' k b n one l h =
     let c = total-cons (record { coef = n; lit = record { var = k; yes = b } }) s.terms in
     let m = h.small in
     let P : ℕ → Type 0 = λ n. cut 1 (record { coef = n; lit = record { var = k; yes = b } } ∷ s.terms) ≡ literal k b ∷ cut 1 s.terms in
     record {
-      terms = elim one as (λ _. cut 1 (record { coef = n; lit = record { var = k; yes = b } } ∷ s.terms) ≡ literal k b ∷ row) [ inl e ↦ subst P (sym e) refl ∙ ap (λ ts. literal k b ∷ ts) h.terms | inr e ↦ subst P (sym e) refl ∙ ap (λ ts. literal k b ∷ ts) h.terms ];
+      terms = elim one as (λ _. cut 1 (record { coef = n; lit = record { var = k; yes = b } } ∷ s.terms) ≡ literal k b ∷ row)
+          [ inl e ↦ subst P (sym e) refl ∙ ap (λ ts. literal k b ∷ ts) h.terms | inr e ↦ subst P (sym e) refl ∙ ap (λ ts. literal k b ∷ ts) h.terms ];
       cancelled = h.cancelled;
       small = elim one as (λ _. total (record { coef = n; lit = record { var = k; yes = b } } ∷ s.terms) ≤ bound') [ inl e ↦ omega arith | inr e ↦ omega arith ];
     }
 
 pub merge_rows : (n k : ℕ) (f g : ℕ → Option Bool) → IsResolved (merge (clause_row n k f) (clause_row n k g)) (clause_row n k (λ x. resolved (f x) (g x))) (clashes n k f g) (n + n)
 merge_rows zero k f g = record { terms = refl; cancelled = refl; small = omega arith }
-merge_rows (suc n) k f g = go (f k) (g k) (clause_row n (k + 1) f) (clause_row n (k + 1) g) (clause_row n (k + 1) (λ x. resolved (f x) (g x))) (clashes n (k + 1) f g) (from_row n (k + 1) f) (from_row n (k + 1) g) (merge_rows n (k + 1) f g)
+merge_rows (suc n) k f g =
+    go (f k) (g k) (clause_row n (k + 1) f) (clause_row n (k + 1) g) (clause_row n (k + 1) (λ x. resolved (f x) (g x))) (clashes n (k + 1) f g) (from_row n (k + 1) f) (from_row n (k + 1) g)
+    (merge_rows n (k + 1) f g)
   where
-    go : (a b : Option Bool) (ts us both : List Term) (lost : ℕ) → From (k + 1) ts → From (k + 1) us → IsResolved (merge ts us) both lost (n + n) → IsResolved (merge (with_literal k a ts) (with_literal k b us)) (with_literal k (resolved a b) both) (clash a b + lost) (suc n + suc n)
+    go : (a b : Option Bool) (ts us both : List Term) (lost : ℕ) → From (k + 1) ts → From (k + 1) us → IsResolved (merge ts us) both lost (n + n)
+        → IsResolved (merge (with_literal k a ts) (with_literal k b us)) (with_literal k (resolved a b) both) (clash a b + lost) (suc n + suc n)
     go None None ts us both lost h i r = let m = r.small in record { terms = r.terms; cancelled = r.cancelled ∙ omega arith; small = omega arith }
     go (Some a) None ts us both lost h i r =
         let P : Sum → Type 0 = λ s. IsResolved s (literal k a ∷ both) (0 + lost) (suc n + suc n) in
@@ -109,7 +114,8 @@ merge_rows (suc n) k f g = go (f k) (g k) (clause_row n (k + 1) f) (clause_row n
         signs false false = twice false
 
 -- two clauses that clash in one variable, summed up and cut, are their resolvent
-pub resolvent : (n : ℕ) (f g : ℕ → Option Bool) → clashes n 0 f g ≡ 1 → (saturate (add (clause_of n f) (clause_of n g)) ≡ clause_of n (λ x. resolved (f x) (g x))) × (total (add (clause_of n f) (clause_of n g)).terms ≤ n + n) × ((add (clause_of n f) (clause_of n g)).degree ≡ 1)
+pub resolvent : (n : ℕ) (f g : ℕ → Option Bool) → clashes n 0 f g ≡ 1 → (saturate (add (clause_of n f) (clause_of n g)) ≡ clause_of n (λ x. resolved (f x) (g x)))
+    × (total (add (clause_of n f) (clause_of n g)).terms ≤ n + n) × ((add (clause_of n f) (clause_of n g)).degree ≡ 1)
 resolvent n f g one =
     let r = merge_rows n 0 f g in
     let c = r.cancelled in

@@ -19,7 +19,8 @@ falsifies-not o true h = rw h refl
 falsifies-not o false h = rw h refl
 
 -- what has a sign is false, and in range
-pub signs-false : (p : ℕ → Option Bool) (ts : List Term) (n : ℕ) → ((i : ℕ) (d : Term) → i < length ts → (get_or ts i d).lit.var < n) → (x : ℕ) (b : Bool) → false_signs p ts x ≡ Some b → (p x ≡ Some (not b)) × (x < n)
+pub signs-false : (p : ℕ → Option Bool) (ts : List Term) (n : ℕ) → ((i : ℕ) (d : Term) → i < length ts → (get_or ts i d).lit.var < n) → (x : ℕ) (b : Bool) → false_signs p ts x ≡ Some b
+    → (p x ≡ Some (not b)) × (x < n)
 signs-false p [] n w x b h = absurd (cc)
 signs-false p (t ∷ ts) n w x b h = go (eqb t.lit.var x) refl (is_false p t.lit) refl (signs-false p ts n (λ i d l. w (suc i) d (omega arith)) x b)
   where
@@ -34,7 +35,8 @@ signs-false p (t ∷ ts) n w x b h = go (eqb t.lit.var x) refl (is_false p t.lit
     go false e q f ih = (let s : false_signs p (t ∷ ts) x ≡ false_signs p ts x = rw e refl in ih (sym s ∙ h))
 
 -- a false literal has its sign
-pub signs-at : (p : ℕ → Option Bool) (k : ℕ) (ts : List Term) (i : ℕ) (d : Term) → From k ts → i < length ts → is_false p (get_or ts i d).lit ≡ true → false_signs p ts (get_or ts i d).lit.var ≡ Some (get_or ts i d).lit.yes
+pub signs-at : (p : ℕ → Option Bool) (k : ℕ) (ts : List Term) (i : ℕ) (d : Term) → From k ts → i < length ts → is_false p (get_or ts i d).lit ≡ true
+    → false_signs p ts (get_or ts i d).lit.var ≡ Some (get_or ts i d).lit.yes
 signs-at p k [] i d f h z = absurd (omega arith)
 signs-at p k (t ∷ ts) zero d f h z = let hit : eqb t.lit.var t.lit.var ≡ true = grind (arith, nat_tests) in rw (hit, z) refl
 signs-at p k (t ∷ ts) (suc i) d f h z =
@@ -47,7 +49,8 @@ pub signs-agree : (p q : ℕ → Option Bool) (ts : List Term) (x : ℕ) → p x
 signs-agree p q [] x e = refl
 signs-agree p q (t ∷ ts) x e = go (eqb t.lit.var x) refl (signs-agree p q ts x e)
   where
-    go : (o : Bool) → eqb t.lit.var x ≡ o → false_signs p ts x ≡ false_signs q ts x → cond o (cond (is_false p t.lit) (Some t.lit.yes) None) (false_signs p ts x) ≡ cond o (cond (is_false q t.lit) (Some t.lit.yes) None) (false_signs q ts x)
+    go : (o : Bool) → eqb t.lit.var x ≡ o → false_signs p ts x ≡ false_signs q ts x → cond o (cond (is_false p t.lit) (Some t.lit.yes) None) (false_signs p ts x)
+        ≡ cond o (cond (is_false q t.lit) (Some t.lit.yes) None) (false_signs q ts x)
     go true h ih =
         let v : t.lit.var ≡ x = grind (arith, nat_tests) in
         let s : p t.lit.var ≡ q t.lit.var = ap p v ∙ e ∙ ap q (sym v) in

@@ -31,8 +31,10 @@ usable-terms : (live : List Live) (n : ℕ) (c : ConId) → IsUsable live n c �
 usable-terms live n c u normal = Terms-of n (constraint_of live c).terms (constraint_of live c).degree normal u.in_range
 
 -- the conflict's own clause
-pub learning-start : (live : List Live) (es : List Entry) (n : ℕ) (c : ConId) → n < 2 ^ 62 → IsUsable live n c → IsNormal (constraint_of live c).terms (constraint_of live c).degree → InConflict (value_in es) (constraint_of live c) → (0 < level_of es → HasCurrent es (constraint_of live c).terms) →
-    Learning live es n (length es) (false_signs (value_in es) (constraint_of live c).terms) (currents n 0 es (false_signs (value_in es) (constraint_of live c).terms)) (clause_ops (proof_id_of live c) (value_in es) (constraint_of live c))
+pub learning-start : (live : List Live) (es : List Entry) (n : ℕ) (c : ConId) → n < 2 ^ 62 → IsUsable live n c → IsNormal (constraint_of live c).terms (constraint_of live c).degree
+    → InConflict (value_in es) (constraint_of live c) → (0 < level_of es → HasCurrent es (constraint_of live c).terms) →
+    Learning live es n (length es) (false_signs (value_in es) (constraint_of live c).terms) (currents n 0 es (false_signs (value_in es) (constraint_of live c).terms))
+        (clause_ops (proof_id_of live c) (value_in es) (constraint_of live c))
 learning-start live es n c few u normal conflict current =
     let k : Linear = constraint_of live c in
     let a : ℕ → Option Bool = value_in es in
@@ -61,7 +63,8 @@ learning-start live es n c few u normal conflict current =
     }
 
 -- a place whose variable is not in the clause
-pub learning-skip : (live : List Live) (es : List Entry) (n p : ℕ) (d : Entry) (f : ℕ → Option Bool) (count : ℕ) (ops : List Op) → p < length es → f (get_or es p d).lit.var ≡ None → Learning live es n (p + 1) f count ops → Learning live es n p f count ops
+pub learning-skip : (live : List Live) (es : List Entry) (n p : ℕ) (d : Entry) (f : ℕ → Option Bool) (count : ℕ) (ops : List Op) → p < length es → f (get_or es p d).lit.var ≡ None
+    → Learning live es n (p + 1) f count ops → Learning live es n p f count ops
 learning-skip live es n p d f count ops h none l = record {
   derives = l.derives;
   within = l.within;
@@ -127,12 +130,15 @@ meets-agree a whole l f g m y n b c p q =
     let e : not b ≡ not c = cc in
     not-injective b c e
 
-pub learning-resolve : (live : List Live) (es : List Entry) (n p : ℕ) (d : Entry) (f h : ℕ → Option Bool) (count : ℕ) (ops : List Op) (r : ConId) (b : Bool) → n < 2 ^ 62 → p < length es → IsDistinct es → IsForcedBy live n (take p es) (get_or es p d) r → IsNormal (constraint_of live r).terms (constraint_of live r).degree → f (get_or es p d).lit.var ≡ Some b → (0 < level_of es → 1 < count) → IsResolvent f (false_signs (value_in (take p es)) (constraint_of live r).terms) h (get_or es p d).lit.var → Learning live es n (p + 1) f count ops →
+pub learning-resolve : (live : List Live) (es : List Entry) (n p : ℕ) (d : Entry) (f h : ℕ → Option Bool) (count : ℕ) (ops : List Op) (r : ConId) (b : Bool) → n < 2 ^ 62 → p < length es
+    → IsDistinct es → IsForcedBy live n (take p es) (get_or es p d) r → IsNormal (constraint_of live r).terms (constraint_of live r).degree → f (get_or es p d).lit.var ≡ Some b
+    → (0 < level_of es → 1 < count) → IsResolvent f (false_signs (value_in (take p es)) (constraint_of live r).terms) h (get_or es p d).lit.var → Learning live es n (p + 1) f count ops →
     Learning live es n p h (currents n 0 es h) (ops ++ (clause_ops (proof_id_of live r) (flipped (value_in (take p es)) (get_or es p d).lit) (constraint_of live r) ++ Add ∷ Saturate ∷ []))
 learning-resolve live es n p d f h count ops r b small lt distinct forced normal marked two is l = record {
   derives = λ context knows has. (
       let u = forced.usable in
-      let made = making_gives context n (proof_id_of live r) (flipped a lit) k (clause_of n f ∷ []) knows (has r u.live_there) (omega arith) terms normal.small_degree (forced-flip a k lit forced.forces) in
+      let made = making_gives context n (proof_id_of live r) (flipped a lit) k (clause_of n f ∷ []) knows (has r u.live_there) (omega arith) terms normal.small_degree
+          (forced-flip a k lit forced.forces) in
       let res = resolving_gives context n f g [] small one in
       let same : clause_of n (λ x. resolved (f x) (g x)) ≡ clause_of n h = ap (clause_of n) (fun_ext resolvent_is) in
       apply_all-append context ops (clause_ops (proof_id_of live r) (flipped a lit) k ++ Add ∷ Saturate ∷ []) [] (clause_of n f ∷ []) (l.derives context knows has)
@@ -144,7 +150,8 @@ learning-resolve live es n p d f h count ops r b small lt distinct forced normal
   ];
   false_before = λ y c q. elim (cases_eq y x) [
     | inl e ↦ absurd (let z = is.here in let q' : h x ≡ Some c = ap h (sym e) ∙ q in cc)
-    | inr ne ↦ (elim (either-cases (f y) (g0 y) c (sym (is.other y ne) ∙ q)) [ inl s ↦ sym (meets.same y ne) ∙ l.false_before y c s | inr s ↦ (signs-false a k.terms n (forced.usable).in_range y c s).0 ])
+    | inr ne ↦ (elim (either-cases (f y) (g0 y) c (sym (is.other y ne) ∙ q)) [ inl s ↦ sym (meets.same y ne) ∙ l.false_before y c s | inr s ↦
+        (signs-false a k.terms n (forced.usable).in_range y c s).0 ])
   ];
   propagated = λ q closed falsified. (
       let too : FalseToo a q k.terms = signs-too a q 0 k.terms terms.from (λ y c s. falsified y c (has_second y c s)) in
@@ -220,7 +227,8 @@ learning-resolve live es n p d f h count ops r b small lt distinct forced normal
         let Q : Term → Type 0 = λ u. false_signs (flipped (value_in (take p es)) (get_or es p d).lit) (constraint_of live r).terms u.lit.var ≡ Some u.lit.yes in
         let hit : eqb x x ≡ true = grind (arith, nat_tests) in
         let f-is : flipped (value_in (take p es)) (get_or es p d).lit x ≡ Some (not (get_or es p d).lit.yes) = rw hit refl in
-        let z : is_false (flipped (value_in (take p es)) (get_or es p d).lit) (get_or es p d).lit ≡ true = falsifies-not (flipped (value_in (take p es)) (get_or es p d).lit x) (get_or es p d).lit.yes f-is in
+        let z : is_false (flipped (value_in (take p es)) (get_or es p d).lit) (get_or es p d).lit ≡ true =
+            falsifies-not (flipped (value_in (take p es)) (get_or es p d).lit x) (get_or es p d).lit.yes f-is in
         subst Q at (signs-at (flipped (value_in (take p es)) (get_or es p d).lit) 0 (constraint_of live r).terms i t terms.from (fs.there).1 (subst P (sym at) z))
 
     f-here : f x ≡ Some (not (get_or es p d).lit.yes)
@@ -252,7 +260,8 @@ learning-resolve live es n p d f h count ops r b small lt distinct forced normal
         omega arith
 
 -- a decision is never resolved on
-only-here : (live : List Live) (es : List Entry) (n p : ℕ) (d : Entry) (f : ℕ → Option Bool) (count : ℕ) (ops : List Op) → p < length es → is_decision (get_or es p d) ≡ true → Learning live es n (p + 1) f count ops → (y : ℕ) → y ≢ (get_or es p d).lit.var → (o : Option Bool) → f y ≡ o → current_at es y (f y) ≡ 0
+only-here : (live : List Live) (es : List Entry) (n p : ℕ) (d : Entry) (f : ℕ → Option Bool) (count : ℕ) (ops : List Op) → p < length es → is_decision (get_or es p d) ≡ true
+    → Learning live es n (p + 1) f count ops → (y : ℕ) → y ≢ (get_or es p d).lit.var → (o : Option Bool) → f y ≡ o → current_at es y (f y) ≡ 0
 only-here live es n p d f count ops lt dec l y ne None e = ap (current_at es y) e
 only-here live es n p d f count ops lt dec l y ne (Some b) e =
     let v : value_in (take p es) y ≡ Some (not b) = sym (value-more_other es p d y lt (λ q. ne (sym q))) ∙ l.false_before y b e in
@@ -263,7 +272,8 @@ only-here live es n p d f count ops lt dec l y ne (Some b) e =
     let test : eqb (level_in es y) (level_of es) ≡ false = (let q : level_in es y ≢ level_of es = omega arith in grind (arith, nat_tests)) in
     ap (current_at es y) e ∙ rw test refl
 
-pub decision-alone : (live : List Live) (es : List Entry) (n p : ℕ) (d : Entry) (f : ℕ → Option Bool) (count : ℕ) (ops : List Op) → p < length es → is_decision (get_or es p d) ≡ true → Learning live es n (p + 1) f count ops → (0 < level_of es) × (count ≤ 1)
+pub decision-alone : (live : List Live) (es : List Entry) (n p : ℕ) (d : Entry) (f : ℕ → Option Bool) (count : ℕ) (ops : List Op) → p < length es → is_decision (get_or es p d) ≡ true
+    → Learning live es n (p + 1) f count ops → (0 < level_of es) × (count ≤ 1)
 decision-alone live es n p d f count ops lt dec l =
     let m = level-more es p d lt in
     let m' = rw dec at m in
@@ -286,7 +296,8 @@ learning-end live es n f count ops l =
     go x (Some b) e = absurd (let v : value_in (take 0 es) x ≡ Some (not b) = l.false_before x b e in cc)
 
 -- the analysis ends with one literal of the current level, or at the first place
-pub learnt-one : (live : List Live) (es : List Entry) (n p : ℕ) (f : ℕ → Option Bool) (count : ℕ) (ops : List Op) → 0 < level_of es → count ≡ 1 → Learning live es n p f count ops → Learnt live es n f ops
+pub learnt-one : (live : List Live) (es : List Entry) (n p : ℕ) (f : ℕ → Option Bool) (count : ℕ) (ops : List Op) → 0 < level_of es → count ≡ 1 → Learning live es n p f count ops
+    → Learnt live es n f ops
 learnt-one live es n p f count ops pos one l = record {
   derives = l.derives;
   within = l.within;

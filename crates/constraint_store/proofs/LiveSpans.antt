@@ -127,7 +127,8 @@ ids_from ts k (Some s ∷ ss) zero d h = omega arith
 ids_from ts k (Some s ∷ ss) (suc i) d h = omega (arith, ids_from ts (k + 1) ss i d (omega arith))
 
 -- and rise
-ids_rise : (ts : List Term) (k : ℕ) (ss : List (Option Span)) (i j : ℕ) (d : Live) → i < j → j < length (live_from ts k ss) → (get_or (live_from ts k ss) i d).id.0 < (get_or (live_from ts k ss) j d).id.0
+ids_rise : (ts : List Term) (k : ℕ) (ss : List (Option Span)) (i j : ℕ) (d : Live) → i < j → j < length (live_from ts k ss)
+    → (get_or (live_from ts k ss) i d).id.0 < (get_or (live_from ts k ss) j d).id.0
 ids_rise ts k [] i j d l h = absurd (omega arith)
 ids_rise ts k (None ∷ ss) i j d l h = ids_rise ts (k + 1) ss i j d l h
 ids_rise ts k (Some s ∷ ss) i zero d l h = absurd (omega arith)
@@ -157,11 +158,13 @@ span_live ts ss read es c v live r =
     ap (λ (xs : List (Option Span)). is_some (get_or xs c.0 empty_span)) r ∙ (live_there ts ss c l).1
 
 -- and what was read is what is live
-pub span_is : (ts : List Term) (ss read : List (Option Span)) (es : List Live) (c : ConId) (s : Span) → live_from ts 0 ss ≡ es → read ≡ ss → get_or read c.0 empty_span ≡ Some s → live_in ts c.0 s ≡ live_at es c
+pub span_is : (ts : List Term) (ss read : List (Option Span)) (es : List Live) (c : ConId) (s : Span) → live_from ts 0 ss ≡ es → read ≡ ss → get_or read c.0 empty_span ≡ Some s
+    → live_in ts c.0 s ≡ live_at es c
 span_is ts ss read es c s v r e =
     let at : get_or ss c.0 empty_span ≡ Some s = ap (λ (xs : List (Option Span)). get_or xs c.0 empty_span) (sym r) ∙ e in
     sym (live_at-from ts 0 ss c c.0 s (sym (zero-add c.0)) at) ∙ ap (λ (xs : List Live). live_at xs c) v
 
 -- in normal form
-pub normal_live : (ts : List Term) (ss : List (Option Span)) (es : List Live) (c : ConId) → live_from ts 0 ss ≡ es → is_live es c ≡ true → AreNormal (live_from ts 0 ss) → IsNormal (live_at es c).constraint.terms (live_at es c).constraint.degree
+pub normal_live : (ts : List Term) (ss : List (Option Span)) (es : List Live) (c : ConId) → live_from ts 0 ss ≡ es → is_live es c ≡ true → AreNormal (live_from ts 0 ss)
+    → IsNormal (live_at es c).constraint.terms (live_at es c).constraint.degree
 normal_live ts ss es c v live n = normal_at es c live (subst AreNormal v n)

@@ -20,7 +20,8 @@ differ a b ne =
 lookup-push_here : (test : List ℕ → Bool) (files : Files) (name bytes : List ℕ) → lookup test files ≡ None → test name ≡ true → lookup test (files ++ (name, bytes) ∷ []) ≡ Some bytes
 lookup-push_here test [] name bytes = λ e is. rw is refl
 lookup-push_here test (f ∷ fs) name bytes =
-    let go : (b : Bool) → cond b (Some f.1) (lookup test fs) ≡ None → test name ≡ true → cond b (Some f.1) (lookup test (fs ++ (name, bytes) ∷ [])) ≡ Some bytes = elim [ true ↦ λ e is. cc | false ↦ λ e is. lookup-push_here test fs name bytes e is ] in
+    let go : (b : Bool) → cond b (Some f.1) (lookup test fs) ≡ None → test name ≡ true → cond b (Some f.1) (lookup test (fs ++ (name, bytes) ∷ [])) ≡ Some bytes =
+        elim [ true ↦ λ e is. cc | false ↦ λ e is. lookup-push_here test fs name bytes e is ] in
     go (test f.0)
 
 lookup-push_other : (test : List ℕ → Bool) (files : Files) (name bytes : List ℕ) → test name ≡ false → lookup test (files ++ (name, bytes) ∷ []) ≡ lookup test files
@@ -57,7 +58,8 @@ distinct-set_value test (f ∷ fs) bytes distinct =
     ] in
     go (test f.0)
 
-file_at-set_value : (files : Files) (name bytes other : List ℕ) → IsSome (file_at files name) → file_at (set_value (bytes_eq name) files bytes) other ≡ cond (bytes_eq name other) (Some bytes) (file_at files other)
+file_at-set_value : (files : Files) (name bytes other : List ℕ) → IsSome (file_at files name) → file_at (set_value (bytes_eq name) files bytes) other
+    ≡ cond (bytes_eq name other) (Some bytes) (file_at files other)
 file_at-set_value files name bytes other there = lookup-set_value nat_list_eq_equiv (bytes_eq name) (λ x y. nat_list_eq_equiv.congr name x y) other bytes files there
 
 -- ---- both

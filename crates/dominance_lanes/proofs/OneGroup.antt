@@ -13,7 +13,8 @@ use Rattle.dominance_lanes.specs.Groups.{first_set, is_at_most_to, IsFirstZero, 
 
 -- ---- the first lane that is 0
 
-pub first_zero_is : (lanes : List ℕ) (r : ℕ) → length lanes ≡ 8 → r ≡ first_set (mask_l (map (top (hbits w64)) (zip2 (λ a b. cond (eqb a b) (2 ^ bits w64 - 1) 0) lanes (replicate 8 0))) % 2 ^ 64) 8 → IsFirstZero lanes 8 r
+pub first_zero_is : (lanes : List ℕ) (r : ℕ) → length lanes ≡ 8 → r ≡ first_set (mask_l (map (top (hbits w64)) (zip2 (λ a b. cond (eqb a b) (2 ^ bits w64 - 1) 0) lanes (replicate 8 0))) % 2 ^ 64)
+    8 → IsFirstZero lanes 8 r
 first_zero_is lanes r long is =
     let p : ℕ → Bool = λ x. eqb x 0 in
     let count : r ≡ prefix_len (λ x. not (p x)) lanes = is ∙ ap (λ m. first_set m 8) (bitmask_splat w64 eqb lanes 8 0 long (omega arith)) ∙ first_set_mask_l p lanes 8 long (omega arith) in
@@ -79,7 +80,8 @@ row_reads f xs j k x h e =
     get_or-map (λ column. get_or column k 0) (map f xs) j [] 0 (omega (arith, length-map xs f))
     ∙ ap (λ column. get_or column k 0) (get_or-map f xs j x [] h ∙ ap f (sym e))
 
-pub read_at : (cs : List (Vec ℕ Global)) (j k : ℕ) (column : Vec ℕ Global) (x : ℕ) → j < length cs → column ≡ get_or cs j column → k < vec_len (get_or cs j column) → x ≡ get_or column.items k x → get_or (row_at (map vec_items cs) k) j 0 ≡ x
+pub read_at : (cs : List (Vec ℕ Global)) (j k : ℕ) (column : Vec ℕ Global) (x : ℕ) → j < length cs → column ≡ get_or cs j column → k < vec_len (get_or cs j column) → x ≡ get_or column.items k x
+    → get_or (row_at (map vec_items cs) k) j 0 ≡ x
 read_at cs j k column x h is room at =
     let long : k < vec_len column = subst (λ (c : Vec ℕ Global). k < vec_len c) (sym is) room in
     row_reads vec_items cs j k column h is ∙ sym (at ∙ get_or_default column.items k x 0 (omega (arith, column.ok.0)))

@@ -84,7 +84,8 @@ completed (suc n) cs now width m is short are =
     let same : now ≡ cs = is ∙ ap (λ j. cs ++ replicate j []) none ∙ append-nil cs in
     subst (λ l. Completed cs l width (suc n)) (sym same) (record { are = are; same = refl })
 
-pub completed_by : (old now : Vec (Vec ℕ Global) Global) (width n : ℕ) → map vec_items now.items ≡ map vec_items old.items ++ replicate (vec_len now - vec_len old) [] → vec_len now ≤ width → AreColumns (map vec_items old.items) width n → Completed (map vec_items old.items) (map vec_items now.items) width n
+pub completed_by : (old now : Vec (Vec ℕ Global) Global) (width n : ℕ) → map vec_items now.items ≡ map vec_items old.items ++ replicate (vec_len now - vec_len old) [] → vec_len now ≤ width
+    → AreColumns (map vec_items old.items) width n → Completed (map vec_items old.items) (map vec_items now.items) width n
 completed_by old now width n is bound are =
     completed n (map vec_items old.items) (map vec_items now.items) width (vec_len now - vec_len old) is
     (omega (arith, length-map old.items vec_items, old.ok.0, are.narrow)) are
@@ -109,13 +110,15 @@ by_place : (n : ℕ) (c : List ℕ) → length c ≡ n → c ≡ map (λ k. get_
 by_place n c long = fill_by_all (λ k. get_or c k 0) c n 0 long (λ k h. refl)
 
 -- number j of what isn't marked in a column is the column's number at place j of the places that aren't
-kept_number : (ms : List Bool) (n j : ℕ) (c : List ℕ) → length c ≡ n → j < length (unmarked ms (range_with_len 0 n)) → get_or (unmarked ms c) j 0 ≡ get_or c (get_or (unmarked ms (range_with_len 0 n)) j 0) 0
+kept_number : (ms : List Bool) (n j : ℕ) (c : List ℕ) → length c ≡ n → j < length (unmarked ms (range_with_len 0 n))
+    → get_or (unmarked ms c) j 0 ≡ get_or c (get_or (unmarked ms (range_with_len 0 n)) j 0) 0
 kept_number ms n j c long h =
     ap (λ l. get_or (unmarked ms l) j 0) (by_place n c long)
     ∙ ap (λ l. get_or l j 0) (unmarked-map (λ k. get_or c k 0) ms (range_with_len 0 n))
     ∙ get_or-map (λ k. get_or c k 0) (unmarked ms (range_with_len 0 n)) j 0 0 h
 
-kept_row : (ms : List Bool) (n j : ℕ) (cs : List (List ℕ)) → All (HasLength n) cs → j < length (unmarked ms (range_with_len 0 n)) → row_at (map (unmarked ms) cs) j ≡ row_at cs (get_or (unmarked ms (range_with_len 0 n)) j 0)
+kept_row : (ms : List Bool) (n j : ℕ) (cs : List (List ℕ)) → All (HasLength n) cs → j < length (unmarked ms (range_with_len 0 n))
+    → row_at (map (unmarked ms) cs) j ≡ row_at cs (get_or (unmarked ms (range_with_len 0 n)) j 0)
 kept_row ms n j [] even h = refl
 kept_row ms n j (c ∷ cs) even h =
     ap₂ (λ a l. a ∷ l) (kept_number ms n j c (All-head (HasLength n) c cs even) h) (kept_row ms n j cs (All-tail (HasLength n) c cs even) h)
@@ -166,7 +169,8 @@ first_found cs v n k same h is none = record {
 pub none_in_both : (p : ℕ → Bool) (start mid end : ℕ) → NoneBetween p start mid → NoneBetween p mid end → NoneBetween p start end
 none_in_both p start mid end first second k from to = elim (cases_lt k mid) [ inl lt ↦ first k from lt | inr ge ↦ second k ge to ]
 
-pub found_or_none : (cs : List (List ℕ)) (v : List ℕ) (mid n : ℕ) (r : Option ℕ) → length cs ≡ length v → NoneBetween (is_below_at cs v) 0 mid → FirstBetween (is_below_at cs v) mid n r → MatchOption r (NoneBelow (rows cs n) v n) (IsFirstBelow (rows cs n) v)
+pub found_or_none : (cs : List (List ℕ)) (v : List ℕ) (mid n : ℕ) (r : Option ℕ) → length cs ≡ length v → NoneBetween (is_below_at cs v) 0 mid → FirstBetween (is_below_at cs v) mid n r
+    → MatchOption r (NoneBelow (rows cs n) v n) (IsFirstBelow (rows cs n) v)
 found_or_none cs v mid n None same before rest = none_below cs v n n (omega arith) (none_in_both (is_below_at cs v) 0 mid n before rest)
 found_or_none cs v mid n (Some k) same before rest = first_found cs v n k same rest.to rest.here (none_in_both (is_below_at cs v) 0 mid k before rest.before)
 

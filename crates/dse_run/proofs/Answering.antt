@@ -28,7 +28,8 @@ use Rattle.dse_run.specs.declared.status.Status.TheVariants.{Usage, Budget}
 -- ---- what is answered
 
 -- what a request comes to over what was loaded is what is answered
-pub answered : (asked : RequestValue) (tools : ToolsValue) (calls : List ℕ) (files now_files : Option Files) (names : NamesValue) (inputs : Inputs) (tried : Result Outcome ReadFault) (reply : ReplyValue) → names ≡ names_of asked → AreLoadedFrom files names inputs → now_files ≡ files
+pub answered : (asked : RequestValue) (tools : ToolsValue) (calls : List ℕ) (files now_files : Option Files) (names : NamesValue) (inputs : Inputs) (tried : Result Outcome ReadFault)
+    (reply : ReplyValue) → names ≡ names_of asked → AreLoadedFrom files names inputs → now_files ≡ files
     → ((world : World) → AreLoaded inputs world → ComesTo asked tools calls now_files world tried) → EndsBy names tried reply → AnswersRequest asked tools calls files reply
 answered asked tools calls files now_files names inputs tried reply names_is loaded files_is comes ends = record {
   world = loaded.world;
@@ -40,7 +41,8 @@ answered asked tools calls files now_files names inputs tried reply names_is loa
 
 -- ---- what is left
 
-pub given_left : (asked : Option RequestValue) (tools : ToolsValue) (calls : List ℕ) (files new_files : Option Files) (said new_said : Option (List ℕ)) (status : Status) → Answered asked tools calls files new_files said new_said status → IsLeft asked tools calls files new_files
+pub given_left : (asked : Option RequestValue) (tools : ToolsValue) (calls : List ℕ) (files new_files : Option Files) (said new_said : Option (List ℕ)) (status : Status)
+    → Answered asked tools calls files new_files said new_said status → IsLeft asked tools calls files new_files
 given_left asked tools calls files new_files said new_said status h = inr (record {
   reply = h.reply;
   answers = h.answers;
@@ -59,11 +61,13 @@ request_not_usage asked reply (Ok outcome) e u = not_usage outcome.ending (sym (
 request_not_usage asked reply (Err (faults.Refused r)) e u = let q = sym (ap (λ (r : ReplyValue). r.status) e) ∙ u in absurd (cc)
 request_not_usage asked reply (Err faults.NoMemory) e u = e
 
-pub usage_of_none : (asked : Option RequestValue) (tools : ToolsValue) (calls : List ℕ) (files : Option Files) (reply : ReplyValue) → AnswersTo asked tools calls files reply → reply.status ≡ Usage → asked ≡ None
+pub usage_of_none : (asked : Option RequestValue) (tools : ToolsValue) (calls : List ℕ) (files : Option Files) (reply : ReplyValue) → AnswersTo asked tools calls files reply → reply.status ≡ Usage
+    → asked ≡ None
 usage_of_none None tools calls files reply h u = refl
 usage_of_none (Some asked) tools calls files reply h u = absurd (request_not_usage asked reply h.result h.ends u)
 
-pub none_is_usage : (asked : Option RequestValue) (tools : ToolsValue) (calls : List ℕ) (files : Option Files) (reply : ReplyValue) → AnswersTo asked tools calls files reply → asked ≡ None → reply.status ≡ Usage
+pub none_is_usage : (asked : Option RequestValue) (tools : ToolsValue) (calls : List ℕ) (files : Option Files) (reply : ReplyValue) → AnswersTo asked tools calls files reply → asked ≡ None
+    → reply.status ≡ Usage
 none_is_usage None tools calls files reply h n = ap (λ (r : ReplyValue). r.status) h
 none_is_usage (Some asked) tools calls files reply h n = absurd (cc)
 
@@ -82,7 +86,8 @@ beside : (b : Option ℕ) (p : Option (List ℕ)) (n : ℕ) → b ≡ Some n →
 beside b None n given alone = let q = sym given ∙ alone refl in absurd (cc)
 beside b (Some name) n given alone = rw given refl
 
-finds_budget : (wanted : EvidenceValue) (outcome : Outcome) → outcome.ending ≡ endings.Budget → (wanted.proof ≡ None → wanted.budget ≡ None) → (s : _) (genes : _) → Finds wanted s genes outcome → IsTrue (is_some wanted.budget && is_some wanted.proof)
+finds_budget : (wanted : EvidenceValue) (outcome : Outcome) → outcome.ending ≡ endings.Budget → (wanted.proof ≡ None → wanted.budget ≡ None) → (s : _) (genes : _) → Finds wanted s genes outcome
+    → IsTrue (is_some wanted.budget && is_some wanted.proof)
 finds_budget wanted outcome e alone s genes (inl h) = let q = sym h.ending ∙ e in absurd (cc)
 finds_budget wanted outcome e alone s genes (inr (inl h)) = let q = sym h.ending ∙ e in absurd (cc)
 finds_budget wanted outcome e alone s genes (inr (inr h)) = beside wanted.budget wanted.proof h.budget h.given alone
@@ -101,7 +106,8 @@ ends_by_budget endings.Done e = absurd (cc)
 ends_by_budget endings.No e = absurd (cc)
 ends_by_budget endings.Budget e = refl
 
-comes_to_budget : (n : ℕ) (asked : RequestValue) (tools : ToolsValue) (calls : List ℕ) (files : Option Files) (world : World) (outcome : Outcome) → IsFit n asked → outcome.ending ≡ endings.Budget → ComesTo asked tools calls files world (Ok outcome) → HasBudget asked
+comes_to_budget : (n : ℕ) (asked : RequestValue) (tools : ToolsValue) (calls : List ℕ) (files : Option Files) (world : World) (outcome : Outcome) → IsFit n asked → outcome.ending ≡ endings.Budget
+    → ComesTo asked tools calls files world (Ok outcome) → HasBudget asked
 comes_to_budget n (decode d) tools calls files world outcome fit e h =
     after_ok _ _ outcome (λ s k. after_ok _ _ outcome (λ genes found. finds_budget (record { budget = d.budget; proof = d.proof }) outcome e fit.alone s genes found) k) h
 comes_to_budget n (explore x) tools calls files world outcome fit e h = after_ok _ _ outcome (λ s found. explores_budget (exploration_of x) tools calls outcome e s found) h
@@ -109,11 +115,14 @@ comes_to_budget n (front f) tools calls files world outcome fit e h = after_ok _
 comes_to_budget n (check c) tools calls files world outcome fit e h =
     after_ok _ _ outcome (λ s k. after_ok _ _ outcome (λ front judged. elim judged.ends [ inl x ↦ (let q = sym x.0 ∙ e in absurd (cc)) | inr x ↦ (let q = sym x.0 ∙ e in absurd (cc)) ]) k) h.holds
 
-request_budget : (n : ℕ) (asked : RequestValue) (tools : ToolsValue) (calls : List ℕ) (files : Option Files) (reply : ReplyValue) (world : World) (result : Result Outcome ReadFault) → IsFit n asked → ComesTo asked tools calls files world result → EndsBy (names_of asked) result reply → reply.status ≡ Budget → HasBudget asked
-request_budget n asked tools calls files reply world (Ok outcome) fit comes e b = comes_to_budget n asked tools calls files world outcome fit (ends_by_budget outcome.ending (sym (ap (λ (r : ReplyValue). r.status) e) ∙ b)) comes
+request_budget : (n : ℕ) (asked : RequestValue) (tools : ToolsValue) (calls : List ℕ) (files : Option Files) (reply : ReplyValue) (world : World) (result : Result Outcome ReadFault)
+    → IsFit n asked → ComesTo asked tools calls files world result → EndsBy (names_of asked) result reply → reply.status ≡ Budget → HasBudget asked
+request_budget n asked tools calls files reply world (Ok outcome) fit comes e b =
+    comes_to_budget n asked tools calls files world outcome fit (ends_by_budget outcome.ending (sym (ap (λ (r : ReplyValue). r.status) e) ∙ b)) comes
 request_budget n asked tools calls files reply world (Err (faults.Refused r)) fit comes e b = let q = sym (ap (λ (r : ReplyValue). r.status) e) ∙ b in absurd (cc)
 request_budget n asked tools calls files reply world (Err faults.NoMemory) fit comes e b = absurd e
 
-pub budget_asked : (n : ℕ) (asked : Option RequestValue) (tools : ToolsValue) (calls : List ℕ) (files : Option Files) (reply : ReplyValue) → ((a : RequestValue) → asked ≡ Some a → IsFit n a) → AnswersTo asked tools calls files reply → reply.status ≡ Budget → IsSomeAnd asked HasBudget
+pub budget_asked : (n : ℕ) (asked : Option RequestValue) (tools : ToolsValue) (calls : List ℕ) (files : Option Files) (reply : ReplyValue) → ((a : RequestValue) → asked ≡ Some a → IsFit n a)
+    → AnswersTo asked tools calls files reply → reply.status ≡ Budget → IsSomeAnd asked HasBudget
 budget_asked n None tools calls files reply fit h b = let q = sym (ap (λ (r : ReplyValue). r.status) h) ∙ b in absurd (cc)
 budget_asked n (Some asked) tools calls files reply fit h b = request_budget n asked tools calls files reply h.world h.result (fit asked refl) h.comes h.ends b

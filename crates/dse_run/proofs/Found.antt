@@ -13,7 +13,9 @@ use Rattle.proof_files.proofs.Files.{of_lines, refutes_file, written}
 use Rattle.dse_run.specs.Decoding.{EvidenceValue, Finds}
 use Rattle.dse_run.specs.Searching.{IsSearched, ending_of, answer_text}
 
-pub finds : LegalReadBack → (wanted : EvidenceValue) (s : SpecValue) (genes : List GeneValue) (decoded : Decoded) (log : LogValue) (outcome : Outcome) → IsSearched s genes wanted.budget decoded log → outcome.ending ≡ ending_of decoded → outcome.text.items ≡ answer_text s wanted.budget decoded → outcome.writes ≡ files_of wanted.proof log → Finds wanted s genes outcome
+pub finds : LegalReadBack → (wanted : EvidenceValue) (s : SpecValue) (genes : List GeneValue) (decoded : Decoded) (log : LogValue) (outcome : Outcome)
+    → IsSearched s genes wanted.budget decoded log → outcome.ending ≡ ending_of decoded → outcome.text.items ≡ answer_text s wanted.budget decoded → outcome.writes ≡ files_of wanted.proof log
+    → Finds wanted s genes outcome
 finds back wanted s genes (First design) log outcome h ending text writes = inl (record {
   ending = ending;
   design = design;

@@ -22,7 +22,8 @@ pub kept_by_words : (words : Option RequestValue) (asked : RequestValue) (old ne
 kept_by_words words asked old new is h = subst (λ (w : Option RequestValue). KeepsTools w old new) (sym is) h
 
 -- one more text beside one more of what it is made of
-pub one_more : {X Y : Type 0} (f : X → List ℕ) (h : Y → List ℕ) (xs : List X) (i : ℕ) (x : X) (now next : List Y) (y : Y) → map h now ≡ map f (take i xs) → next ≡ now ++ y ∷ [] → h y ≡ f x → x ≡ get_or xs i x → i < length xs → map h next ≡ map f (take (i + 1) xs)
+pub one_more : {X Y : Type 0} (f : X → List ℕ) (h : Y → List ℕ) (xs : List X) (i : ℕ) (x : X) (now next : List Y) (y : Y) → map h now ≡ map f (take i xs) → next ≡ now ++ y ∷ [] → h y ≡ f x
+    → x ≡ get_or xs i x → i < length xs → map h next ≡ map f (take (i + 1) xs)
 one_more f h xs i x now next y so_far push is there lt =
     ap (map h) push ∙ (map_push h now y ∙ (ap (λ (ts : List (List ℕ)). ts ++ h y ∷ []) so_far ∙ (ap (λ (t : List ℕ). map f (take i xs) ++ t ∷ []) (is ∙ ap f there)
     ∙ sym (ap (map f) (take_more xs i x lt) ∙ map_push f (take i xs) (get_or xs i x)))))

@@ -47,7 +47,8 @@ module _ (s : SpecValue) (f : Bits) (parts : HasParts s) (walked : (m : ℕ) →
   needed_of_walk m r (suc i) hm w = inr (record { message = m; in_range = hm; touched = record { arc = w.0; used = w.1; at_end = inr w.2 } })
 
   -- a touched resource is covered
-  covered_of_touch : (m r a : ℕ) → m < length s.messages → Uses s f m a → WalkBelow s f m (arc_at s a).tail (message_at s m).limit → ((arc_at s a).tail ≡ r) ⊎ ((arc_at s a).head ≡ r) → f (covered_var s m r) ≡ true
+  covered_of_touch : (m r a : ℕ) → m < length s.messages → Uses s f m a → WalkBelow s f m (arc_at s a).tail (message_at s m).limit → ((arc_at s a).tail ≡ r) ⊎ ((arc_at s a).head ≡ r)
+      → f (covered_var s m r) ≡ true
   covered_of_touch m r a hm u w (inl e) =
       subst (λ (q : ℕ). f (covered_var s m q) ≡ true) e ((walked m hm).cover (arc_at s a).tail (parts.ends a u.in_range).0 (w.0, omega (arith, w.1), w.2))
   covered_of_touch m r a hm u w (inr e) =
@@ -74,19 +75,22 @@ module _ (s : SpecValue) (f : Bits) (parts : HasParts s) (walked : (m : ℕ) →
       let cs = map (cover_of s r) (messages_of s) in
       let v = resource_var s r in
       let all = holds-at_least f 1 (positives os ++ negative v ∷ positives cs) h in
-      let sum : 1 ≤ count_by f os + count_by f cs = omega (arith, all, true_weight-append f (positives os) (negative v ∷ positives cs), true_weight-cons f (negative v) (positives cs), weight-positives f os, weight-positives f cs, not_bit (f v) al) in
+      let sum : 1 ≤ count_by f os + count_by f cs = omega (arith, all, true_weight-append f (positives os) (negative v ∷ positives cs), true_weight-cons f (negative v) (positives cs),
+          weight-positives f os, weight-positives f cs, not_bit (f v) al) in
       elim (cases_lt 0 (count_by f os)) [
         | inl l ↦ option_of_use r (omega (arith, l))
         | inr l ↦ cover_of_use r hr (omega (arith, l, sum))
       ]
 
-  pub resource_of_needed : IsAllocationModel s f → ((m a : ℕ) → m < length s.messages → Uses s f m a → WalkBelow s f m (arc_at s a).tail (message_at s m).limit) → (r : ℕ) → r < length s.resources → IsResourceNeeded s f r → f (resource_var s r) ≡ true
+  pub resource_of_needed : IsAllocationModel s f → ((m a : ℕ) → m < length s.messages → Uses s f m a → WalkBelow s f m (arc_at s a).tail (message_at s m).limit) → (r : ℕ) → r < length s.resources
+      → IsResourceNeeded s f r → f (resource_var s r) ≡ true
   unfolding option_allocates cover_allocates
   resource_of_needed h has_walk r hr (inl x) =
       subst (λ (q : ℕ). f (resource_var s q) ≡ true) x.on.on_resource (if_then f x.on.choice (resource_var s (option_at s x.on.choice).resource) (h.options x.on.choice x.on.in_range) x.on.chosen)
   resource_of_needed h has_walk r hr (inr x) =
       let t = x.touched in
-      then_if f (covered_var s x.message r) (resource_var s r) (h.covers x.message r x.in_range hr) (covered_of_touch x.message r t.arc x.in_range t.used (has_walk x.message t.arc x.in_range t.used) t.at_end)
+      then_if f (covered_var s x.message r) (resource_var s r) (h.covers x.message r x.in_range hr) (covered_of_touch x.message r t.arc x.in_range t.used
+          (has_walk x.message t.arc x.in_range t.used) t.at_end)
 
   pub needed_of_link : (l : ℕ) → Holds f (link_has_use s l) → f (link_var s l) ≡ true → IsLinkNeeded s f l
   unfolding link_has_use link_arcs of_link
@@ -105,7 +109,8 @@ module _ (s : SpecValue) (f : Bits) (parts : HasParts s) (walked : (m : ℕ) →
       subst (λ (q : ℕ). f (link_var s q) ≡ true) x.of_link (if_then f (arc_var s x.message x.arc) (link_var s (arc_at s x.arc).link) (h.arcs x.message x.arc x.in_range x.used.in_range) x.used.bit)
 
   -- and from the rules to the constraints
-  use_of_needed : (r : ℕ) → r < length s.resources → ((m a : ℕ) → m < length s.messages → Uses s f m a → WalkBelow s f m (arc_at s a).tail (message_at s m).limit) → IsResourceNeeded s f r → 1 ≤ count_by f (options_on s r) + count_by f (map (cover_of s r) (messages_of s))
+  use_of_needed : (r : ℕ) → r < length s.resources → ((m a : ℕ) → m < length s.messages → Uses s f m a → WalkBelow s f m (arc_at s a).tail (message_at s m).limit) → IsResourceNeeded s f r
+      → 1 ≤ count_by f (options_on s r) + count_by f (map (cover_of s r) (messages_of s))
   unfolding on_resource cover_of
   use_of_needed r hr has_walk (inl x) = omega (arith, counted f (on_resource s r) (length s.options) x.on.choice x.on.in_range (to_test x.on.on_resource) x.on.chosen)
   use_of_needed r hr has_walk (inr x) =
@@ -119,7 +124,8 @@ module _ (s : SpecValue) (f : Bits) (parts : HasParts s) (walked : (m : ℕ) →
       let os = options_on s r in
       let cs = map (cover_of s r) (messages_of s) in
       let v = resource_var s r in
-      at_least-holds f 1 (positives os ++ negative v ∷ positives cs) (omega (arith, sum (f v) refl, true_weight-append f (positives os) (negative v ∷ positives cs), true_weight-cons f (negative v) (positives cs), weight-positives f os, weight-positives f cs))
+      at_least-holds f 1 (positives os ++ negative v ∷ positives cs) (omega (arith, sum (f v) refl, true_weight-append f (positives os) (negative v ∷ positives cs),
+          true_weight-cons f (negative v) (positives cs), weight-positives f os, weight-positives f cs))
     where
       sum : (b : Bool) → f (resource_var s r) ≡ b → 1 ≤ count_by f (options_on s r) + count_by f (map (cover_of s r) (messages_of s)) + cond (not b) 1 0
       sum true e = omega (arith, use_of_needed r hr routed.has_walk ((routed.resource_use r hr).0 e))
@@ -128,7 +134,8 @@ module _ (s : SpecValue) (f : Bits) (parts : HasParts s) (walked : (m : ℕ) →
   link_use_holds : IsRouted s f → (l : ℕ) → l < length s.links → Holds f (link_has_use s l)
   unfolding link_has_use link_arcs of_link
   link_use_holds routed l hl =
-      at_least-holds f 1 (positives us ++ negative (link_var s l) ∷ []) (omega (arith, sum (f (link_var s l)) refl, true_weight-append f (positives us) (negative (link_var s l) ∷ []), true_weight-cons f (negative (link_var s l)) [], weight-positives f us))
+      at_least-holds f 1 (positives us ++ negative (link_var s l) ∷ []) (omega (arith, sum (f (link_var s l)) refl, true_weight-append f (positives us) (negative (link_var s l) ∷ []),
+          true_weight-cons f (negative (link_var s l)) [], weight-positives f us))
     where
       us : List ℕ
       us = flat_map (link_arcs s l) (messages_of s)
@@ -143,9 +150,11 @@ module _ (s : SpecValue) (f : Bits) (parts : HasParts s) (walked : (m : ℕ) →
   pub allocation_of : IsRouted s f → IsAllocationModel s f
   unfolding option_allocates cover_allocates arc_allocates
   allocation_of routed = record {
-    options = λ o l. from_if_then f o (resource_var s (option_at s o).resource) (λ e. (routed.resource_use (option_at s o).resource (parts.resources o l)).1 (inl (record { task = (option_at s o).task; in_range = parts.tasks o l; on = record { choice = o; in_range = l; chosen = e; of_task = refl; on_resource = refl } })));
+    options = λ o l. from_if_then f o (resource_var s (option_at s o).resource) (λ e. (routed.resource_use (option_at s o).resource (parts.resources o l)).1
+        (inl (record { task = (option_at s o).task; in_range = parts.tasks o l; on = record { choice = o; in_range = l; chosen = e; of_task = refl; on_resource = refl } })));
     covers = λ m r hm hr. from_then_if f (covered_var s m r) (resource_var s r) (λ e. (let w = (walked m hm).short_walk r hr e in (routed.resource_use r hr).1 (needed_of_walk m r w.0 hm w.2)));
     resources = resource_use_holds routed;
-    arcs = λ m a hm ha. from_if_then f (arc_var s m a) (link_var s (arc_at s a).link) (λ e. (routed.link_use (arc_at s a).link (parts.links a ha)).1 (record { message = m; in_range = hm; arc = a; used = record { in_range = ha; bit = e }; of_link = refl }));
+    arcs = λ m a hm ha. from_if_then f (arc_var s m a) (link_var s (arc_at s a).link) (λ e. (routed.link_use (arc_at s a).link (parts.links a ha)).1
+        (record { message = m; in_range = hm; arc = a; used = record { in_range = ha; bit = e }; of_link = refl }));
     links = link_use_holds routed;
   }

@@ -80,7 +80,9 @@ module _ (s : SpecValue) (f : Bits) (m w : ℕ) (hm : m < length s.messages) (pa
   pub holds_of_covered : IsCovered → All (Holds f) (receiver_covered s m w)
   unfolding option_covers of_task
   holds_of_covered h =
-      All-from_map (Holds f) (option_covers s m) (options_of s w) (All-those (λ o. Holds f (option_covers s m o)) (of_task s w) (length s.options) (λ o l e. from_if_then f o (covered_var s m (option_at s o).resource) (λ c. h (option_at s o).resource (record { choice = o; in_range = l; chosen = c; of_task = from_test _ _ e; on_resource = refl }))))
+      All-from_map (Holds f) (option_covers s m) (options_of s w) (All-those (λ o. Holds f (option_covers s m o)) (of_task s w) (length s.options)
+          (λ o l e. from_if_then f o (covered_var s m (option_at s o).resource) (λ c. h (option_at s o).resource
+          (record { choice = o; in_range = l; chosen = c; of_task = from_test _ _ e; on_resource = refl }))))
 
   pub reached_of_covered : IsCovered → (r : ℕ) → IsOn s f w r → (n : ℕ) × Walk s f m r n
   reached_of_covered h r on = let x = walks.short_walk r (on_in_range r on) (h r on) in (x.0, x.2)
@@ -96,7 +98,9 @@ module _ (s : SpecValue) (f : Bits) (m w : ℕ) (hm : m < length s.messages) (pa
     where
       at : (b : Bool) → f (covered_var s m r) ≡ b → b ≡ true
       at true e = refl
-      at false e = absurd (h (record { receiver = member; resource = r; on = on; no_walk = λ n v. absurd (false≢true (sym e ∙ walks.cover r (on_in_range r on) (n, omega (arith, walk_short s f m r n hm routed parts v), v))) }))
+      at false e =
+          absurd (h (record { receiver = member; resource = r; on = on; no_walk = λ n v. absurd (false≢true
+          (sym e ∙ walks.cover r (on_in_range r on) (n, omega (arith, walk_short s f m r n hm routed parts v), v))) }))
 
   pub not_unreached_of_covered : IsCovered → ¬ IsUnreached s f m w
   not_unreached_of_covered h x =
@@ -121,7 +125,8 @@ module _ (s : SpecValue) (x : Bits) (wf : IsWellFormed s) (routed : IsRouted s x
     step = λ r t hr ht w. step_reads s x m r t hm hr ht ∙ walk_test-from s x m t r (Walk-along s (bits_of (model_list s x)) x (same_back s x (bits_of (model_list s x)) same_made) m t r hm w);
     short_walk = λ r hr e. (let y = passes_some (step_bit s x m r) ((message_at s m).limit + 1) (sym (cover_reads s x m r hm hr) ∙ e) in
         (y.0, y.1, Walk-along s x (bits_of (model_list s x)) same_made m y.0 r hm (Walk-from_test s x m y.0 r y.2)));
-    cover = λ r hr w. cover_reads s x m r hm hr ∙ some_passes-from (step_bit s x m r) ((message_at s m).limit + 1) w.0 w.1 (walk_test-from s x m w.0 r (Walk-along s (bits_of (model_list s x)) x (same_back s x (bits_of (model_list s x)) same_made) m w.0 r hm w.2));
+    cover = λ r hr w. cover_reads s x m r hm hr ∙ some_passes-from (step_bit s x m r) ((message_at s m).limit + 1) w.0 w.1
+        (walk_test-from s x m w.0 r (Walk-along s (bits_of (model_list s x)) x (same_back s x (bits_of (model_list s x)) same_made) m w.0 r hm w.2));
   }
 
   pub made_routed : IsRouted s (bits_of (model_list s x))
@@ -158,9 +163,11 @@ module _ (s : SpecValue) (x : Bits) (wf : IsWellFormed s) (routed : IsRouted s x
       (covered_of_reached s (bits_of (model_list s x)) m w hm made_parts made_routed (made_walked m hm)
       (λ r on. reached-along s x (bits_of (model_list s x)) same_made m w r hm (reached r) on))
 
-  pub only_model : ((m w : ℕ) → m < length s.messages → Contains (message_at s m).receivers w → (r : ℕ) → IsOn s x w r → (n : ℕ) × Walk s x m r n) → IsOnlyModel s (encoding s) x (bits_of (model_list s x))
+  pub only_model : ((m w : ℕ) → m < length s.messages → Contains (message_at s m).receivers w → (r : ℕ) → IsOn s x w r → (n : ℕ) × Walk s x m r n)
+      → IsOnlyModel s (encoding s) x (bits_of (model_list s x))
   only_model reached = record {
-    holds = encoding_of_families s (bits_of (model_list s x)) made_families (λ m hm. All-pieces_of (Holds (bits_of (model_list s x))) (receiver_covered s m) (message_at s m).receivers (λ k d l. made_covered m (get_or (message_at s m).receivers k d) hm (reached m (get_or (message_at s m).receivers k d) hm (All-contains_itself (message_at s m).receivers k d l))));
+    holds = encoding_of_families s (bits_of (model_list s x)) made_families (λ m hm. All-pieces_of (Holds (bits_of (model_list s x))) (receiver_covered s m) (message_at s m).receivers
+        (λ k d l. made_covered m (get_or (message_at s m).receivers k d) hm (reached m (get_or (message_at s m).receivers k d) hm (All-contains_itself (message_at s m).receivers k d l))));
     same = same_back s x (bits_of (model_list s x)) same_made;
     only = λ g h same. only_made g (families_of_encoding s g h).0 same;
   }
@@ -177,8 +184,10 @@ covered_are_reached s f m w wf h hm member =
     let routed = routed_of_families s f wf families in
     let walks = walked s f wf families m hm in
     let there = has_parts s wf in (
-      λ holds unreached. not_unreached_of_covered s f m w hm there routed walks (covered_of_holds s f m w hm there routed walks holds) (IsUnreached-along s (view s f) f (same_back s f (view s f) (same_view s f)) m w hm unreached),
-      λ reached. holds_of_covered s f m w hm there routed walks (covered_of_not_unreached s f m w hm there routed walks member (λ unreached. reached (IsUnreached-along s f (view s f) (same_view s f) m w hm unreached))),
+      λ holds unreached. not_unreached_of_covered s f m w hm there routed walks (covered_of_holds s f m w hm there routed walks holds)
+          (IsUnreached-along s (view s f) f (same_back s f (view s f) (same_view s f)) m w hm unreached),
+      λ reached. holds_of_covered s f m w hm there routed walks (covered_of_not_unreached s f m w hm there routed walks member
+          (λ unreached. reached (IsUnreached-along s f (view s f) (same_view s f) m w hm unreached))),
     )
 
 -- a model of the whole encoding is a valid design
@@ -190,7 +199,8 @@ valid_of_model s f wf h =
     record {
       routed = routed;
       reached = λ m w r hm member on. (let walks = walked s f wf both.0 m hm in
-          reached_of_covered s f m w hm there routed walks (covered_of_holds s f m w hm there routed walks (All-piece_of (Holds f) (receiver_covered s m) (message_at s m).receivers w (both.1 m hm) member)) r on);
+          reached_of_covered s f m w hm there routed walks (covered_of_holds s f m w hm there routed walks
+              (All-piece_of (Holds f) (receiver_covered s m) (message_at s m).receivers w (both.1 m hm) member)) r on);
     }
 
 pub models_are_valid : ModelsAreValid

@@ -38,7 +38,9 @@ place s f m j hm hj =
 
 -- all bits of a model
 pub length_model : (s : SpecValue) (f : Bits) → length (model_list s f) ≡ base s (length s.messages)
-length_model s f = length-append (map f (below (design_variables s))) (flat_map (message_bits s f) (below (length s.messages))) ∙ omega (arith, begins s f (length s.messages) (omega arith), length-map-range_with_len f 0 (design_variables s))
+length_model s f =
+    length-append (map f (below (design_variables s))) (flat_map (message_bits s f) (below (length s.messages)))
+    ∙ omega (arith, begins s f (length s.messages) (omega arith), length-map-range_with_len f 0 (design_variables s))
 
 -- the variable of a step has the step's bit
 pub step_reads : (s : SpecValue) (f : Bits) (m r t : ℕ) → m < length s.messages → r < length s.resources → t ≤ (message_at s m).limit → bits_of (model_list s f) (step_var s m r t) ≡ step_bit s f m r t

@@ -69,7 +69,8 @@ rises-numbers p n = subst (λ (xs : List ℕ). RisesWithin 0 n xs) (map_same (th
 pub rises-pieces : (g : ℕ → List ℕ) (c : ℕ → ℕ) (n : ℕ) → ((i : ℕ) → i < n → RisesWithin (c i) (c (i + 1)) (g i)) → RisesWithin (c 0) (c n) (flat_map g (below n))
 rises-pieces g c zero h = omega arith
 rises-pieces g c (suc n) h =
-    subst (λ (k : ℕ). RisesWithin (c 0) (c k) (flat_map g (below k))) (add-one n) (subst (λ (xs : List ℕ). RisesWithin (c 0) (c (n + 1)) xs) (sym (flat_map-below_more g n)) (joined (c 0) (c n) (c (n + 1)) (flat_map g (below n)) (g n) (rises-pieces g c n (λ i l. h i (omega arith))) (h n (omega arith))))
+    subst (λ (k : ℕ). RisesWithin (c 0) (c k) (flat_map g (below k))) (add-one n) (subst (λ (xs : List ℕ). RisesWithin (c 0) (c (n + 1)) xs) (sym (flat_map-below_more g n))
+        (joined (c 0) (c n) (c (n + 1)) (flat_map g (below n)) (g n) (rises-pieces g c n (λ i l. h i (omega arith))) (h n (omega arith))))
 
 -- a literal with coefficient 1
 abbrev pub literal : Bool → ℕ → Term
@@ -152,7 +153,8 @@ unfolding at_least
 at_least-each P n ts h = sorted_each P ts h
 
 -- the variables that have a weight, each with it
-weights_within : (weight : ℕ → ℕ) (sign : Bool) (a b : ℕ) (xs : List ℕ) → RisesWithin a b xs → All (λ x. (0 < weight x) × (weight x ≤ 2 ^ 40)) xs → TermsWithin (2 ^ 40) a b (map (weighted weight sign) xs)
+weights_within : (weight : ℕ → ℕ) (sign : Bool) (a b : ℕ) (xs : List ℕ) → RisesWithin a b xs → All (λ x. (0 < weight x) × (weight x ≤ 2 ^ 40)) xs
+    → TermsWithin (2 ^ 40) a b (map (weighted weight sign) xs)
 unfolding weighted
 weights_within weight sign a b [] h small = h
 weights_within weight sign a b (x ∷ xs) h small =

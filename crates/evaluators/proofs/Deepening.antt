@@ -21,16 +21,19 @@ use Rattle.evaluators.proofs.Marking.{any-those_agree}
 pub chains_start : (s : SpecValue) (marks : List Bool) → marks ≡ replicate (length s.tasks) true → length marks ≡ length s.tasks → AreChainMarks s 0 marks
 chains_start s marks e long = record { each = long; marked = λ t l. ap (λ (ms : List Bool). is_marked ms t) e ∙ get_or-replicate (length s.tasks) t true false l }
 
-pub chains_more : (s : SpecValue) (marks next : List Bool) (n : ℕ) → IsWellFormed s → AreChainMarks s n marks → length next ≡ length s.tasks → ((t : ℕ) → is_marked next t ≡ is_sent_to s marks (length s.messages) t) → AreChainMarks s (n + 1) next
+pub chains_more : (s : SpecValue) (marks next : List Bool) (n : ℕ) → IsWellFormed s → AreChainMarks s n marks → length next ≡ length s.tasks
+    → ((t : ℕ) → is_marked next t ≡ is_sent_to s marks (length s.messages) t) → AreChainMarks s (n + 1) next
 chains_more s marks next n wf before long sent = record {
   each = long;
-  marked = λ t l. subst (λ (k : ℕ). is_marked next t ≡ ends_chain s t k) (sym (add-one n)) (sent t ∙ any-those_agree (sender_marked s marks) (λ m. ends_chain s (sender_of s m) n) (goes_to s t) (length s.messages) (λ m h. before.marked (sender_of s m) (message_in s m wf h).sender));
+  marked = λ t l. subst (λ (k : ℕ). is_marked next t ≡ ends_chain s t k) (sym (add-one n)) (sent t ∙ any-those_agree (sender_marked s marks) (λ m. ends_chain s (sender_of s m) n) (goes_to s t)
+      (length s.messages) (λ m h. before.marked (sender_of s m) (message_in s m wf h).sender));
 }
 
 pub depths_start : (s : SpecValue) (depths : List ℕ) → depths ≡ replicate (length s.tasks) 0 → length depths ≡ length s.tasks → AreDepthsBelow s 0 depths
 depths_start s depths e long = record { each = long; depths_are = λ t l. ap (λ (ds : List ℕ). get_or ds t 0) e ∙ get_or-replicate (length s.tasks) t 0 0 l }
 
-pub depths_more : (s : SpecValue) (marks : List Bool) (depths deeper : List ℕ) (n : ℕ) → AreChainMarks s n marks → AreDepthsBelow s n depths → length deeper ≡ length depths → ((t : ℕ) → t < length depths → get_or deeper t 0 ≡ cond (is_marked marks t) n (get_or depths t 0)) → AreDepthsBelow s (n + 1) deeper
+pub depths_more : (s : SpecValue) (marks : List Bool) (depths deeper : List ℕ) (n : ℕ) → AreChainMarks s n marks → AreDepthsBelow s n depths → length deeper ≡ length depths
+    → ((t : ℕ) → t < length depths → get_or deeper t 0 ≡ cond (is_marked marks t) n (get_or depths t 0)) → AreDepthsBelow s (n + 1) deeper
 depths_more s marks depths deeper n chains before long deepened = record {
   each = long ∙ before.each;
   depths_are = λ t l. deepened t (omega (arith, before.each, l)) ∙ (ap₂ (λ (b : Bool) (d : ℕ). cond b n d) (chains.marked t l) (before.depths_are t l) ∙ sym (greatest-those_more (ends_chain s t) n));
@@ -44,7 +47,9 @@ depths_end s depths n e all = record { each = all.each; depths_are = λ t l. all
 
 -- one more among those that pass, or not
 pub placed_yes : (p : ℕ → Bool) (n : ℕ) (start now : List ℕ) → p n ≡ true → now ≡ start ++ those p n → now ++ n ∷ [] ≡ start ++ those p (n + 1)
-placed_yes p n start now passes e = ap (λ (xs : List ℕ). xs ++ n ∷ []) e ∙ (append_assoc start (those p n) (n ∷ []) ∙ ap (λ (xs : List ℕ). start ++ xs) (sym (those-more p n ∙ ap (λ (b : Bool). those p n ++ cond b (n ∷ []) []) passes)))
+placed_yes p n start now passes e =
+    ap (λ (xs : List ℕ). xs ++ n ∷ []) e ∙ (append_assoc start (those p n) (n ∷ []) ∙ ap (λ (xs : List ℕ). start ++ xs)
+    (sym (those-more p n ∙ ap (λ (b : Bool). those p n ++ cond b (n ∷ []) []) passes)))
 
 pub placed_no : (p : ℕ → Bool) (n : ℕ) (start now : List ℕ) → p n ≡ false → now ≡ start ++ those p n → now ≡ start ++ those p (n + 1)
 placed_no p n start now fails e = e ∙ ap (λ (xs : List ℕ). start ++ xs) (sym (those-more p n ∙ (ap (λ (b : Bool). those p n ++ cond b (n ∷ []) []) fails ∙ append-nil (those p n))))

@@ -27,14 +27,16 @@ unfolding walk_length
 walk_length-found s f m to now i back l on =
     let whole : Walk s f m to (0 + i) = back.whole_of 0 on in
     let zero_left : 0 + i ≡ i = omega arith in
-    ap (λ (o : Option ℕ). unwrap_or o 0) (find-below_here (has_walk_of s f m to) ((message_at s m).limit + 1) i l (ap (has_walk_of s f m to) (sym zero_left) ∙ test_some s f m to (0 + i) whole) (λ k h. test_none s f m to k (back.none_shorter k h)))
+    ap (λ (o : Option ℕ). unwrap_or o 0) (find-below_here (has_walk_of s f m to) ((message_at s m).limit + 1) i l (ap (has_walk_of s f m to) (sym zero_left) ∙ test_some s f m to (0 + i) whole)
+        (λ k h. test_none s f m to k (back.none_shorter k h)))
 
 none_below : (s : SpecValue) (f : Bits) (m to : ℕ) → ¬ WalkBelow s f m to ((message_at s m).limit + 1) → walk_length s f m to ≡ 0
 unfolding walk_length
 none_below s f m to none = ap (λ (o : Option ℕ). unwrap_or o 0) (find-below_none (has_walk_of s f m to) ((message_at s m).limit + 1) (λ k h. test_none s f m to k (λ w. none (k, h, w))))
 
 -- it stands elsewhere, and no used arc comes in
-pub walk_length-none : (s : SpecValue) (f : Bits) (m to now i : ℕ) → IsBack s f m to now i → ¬ IsOn s f (sender_of s m) now → ((a : ℕ) → Uses s f m a → ¬ ((arc_at s a).head ≡ now)) → walk_length s f m to ≡ 0
+pub walk_length-none : (s : SpecValue) (f : Bits) (m to now i : ℕ) → IsBack s f m to now i → ¬ IsOn s f (sender_of s m) now → ((a : ℕ) → Uses s f m a → ¬ ((arc_at s a).head ≡ now))
+    → walk_length s f m to ≡ 0
 walk_length-none s f m to now i back off none = none_below s f m to (IsBack-none s f m to now i _ back off none)
 
 -- more steps back were made than the message may take

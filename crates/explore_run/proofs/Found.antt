@@ -43,7 +43,8 @@ legal_in : (s : SpecValue) (log : LogValue) → IsFrameOf s (cover_frame s) → 
 legal_in s log frame h = let l = h.legal (cover_frame s) frame in (l.given, l.legal)
 
 -- the lines of all decodings
-shows_each : DecodingsStayShown → (s : SpecValue) (entries : List Member) (log : LogValue) → IsFrameOf s (cover_frame s) → IsLogOf s log → AreDecodings s entries (no_lines s) log → LinesShowEach s entries log.lines
+shows_each : DecodingsStayShown → (s : SpecValue) (entries : List Member) (log : LogValue) → IsFrameOf s (cover_frame s) → IsLogOf s log → AreDecodings s entries (no_lines s) log
+    → LinesShowEach s entries log.lines
 shows_each law s entries log frame of decodings = record {
   derived_each = of.derived_each;
   legal = legal_in s log frame of;
@@ -55,13 +56,15 @@ one_given : (x y : Given) → Some x ≡ Some y → x ≡ y
 one_given x y q = cc
 
 -- the lines of a decoding that finds no valid design, of a log that had none
-refuted : (s : SpecValue) (genes : List _) (log : LogValue) → IsFrameOf s (cover_frame s) → IsShown s genes (no_lines s) log Nothing → IsRefutation (cover_frame s) (base_of (cover_frame s)) (encoding s) log.lines
+refuted : (s : SpecValue) (genes : List _) (log : LogValue) → IsFrameOf s (cover_frame s) → IsShown s genes (no_lines s) log Nothing
+    → IsRefutation (cover_frame s) (base_of (cover_frame s)) (encoding s) log.lines
 refuted s genes log frame shown =
     let here = shown (cover_frame s) frame in
     subst (λ (g : Given). IsRefutation (cover_frame s) g (encoding s) log.lines) (one_given here.before (base_of (cover_frame s)) (sym here.legal_before)) here.lines
 
 -- the designs of the members have a bit for each design variable
-pub members_sized : (s : SpecValue) (measured : Bits → List ℕ) (start last : Lcg) (rounds : ℕ) (run : Run) (end : End) → EndsBy s word_of next_of measured start last run rounds end → All (IsSized s) run.archive.members
+pub members_sized : (s : SpecValue) (measured : Bits → List ℕ) (start last : Lcg) (rounds : ℕ) (run : Run) (end : End) → EndsBy s word_of next_of measured start last run rounds end
+    → All (IsSized s) run.archive.members
 members_sized s measured start last rounds run Done h =
     subst (λ (ms : List Member). All (IsSized s) ms) (sym h.best_are)
     (best_all (IsSized s) covers h.entries (rounds_sized s word_of next_of measured [] h.entries start last h.rounds_are))
@@ -70,9 +73,12 @@ members_sized s measured start last rounds run Infeasible h = subst (λ (ms : Li
 done_is_feasible : Done ≡ Infeasible → ⊥
 done_is_feasible e = absurd (cc)
 
-pub finds : LegalReadBack → DecodingsStayShown → (s : SpecValue) → IsFrameOf s (cover_frame s) → (wanted : WantedValue) (tools : ToolsValue) (calls : List ℕ) (last : Lcg) (run : Run) (end : End) (outcome : Outcome)
-    → EndsBy s word_of next_of (measured_by tools wanted.chosen s) (seeded wanted.seed) last run wanted.rounds end → (end ≡ Infeasible) ↔ FindsNone s wanted.rounds → IsLogOf s run.log → RoseBy (length run.history) wanted.chosen tools.calls calls
-    → outcome.ending ≡ ending_of end → outcome.text.items ≡ explored_text s (tags_at tools.tags wanted.chosen) (length run.history) run.archive.members end → outcome.writes ≡ files_of wanted.proof run.log → Finds wanted tools calls s outcome
+pub finds : LegalReadBack → DecodingsStayShown → (s : SpecValue) → IsFrameOf s (cover_frame s) → (wanted : WantedValue) (tools : ToolsValue) (calls : List ℕ) (last : Lcg) (run : Run) (end : End)
+    (outcome : Outcome)
+    → EndsBy s word_of next_of (measured_by tools wanted.chosen s) (seeded wanted.seed) last run wanted.rounds end → (end ≡ Infeasible) ↔ FindsNone s wanted.rounds → IsLogOf s run.log
+        → RoseBy (length run.history) wanted.chosen tools.calls calls
+    → outcome.ending ≡ ending_of end → outcome.text.items ≡ explored_text s (tags_at tools.tags wanted.chosen) (length run.history) run.archive.members end
+        → outcome.writes ≡ files_of wanted.proof run.log → Finds wanted tools calls s outcome
 finds back law s frame wanted tools calls last run Done outcome h causes of counted ending text writes =
     let len : length run.history ≡ length h.entries = ap length h.history_is ∙ length-map h.entries vector_in in
     inl (record {
@@ -98,10 +104,13 @@ finds back law s frame wanted tools calls last run Infeasible outcome h causes o
     })
 
 -- the same of what stands for the rounds, the places, the seed's generator and the tags
-pub finds_from : LegalReadBack → DecodingsStayShown → (s : SpecValue) → IsFrameOf s (cover_frame s) → (wanted : WantedValue) (tools : ToolsValue) (calls : List ℕ) (rounds : ℕ) (chosen : List ℕ) (tags : List (List ℕ)) (start last : Lcg) (run : Run) (outcome : Outcome)
+pub finds_from : LegalReadBack → DecodingsStayShown → (s : SpecValue) → IsFrameOf s (cover_frame s) → (wanted : WantedValue) (tools : ToolsValue) (calls : List ℕ) (rounds : ℕ) (chosen : List ℕ)
+    (tags : List (List ℕ)) (start last : Lcg) (run : Run) (outcome : Outcome)
     → rounds ≡ wanted.rounds → chosen ≡ wanted.chosen → tags ≡ tools.tags → start ≡ seeded wanted.seed
-    → EndsBy s word_of next_of (measured_by tools chosen s) start last run rounds run.end → (run.end ≡ Infeasible) ↔ FindsNone s rounds → IsLogOf s run.log → RoseBy (length run.history) chosen tools.calls calls
-    → outcome.ending ≡ ending_of run.end → outcome.text.items ≡ explored_text s (tags_at tags wanted.chosen) (length run.history) run.archive.members run.end → outcome.writes ≡ files_of wanted.proof run.log → Finds wanted tools calls s outcome
+    → EndsBy s word_of next_of (measured_by tools chosen s) start last run rounds run.end → (run.end ≡ Infeasible) ↔ FindsNone s rounds → IsLogOf s run.log
+        → RoseBy (length run.history) chosen tools.calls calls
+    → outcome.ending ≡ ending_of run.end → outcome.text.items ≡ explored_text s (tags_at tags wanted.chosen) (length run.history) run.archive.members run.end
+        → outcome.writes ≡ files_of wanted.proof run.log → Finds wanted tools calls s outcome
 finds_from back law s frame wanted tools calls rounds chosen tags start last run outcome rounds_is chosen_is tags_is start_is ends causes of counted ending text writes =
     let by_rounds = subst (λ (n : ℕ). EndsBy s word_of next_of (measured_by tools chosen s) start last run n run.end) rounds_is ends in
     let by_chosen = subst (λ (ps : List ℕ). EndsBy s word_of next_of (measured_by tools ps s) start last run wanted.rounds run.end) chosen_is by_rounds in

@@ -38,7 +38,8 @@ best_all P covers xs h = best_from_all P covers xs [] xs h
 abbrev pub IsSized : SpecValue → Member → Type 0
 IsSized s m = length m.design ≡ design_variables s
 
-pub rounds_sized : {S : Type 0} (s : SpecValue) (gives : S → ℕ) (after : S → S) (measured : Bits → List ℕ) (before entries : List Member) (start last : S) → AreRounds s gives after measured before entries start last → All (IsSized s) entries
+pub rounds_sized : {S : Type 0} (s : SpecValue) (gives : S → ℕ) (after : S → S) (measured : Bits → List ℕ) (before entries : List Member) (start last : S)
+    → AreRounds s gives after measured before entries start last → All (IsSized s) entries
 rounds_sized s gives after measured before [] start last h = All-nil (IsSized s)
 rounds_sized s gives after measured before (m ∷ ms) start last h =
     All-cons (IsSized s) m ms h.0.one_each (rounds_sized s gives after measured (before ++ m ∷ []) ms (after_round s gives after before start) last h.1)

@@ -41,7 +41,8 @@ rewrites_and name C D E x y z f h k = record { here = f _ _ _ h.here k.here; oth
 pub leaves_rewrites : (a b : Option Files) (name : List ℕ) (C D : List ℕ → List ℕ → Type 0) → ((u v : List ℕ) → C u v → D u v) → Leaves a b (Rewrites name C) → Leaves a b (Rewrites name D)
 leaves_rewrites a b name C D f h = leaves_then a b (Rewrites name C) (Rewrites name D) (λ x y k. rewrites_then name C D x y f k) h
 
-pub leaves_on : (a b c : Option Files) (name : List ℕ) (C D E : List ℕ → List ℕ → Type 0) → ((u v w : List ℕ) → C u v → D v w → E u w) → Leaves a b (Rewrites name C) → Leaves b c (Rewrites name D) → Leaves a c (Rewrites name E)
+pub leaves_on : (a b c : Option Files) (name : List ℕ) (C D E : List ℕ → List ℕ → Type 0) → ((u v w : List ℕ) → C u v → D v w → E u w) → Leaves a b (Rewrites name C) → Leaves b c (Rewrites name D)
+    → Leaves a c (Rewrites name E)
 leaves_on a b c name C D E f h k = leaves_and a b c (Rewrites name C) (Rewrites name D) (Rewrites name E) (λ x y z p q. rewrites_and name C D E x y z f p q) h k
 
 -- ---- a file that is made empty and then filled
@@ -52,7 +53,8 @@ emptied_then a b c name text h k =
 
 pub emptied_part : (a b c : Option Files) (name text : List ℕ) → Edits a b name Empties → Leaves b c (Rewrites name (AppendsPrefix text)) → Leaves a c (Rewrites name (KeepsOrBecomesPart text))
 emptied_part a b c name text h k =
-    leaves_on a b c name Empties (AppendsPrefix text) (KeepsOrBecomesPart text) (λ u v w none more. inr (more.0, more.1 ∙ ap (λ (t : List ℕ). t ++ take more.0 text) none)) (of_edits a b name Empties h) k
+    leaves_on a b c name Empties (AppendsPrefix text) (KeepsOrBecomesPart text) (λ u v w none more. inr (more.0, more.1 ∙ ap (λ (t : List ℕ). t ++ take more.0 text) none))
+        (of_edits a b name Empties h) k
 
 pub kept_or_emptied : (a b : Option Files) (name text : List ℕ) → Edits a b name KeepsOrEmpties → Leaves a b (Rewrites name (KeepsOrBecomesPart text))
 kept_or_emptied a b name text h =

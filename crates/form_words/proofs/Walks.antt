@@ -185,7 +185,8 @@ module _ (title : Text) (R : List Rule) (options : List Text) where
       ]
       )
     where
-      same_end : (t : Bool) → state (settled_rows R pending rows) (Some (id, x ∷ [])) idle (t || false) (min (p + 1) usize_max) ≡ state (settled_rows R pending rows) (Some (id, x ∷ [])) idle t (min (p + 1) usize_max)
+      same_end : (t : Bool) → state (settled_rows R pending rows) (Some (id, x ∷ [])) idle (t || false) (min (p + 1) usize_max)
+          ≡ state (settled_rows R pending rows) (Some (id, x ∷ [])) idle t (min (p + 1) usize_max)
       same_end true = refl
       same_end false = refl
 
@@ -227,9 +228,11 @@ module _ (title : Text) (R : List Rule) (options : List Text) where
       → none (turn_fault s [] (state rows pending waiting false p) x)
       ≡ (settles rows pending && none (use_fault false (taker n long i required) (v ∷ []) (settled_rows R pending rows)))
   given_turn rows pending waiting p x n v long i required (inl w) e l a =
-      rw (w, e, l, a) (none-or_else (or_else (settle_fault R false (held rows pending)) (use_fault false (taker n long i required) (v ∷ []) (settled_rows R pending rows))) [] ∙ and_true _ ∙ none-or_else _ _)
+      rw (w, e, l, a) (none-or_else (or_else (settle_fault R false (held rows pending)) (use_fault false (taker n long i required) (v ∷ []) (settled_rows R pending rows))) [] ∙ and_true _
+          ∙ none-or_else _ _)
   given_turn rows pending waiting p x n v long i required (inr w) e l a =
-      rw (w.1, e, l, a) (none-or_else (or_else (settle_fault R false (held rows pending)) (use_fault false (taker n long i required) (v ∷ []) (settled_rows R pending rows))) [] ∙ and_true _ ∙ none-or_else _ _)
+      rw (w.1, e, l, a) (none-or_else (or_else (settle_fault R false (held rows pending)) (use_fault false (taker n long i required) (v ∷ []) (settled_rows R pending rows))) [] ∙ and_true _
+          ∙ none-or_else _ _)
 
   given_next : (rows : List Row) (pending : Pending) (waiting : Waiting) (p : ℕ) (x n v : Text) (long : Option Text) (i : Option ℕ) (required : Bool) → Asks waiting
       → bytes_eq x hyphens ≡ false → long_of x ≡ Some (n, Some v) → arg_by_long R n ≡ Some (taker n long i required)
@@ -325,7 +328,8 @@ module _ (title : Text) (R : List Rule) (options : List Text) where
       (place_turn p (settled_rows R pending rows) None id (Some p) true has.0)
       (ended_next (settled_rows R pending rows) None waiting p x ∙ place_next p x (settled_rows R pending rows) None waiting true id (Some p) true has.0)
 
-  lag_free : Serves R options → (words : List Text) → All IsUtf8 words → (rows : List Row) (pending : Pending) (p : ℕ) (places : List Text) → HasPlaces R p places → LagsAt rows pending idle false p words
+  lag_free : Serves R options → (words : List Text) → All IsUtf8 words → (rows : List Row) (pending : Pending) (p : ℕ) (places : List Text) → HasPlaces R p places
+      → LagsAt rows pending idle false p words
   lag_free serves [] utf8 rows pending p places has = (sym (and_true _), λ _. refl)
   lag_free serves (x ∷ xs) utf8 rows pending p places has = by_look_of (look x) (looks x) places has
     where
@@ -360,7 +364,8 @@ module _ (title : Text) (R : List Rule) (options : List Text) where
           let l1 : passes s (state rows pending idle false p) (x ∷ xs) ≡ ((settles rows pending && f) && passes s nw xs) = step_passes (state rows pending idle false p) nw x xs _
           (given_turn rows pending idle p x n v (Some n) None by.0 (inl refl) e l by.1)
           (given_next rows pending idle p x n v (Some n) None by.0 (inl refl) e l by.1) in
-          let l2 : passes s (state (settled_rows R pending rows) None idle false p) (x ∷ xs) ≡ ((true && f) && passes s nw xs) = step_passes (state (settled_rows R pending rows) None idle false p) nw x xs _
+          let l2 : passes s (state (settled_rows R pending rows) None idle false p) (x ∷ xs) ≡ ((true && f) && passes s nw xs) =
+              step_passes (state (settled_rows R pending rows) None idle false p) nw x xs _
           (given_turn (settled_rows R pending rows) None idle p x n v (Some n) None by.0 (inl refl) e l by.1)
           (given_next (settled_rows R pending rows) None idle p x n v (Some n) None by.0 (inl refl) e l by.1) in (
             l1 ∙ and_assoc (settles rows pending) f (passes s nw xs) ∙ ap (λ b. settles rows pending && b) (sym l2),
@@ -371,13 +376,15 @@ module _ (title : Text) (R : List Rule) (options : List Text) where
       by_look_of : (l : Look) → Looks x l → (places : List Text) → HasPlaces R p places → LagsAt rows pending idle false p (x ∷ xs)
       by_look_of ends k places has =
           let rest = lag_ended xs rows pending idle p places has in
-          let l1 = step_passes (state rows pending idle false p) (state rows pending idle true p) x xs true (ends_turn rows pending idle p x (inl refl) k) (ends_next rows pending idle p x (inl refl) k) in
+          let l1 = step_passes (state rows pending idle false p) (state rows pending idle true p) x xs true (ends_turn rows pending idle p x (inl refl) k)
+              (ends_next rows pending idle p x (inl refl) k) in
           let l2 = step_passes (state (settled_rows R pending rows) None idle false p) (state (settled_rows R pending rows) None idle true p) x xs true
           (ends_turn (settled_rows R pending rows) None idle p x (inl refl) k) (ends_next (settled_rows R pending rows) None idle p x (inl refl) k) in (
             l1 ∙ rest.0 ∙ ap (λ b. settles rows pending && b) (sym l2),
             λ ok. step_rows (state rows pending idle false p) (state rows pending idle true p) x xs (ends_next rows pending idle p x (inl refl) k)
                 ∙ rest.1 (sym l1 ∙ ok)
-                ∙ sym (step_rows (state (settled_rows R pending rows) None idle false p) (state (settled_rows R pending rows) None idle true p) x xs (ends_next (settled_rows R pending rows) None idle p x (inl refl) k)),
+                ∙ sym (step_rows (state (settled_rows R pending rows) None idle false p) (state (settled_rows R pending rows) None idle true p) x xs
+                    (ends_next (settled_rows R pending rows) None idle p x (inl refl) k)),
           )
       by_look_of (option n v) k places has = by_option n v (has_text options n) (serves.by_name n) k.0 k.1
       by_look_of dashed k places has =
@@ -511,7 +518,8 @@ module _ (title : Text) (R : List Rule) (options : List Text) where
           (lag_ended xs (map row us) (Some (id, x ∷ [])) idle (min (p + 1) usize_max) ids has.2)
           (rest ended tt (us ++ (id, x) ∷ []) (min (p + 1) usize_max) ids has.2))
 
-      by_option : (places : List Text) → HasPlaces R p places → Walks xs → (n : Text) (v : Option Text) (b : Bool) → has_text options n ≡ b → ByName R n b → bytes_eq x hyphens ≡ false → long_of x ≡ Some (n, v)
+      by_option : (places : List Text) → HasPlaces R p places → Walks xs → (n : Text) (v : Option Text) (b : Bool) → has_text options n ≡ b → ByName R n b → bytes_eq x hyphens ≡ false
+          → long_of x ≡ Some (n, v)
           → AgreesAt free us p (x ∷ xs) (by_name b n v places (uses options xs))
       by_option places has rest n v false k by e l = step_fails (start free us p) x xs (unknown_turn (map row us) None idle p x n v (inl refl) e l by)
       by_option places has rest n None true k by e l =
@@ -547,7 +555,8 @@ module _ (title : Text) (R : List Rule) (options : List Text) where
       unmet : (o : Text) → (required : Bool) → arg_by_id R o ≡ Some (taker o (Some o) None required) → settles (map row us) (Some (o, [])) ≡ false
       unmet o required by = rw by refl
 
-      by_value_of : (o : Text) → has_text options o ≡ true → (l : Look) → Looks x l → (places : List Text) → HasPlaces R p places → Walks xs → AgreesAt (after o) us p (x ∷ xs) (as_value l (o, x) places (uses options xs))
+      by_value_of : (o : Text) → has_text options o ≡ true → (l : Look) → Looks x l → (places : List Text) → HasPlaces R p places → Walks xs
+          → AgreesAt (after o) us p (x ∷ xs) (as_value l (o, x) places (uses options xs))
       by_value_of o known ends k places has rest =
           let by = rw known at (serves.by_name o) in
           let lag = lag_ended xs (map row us) (Some (o, [])) (waits_for o) p places has in

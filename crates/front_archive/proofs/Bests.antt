@@ -204,8 +204,11 @@ module _ {X : Type 0} (cov : X → X → Bool) (trans : (a b c : X) → cov a b 
       ∙ any_two (λ y. dominates cov y m) (λ y. equals cov y m) h
       ∙ any_same _ _ (λ x. split_cover (cov x m) (cov m x)) h
 
-  finish : (h : List X) (m : X) (c : Bool) → list_any (λ x. cov x m) (best cov h) ≡ c → filter (λ x. not (dominates cov m x)) (best cov h) ++ cond c [] (m ∷ []) ≡ cond c (best cov h) (filter (λ x. not (cov m x)) (best cov h) ++ m ∷ [])
-  finish h m true e = append-nil _ ∙ filter_whole _ _ (every_more _ _ (λ x n. not_and (cov m x) (cov x m) (λ d. let yes = any_dominates m x h (and_left _ _ d) (and_right _ _ d) (any_best _ h [] h e) in absurd (cc))) (best cov h) (unbeaten h [] h))
+  finish : (h : List X) (m : X) (c : Bool) → list_any (λ x. cov x m) (best cov h) ≡ c → filter (λ x. not (dominates cov m x)) (best cov h) ++ cond c [] (m ∷ [])
+      ≡ cond c (best cov h) (filter (λ x. not (cov m x)) (best cov h) ++ m ∷ [])
+  finish h m true e =
+      append-nil _ ∙ filter_whole _ _ (every_more _ _ (λ x n. not_and (cov m x) (cov x m) (λ d. let yes = any_dominates m x h (and_left _ _ d) (and_right _ _ d) (any_best _ h [] h e) in
+      absurd (cc))) (best cov h) (unbeaten h [] h))
   finish h m false e = ap (λ l. l ++ m ∷ []) (filter_same _ _ _ (every_more _ _ (λ x n. not_back (cov m x) (cov x m) n) (best cov h) (none_of _ _ e)))
 
   step : (h : List X) (m : X) → Covers h → best cov (h ++ m ∷ []) ≡ offered cov (best cov h) m
@@ -215,7 +218,8 @@ module _ {X : Type 0} (cov : X → X → Bool) (trans : (a b c : X) → cov a b 
       ∙ ap₂ (λ l b. l ++ cond b [] (m ∷ [])) (all_snoc h [] h m) (new_beaten h m ∙ same_bool _ _ (covers m) (any_best _ h [] h))
       ∙ finish h m c refl
 
-  covers_offered : (h : List X) (m y : X) (c : Bool) → list_any (λ x. cov x m) (best cov h) ≡ c → (list_any (λ x. cov x y) h ≡ true) ⊎ (cov m y ≡ true) → Covers h → list_any (λ x. cov x y) (cond c (best cov h) (filter (λ x. not (cov m x)) (best cov h) ++ m ∷ [])) ≡ true
+  covers_offered : (h : List X) (m y : X) (c : Bool) → list_any (λ x. cov x m) (best cov h) ≡ c → (list_any (λ x. cov x y) h ≡ true) ⊎ (cov m y ≡ true) → Covers h
+      → list_any (λ x. cov x y) (cond c (best cov h) (filter (λ x. not (cov m x)) (best cov h) ++ m ∷ [])) ≡ true
   covers_offered h m y true e (inl t) covers = covers y t
   covers_offered h m y true e (inr k) covers = any_covers m y (best cov h) k e
   covers_offered h m y false e cases covers =
@@ -227,7 +231,8 @@ module _ {X : Type 0} (cov : X → X → Bool) (trans : (a b c : X) → cov a b 
       ]
 
   covers_step : (h : List X) (m : X) → Covers h → Covers (h ++ m ∷ [])
-  covers_step h m covers y e = subst (λ l. list_any (λ x. cov x y) l ≡ true) (sym (step h m covers)) (covers_offered h m y _ refl (elim (or_cases _ _ (sym (list_any-append (λ x. cov x y) h (m ∷ [])) ∙ e)) [ inl t ↦ inl t | inr k ↦ inr (sym (or_false (cov m y)) ∙ k) ]) covers)
+  covers_step h m covers y e = subst (λ l. list_any (λ x. cov x y) l ≡ true) (sym (step h m covers))
+      (covers_offered h m y _ refl (elim (or_cases _ _ (sym (list_any-append (λ x. cov x y) h (m ∷ [])) ∙ e)) [ inl t ↦ inl t | inr k ↦ inr (sym (or_false (cov m y)) ∙ k) ]) covers)
 
   covers_all : (h rest : List X) → Covers h → Covers (h ++ rest)
   covers_all h [] c = subst Covers (sym (append-nil h)) c

@@ -20,7 +20,8 @@ with_entry (x ∷ xs) k h f = f x
 drop_next : {X : Type 0} (k : ℕ) (xs ys : List X) → drop k xs ≡ drop k ys → drop (k + 1) xs ≡ drop (k + 1) ys
 drop_next k xs ys e = sym (drop-drop 1 k xs) ∙ ap (drop 1) e ∙ drop-drop 1 k ys
 
-pub passes_marked : {X : Type 0} (ms : List Bool) (old now : List X) (k kept : ℕ) → length ms ≡ length old → k < length ms → get_or ms k false ≡ true → IsMoved ms old now k kept → IsMoved ms old now (k + 1) kept
+pub passes_marked : {X : Type 0} (ms : List Bool) (old now : List X) (k kept : ℕ) → length ms ≡ length old → k < length ms → get_or ms k false ≡ true → IsMoved ms old now k kept
+    → IsMoved ms old now (k + 1) kept
 passes_marked ms old now k kept same h is so = record {
   front = so.front ∙ sym (with_entry old k (omega arith) (λ d. unmarked_more ms old k true d same h is ∙ append-nil _));
   rest = drop_next k now old so.rest;
@@ -50,7 +51,8 @@ module _ {X : Type 0} (now : List X) (k kept : ℕ) (d : X) (h : k < length now)
       ∙ drop-set-lt (k + 1) (set now kept x) k z (omega arith)
       ∙ drop-set-lt (k + 1) now kept x (omega arith)
 
-pub swaps_unmarked : {X : Type 0} (ms : List Bool) (old now : List X) (k kept : ℕ) → length ms ≡ length old → length now ≡ length old → k < length ms → kept ≤ k → get_or ms k false ≡ false → IsMoved ms old now k kept → IsMoved ms old (swap now kept k) (k + 1) (kept + 1)
+pub swaps_unmarked : {X : Type 0} (ms : List Bool) (old now : List X) (k kept : ℕ) → length ms ≡ length old → length now ≡ length old → k < length ms → kept ≤ k → get_or ms k false ≡ false
+    → IsMoved ms old now k kept → IsMoved ms old (swap now kept k) (k + 1) (kept + 1)
 swaps_unmarked {X} ms old now k kept same long h le is so = with_entry old k (omega arith) (λ d.
     let first : (xs : List X) → get_or (drop k xs) 0 d ≡ get_or xs k d = λ xs. get_or-drop k xs 0 d ∙ ap (λ n. get_or xs n d) (omega arith) in
     let read : get_or now k d ≡ get_or old k d = sym (first now) ∙ ap (λ l. get_or l 0 d) so.rest ∙ first old in record {

@@ -41,10 +41,12 @@ pub on_ok : {T E P Q : Type 0} (r : Result T E) → (P → Q) → OnOk r P → O
 on_ok (Ok x) f p = f p
 on_ok (Err e) f p = tt
 
-pub entered_members : {T E : Type 0} (r : Result T E) (old new : List Member) (m : Member) → None ≡ position (λ x. covers x m) old → OnOk r (new ≡ filter (λ x. not (covers m x)) old ++ m ∷ []) → OnOk r (new ≡ offered covers old m)
+pub entered_members : {T E : Type 0} (r : Result T E) (old new : List Member) (m : Member) → None ≡ position (λ x. covers x m) old → OnOk r (new ≡ filter (λ x. not (covers m x)) old ++ m ∷ [])
+    → OnOk r (new ≡ offered covers old m)
 entered_members (Ok x) old new m none e = e ∙ none_offered old m (none_any (λ x. covers x m) old none)
 entered_members (Err x) old new m none e = tt
 
-pub entered_best : {T E : Type 0} (r : Result T E) (old new : List Member) (m : Member) → OnOk r (new ≡ offered covers old m) → OnOk r ((history : List Member) → old ≡ best covers history → new ≡ best covers (history ++ m ∷ []))
+pub entered_best : {T E : Type 0} (r : Result T E) (old new : List Member) (m : Member) → OnOk r (new ≡ offered covers old m)
+    → OnOk r ((history : List Member) → old ≡ best covers history → new ≡ best covers (history ++ m ∷ []))
 entered_best (Ok x) old new m e = λ history was. best_offer history m new old e was
 entered_best (Err x) old new m e = tt

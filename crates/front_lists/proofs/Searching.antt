@@ -33,7 +33,8 @@ use Rattle.front_lists.proofs.Refuting.{may_cover}
 
 -- ---- a model of the blocks is of a design that no cover covers
 
-no_cover_below : (s : SpecValue) (m : Bits) (ls : List Line) (b : ℕ) → ((v : List ℕ) → Contains (covers_of ls) v → length v ≡ length s.objectives) → IsModel (blocks_from (cover_frame s) b ls) m → (v : List ℕ) → Contains (covers_of ls) v → ¬ IsAtMost v (vector_of s m)
+no_cover_below : (s : SpecValue) (m : Bits) (ls : List Line) (b : ℕ) → ((v : List ℕ) → Contains (covers_of ls) v → length v ≡ length s.objectives) → IsModel (blocks_from (cover_frame s) b ls) m
+    → (v : List ℕ) → Contains (covers_of ls) v → ¬ IsAtMost v (vector_of s m)
 no_cover_below s m [] b long model v c = absurd (let l = c.1 in omega arith)
 no_cover_below s m (derived ops ∷ ls) b long model v c = no_cover_below s m ls b long model v c
 no_cover_below s m (cover u ∷ ls) b long model v c =
@@ -61,7 +62,8 @@ module _ (s : SpecValue) (found : List EntryValue) (ls : List Line) (wf : IsWell
   pub model_is_left : (m : Bits) → IsModel (searched s ls) m → IsLeft s us m
   model_is_left m model = record {
     valid = valid_of_model s m wf (models-front m (encoding s) (blocks_from (cover_frame s) 0 ls) model);
-    uncovered = λ h. no_cover_below s m ls 0 (λ v c. (itself v (found_of v c)).one_each) (models-back m (encoding s) (blocks_from (cover_frame s) 0 ls) model) h.vector (subst (λ (ws : List (List ℕ)). Contains ws h.vector) (sym covers) h.there) h.below;
+    uncovered = λ h. no_cover_below s m ls 0 (λ v c. (itself v (found_of v c)).one_each) (models-back m (encoding s) (blocks_from (cover_frame s) 0 ls) model) h.vector
+        (subst (λ (ws : List (List ℕ)). Contains ws h.vector) (sym covers) h.there) h.below;
   }
 
   -- no cover covers a design that is left

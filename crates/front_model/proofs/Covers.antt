@@ -89,10 +89,12 @@ none_before p zero a i h l = absurd (omega arith)
 none_before p (suc n) a i h l =
     elim (cases_Bool (p a)) [
       | inl t ↦ absurd (let z : position_or_len p (range_with_len a (suc n)) ≡ 0 = rw t refl in omega (arith, h, z))
-      | inr f ↦ go (λ k. none_before p n (a + 1) k) i (let s : position_or_len p (range_with_len a (suc n)) ≡ position_or_len p (range_with_len (a + 1) n) + 1 = rw f (omega arith) in omega (arith, h, s)) l f
+      | inr f ↦ go (λ k. none_before p n (a + 1) k) i (let s : position_or_len p (range_with_len a (suc n)) ≡ position_or_len p (range_with_len (a + 1) n) + 1 = rw f (omega arith) in
+          omega (arith, h, s)) l f
     ]
   where
-    go : ((k : ℕ) → k < position_or_len p (range_with_len (a + 1) n) → k < n → p ((a + 1) + k) ≡ false) → (i : ℕ) → i < position_or_len p (range_with_len (a + 1) n) + 1 → i < suc n → p a ≡ false → p (a + i) ≡ false
+    go : ((k : ℕ) → k < position_or_len p (range_with_len (a + 1) n) → k < n → p ((a + 1) + k) ≡ false) → (i : ℕ) → i < position_or_len p (range_with_len (a + 1) n) + 1 → i < suc n → p a ≡ false
+        → p (a + i) ≡ false
     go ih zero h l f = (let e : a ≡ a + 0 = omega arith in subst (λ (k : ℕ). p k ≡ false) e f)
     go ih (suc i) h l f = (let e : (a + 1) + i ≡ a + suc i = omega arith in subst (λ (k : ℕ). p k ≡ false) e (ih i (omega (arith, h)) (omega (arith, l))))
 

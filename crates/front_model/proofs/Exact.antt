@@ -83,10 +83,12 @@ refuted s us ls x wf r valid none =
     let one = valid_are_models s x wf valid in
     let whole : All (MayStand s us) (r.early ++ derived r.last ∷ []) = subst (λ (ks : List Line). All (MayStand s us) ks) r.whole r.covers in
     let early : All (MayStand s us) r.early = All-left (MayStand s us) r.early (derived r.last ∷ []) whole in
-    let open_each : All (OfCover (LeavesOpen s one.model)) r.early = All-weaker (MayStand s us) (OfCover (LeavesOpen s one.model)) (leaves s us one.model x (same_vector s one.model x one.only.same) none) r.early early in
+    let open_each : All (OfCover (LeavesOpen s one.model)) r.early = All-weaker (MayStand s us) (OfCover (LeavesOpen s one.model))
+        (leaves s us one.model x (same_vector s one.model x one.only.same) none) r.early early in
     let made = all_extend s r.early one.model wf one.only.holds open_each in
     let f = cover_frame s in
-    let given : IsModel r.before.constraints made.values = given-sound made.values f (base_of f) r.before r.early r.legal (models-front made.values f.base (blocks_by f r.early) made.model) (models-back made.values f.base (blocks_by f r.early) made.model) in
+    let given : IsModel r.before.constraints made.values = given-sound made.values f (base_of f) r.before r.early r.legal (models-front made.values f.base (blocks_by f r.early) made.model)
+        (models-back made.values f.base (blocks_by f r.early) made.model) in
     empty_clash made.values r.clash r.clashes (line-sound made.values (context_of r.before) r.last r.clash (under-holds (Holds made.values) r.before.constraints given) r.gives)
 
 pub reached : (s : SpecValue) (us : List (List ℕ)) (ls : List Line) (x : Bits) → IsWellFormed s → Refute s us ls → IsValid s x → HasBelow us (vector_of s x)
@@ -147,7 +149,8 @@ module _ (s : SpecValue) (front : FrontValue) (claim : IsClaim s front) (below_e
       let vector : vector_of s (bits_of x.0.design) ≡ b.vector = x.1.stated ∙ x.2 in
       elim (at_most_or_not w b.vector) [
         | inl le ↦ subst (λ (y : List ℕ). Contains us y) (at_most_both b.vector w (long b.vector b.there ∙ sym (sym (ap length h.vector) ∙ vector_long s h.design)) below le) b.there
-        | inr not ↦ absurd (h.undominated (bits_of x.0.design) x.1.valid (subst (λ (y : List ℕ). Dominates y w) (sym vector) (below, λ e. not (subst (λ (y : List ℕ). IsAtMost w y) (sym e) (at_most_itself w)))))
+        | inr not ↦ absurd (h.undominated (bits_of x.0.design) x.1.valid (subst (λ (y : List ℕ). Dominates y w) (sym vector)
+            (below, λ e. not (subst (λ (y : List ℕ). IsAtMost w y) (sym e) (at_most_itself w)))))
       ]
 
   pub exact : IsFrontOf s front

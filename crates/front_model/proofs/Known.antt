@@ -24,7 +24,8 @@ begins_known s wf =
     let e : all_variables s ≡ variables_to s 0 = omega arith in
     subst (λ (n : ℕ). KnowsBelow (encoding s) n) e (encoding_known s wf)
 
-next_known : (s : SpecValue) (us : List (List ℕ)) (g h : Given) (l : Line) → MayStand s us l → Goes (cover_frame s) g h l → KnowsBelow g.constraints (variables_to s g.covers) → KnowsBelow h.constraints (variables_to s h.covers)
+next_known : (s : SpecValue) (us : List (List ℕ)) (g h : Given) (l : Line) → MayStand s us l → Goes (cover_frame s) g h l → KnowsBelow g.constraints (variables_to s g.covers)
+    → KnowsBelow h.constraints (variables_to s h.covers)
 next_known s us g h (derived ops) may (by_ops c q e) known =
     subst (λ (k : Given). KnowsBelow k.constraints (variables_to s k.covers)) (sym e) (λ x. derived-knows g c (line-known (context_of g) ops c (given-knows g) q) x ∙ known x)
 next_known s us g h (cover v) may (by_block q e) known =

@@ -50,14 +50,16 @@ piece_judged s us g piece l e =
 
 -- ---- a piece that is judged without fault says a line
 
-said_derived : (s : SpecValue) (us : List (List ℕ)) (g : Given) (stand : Stand) (ws : Words) → after_derived g (judge_derivation (context_of g) ws) ≡ Ok stand → (ops : List Op) × (each_said op_of ws ≡ Some ops)
+said_derived : (s : SpecValue) (us : List (List ℕ)) (g : Given) (stand : Stand) (ws : Words) → after_derived g (judge_derivation (context_of g) ws) ≡ Ok stand → (ops : List Op)
+    × (each_said op_of ws ≡ Some ops)
 said_derived s us g stand ws e = go (judge_derivation (context_of g) ws) refl e
   where
     go : (o : Result Linear Fault) → judge_derivation (context_of g) ws ≡ o → after_derived g o ≡ Ok stand → (ops : List Op) × (each_said op_of ws ≡ Some ops)
     go (Err fault) q f = absurd cc
     go (Ok c) q f = let d = derives (context_of g) c ws q in (d.ops, d.said)
 
-said_cover : (s : SpecValue) (us : List (List ℕ)) (g : Given) (stand : Stand) (ws : Words) → after_cover s g (judge_cover s us (each_said number_of ws)) ≡ Ok stand → (v : List ℕ) × (each_said number_of ws ≡ Some v)
+said_cover : (s : SpecValue) (us : List (List ℕ)) (g : Given) (stand : Stand) (ws : Words) → after_cover s g (judge_cover s us (each_said number_of ws)) ≡ Ok stand → (v : List ℕ)
+    × (each_said number_of ws ≡ Some v)
 said_cover s us g stand ws e = go (each_said number_of ws) refl e
   where
     go : (o : Option (List ℕ)) → each_said number_of ws ≡ o → after_cover s g (judge_cover s us o) ≡ Ok stand → (v : List ℕ) × (each_said number_of ws ≡ Some v)
@@ -185,7 +187,8 @@ numbers_judged s us v h =
     rw (one, of_within s v h.within, any_of_below us v h.dominated) refl
 
 -- what a legal line leaves is what is judged of it
-pub legal_judged : (s : SpecValue) (us : List (List ℕ)) (g h : Given) (l : Line) → MayStand s us l → given_with (cover_frame s) g l ≡ Some h → (closed : Bool) × (judge_said s us g l ≡ Ok (record { given = h; closed = closed }))
+pub legal_judged : (s : SpecValue) (us : List (List ℕ)) (g h : Given) (l : Line) → MayStand s us l → given_with (cover_frame s) g l ≡ Some h → (closed : Bool)
+    × (judge_said s us g l ≡ Ok (record { given = h; closed = closed }))
 legal_judged s us g h l may e = go l may (goes (cover_frame s) g h l e)
   where
     go : (l : Line) → MayStand s us l → Goes (cover_frame s) g h l → (closed : Bool) × (judge_said s us g l ≡ Ok (record { given = h; closed = closed }))
@@ -200,5 +203,6 @@ clash_is c h =
     rw (none, lt-ltb 0 c.degree h.asks) refl
 
 -- a line that derives a clash closes
-pub clash_judged : (s : SpecValue) (us : List (List ℕ)) (g : Given) (ops : List Op) (c : Linear) → line_gives (context_of g) ops ≡ Ok c → IsClash c → judge_said s us g (derived ops) ≡ Ok (record { given = with_derived g c; closed = true })
+pub clash_judged : (s : SpecValue) (us : List (List ℕ)) (g : Given) (ops : List Op) (c : Linear) → line_gives (context_of g) ops ≡ Ok c → IsClash c
+    → judge_said s us g (derived ops) ≡ Ok (record { given = with_derived g c; closed = true })
 clash_judged s us g ops c e h = ap (after_derived g) e ∙ ap (λ (b : Bool). Ok (record { given = with_derived g c; closed = b })) (clash_is c h)

@@ -26,13 +26,15 @@ pub words_legal : (context : Context) (ws : Words) (st r : Stack) → judge_word
 words_legal context [] st r e = record { ops = []; said = refl; legal = e }
 words_legal context (w ∷ ws) st r e = go (λ m. words_legal context ws m r) (op_of w) refl e
   where
-    applied : ((m : Stack) → judge_words context ws m ≡ Ok r → LegalWords context m r ws) → (op : Op) → op_of w ≡ Some op → (o : Result Stack Fault) → apply context op st ≡ o → and_then (judge_words context ws) o ≡ Ok r → LegalWords context st r (w ∷ ws)
+    applied : ((m : Stack) → judge_words context ws m ≡ Ok r → LegalWords context m r ws) → (op : Op) → op_of w ≡ Some op → (o : Result Stack Fault) → apply context op st ≡ o
+        → and_then (judge_words context ws) o ≡ Ok r → LegalWords context st r (w ∷ ws)
     applied ih op q (Err why) a e = absurd cc
     applied ih op q (Ok m) a e =
         let more = ih m e in
         record { ops = op ∷ more.ops; said = said_cons op_of w ws op more.ops q more.said; legal = ap (and_then (apply_all context more.ops)) a ∙ more.legal }
 
-    go : ((m : Stack) → judge_words context ws m ≡ Ok r → LegalWords context m r ws) → (o : Option Op) → op_of w ≡ o → and_then (judge_words context ws) (judge_op context st o) ≡ Ok r → LegalWords context st r (w ∷ ws)
+    go : ((m : Stack) → judge_words context ws m ≡ Ok r → LegalWords context m r ws) → (o : Option Op) → op_of w ≡ o → and_then (judge_words context ws) (judge_op context st o) ≡ Ok r
+        → LegalWords context st r (w ∷ ws)
     go ih None q e = absurd cc
     go ih (Some op) q e = applied ih op q (apply context op st) refl e
 

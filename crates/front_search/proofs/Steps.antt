@@ -112,11 +112,14 @@ pub record HasSolved (s : SpecValue) (old new : SolverValue) (ls : List Line) : 
 
 pub searching_solved : (s : SpecValue) (found : List EntryValue) (old new : SolverValue) (ls : List Line) → IsSearching s found old → HasSolved s old new ls → IsSearching s found new
 searching_solved s found old new ls h x =
-    let blocks : blocks_by (cover_frame s) new.log.lines ≡ blocks_by (cover_frame s) old.log.lines = ap (blocks_from (cover_frame s) 0) x.lines_are ∙ blocks-derived (cover_frame s) 0 old.log.lines ls x.derived_each in
+    let blocks : blocks_by (cover_frame s) new.log.lines ≡ blocks_by (cover_frame s) old.log.lines = ap (blocks_from (cover_frame s) 0) x.lines_are
+        ∙ blocks-derived (cover_frame s) 0 old.log.lines ls x.derived_each in
     record {
       variables_are = x.variables_same ∙ h.variables_are;
       given_are = ap constraints_of x.given_same ∙ (h.given_are ∙ sym (ap (λ (cs : List Linear). encoding s ++ cs) blocks));
-      covers_are = ap covers_of x.lines_are ∙ (covers-append old.log.lines ls ∙ (ap (λ (us : List (List ℕ)). covers_of old.log.lines ++ us) (covers-derived ls x.derived_each) ∙ (append-nil (covers_of old.log.lines) ∙ h.covers_are)));
+      covers_are =
+          ap covers_of x.lines_are ∙ (covers-append old.log.lines ls ∙ (ap (λ (us : List (List ℕ)). covers_of old.log.lines ++ us) (covers-derived ls x.derived_each)
+          ∙ (append-nil (covers_of old.log.lines) ∙ h.covers_are)));
       agrees = x.agrees;
       prefix = h.prefix;
     }
@@ -128,14 +131,16 @@ count_solved old new ls e h = ap derived_count e ∙ omega (arith, derived_count
 abbrev NoneContradicts : SpecValue → List Line → Type 0
 NoneContradicts s ls = All (λ c. c ≢ contradiction) (derived_by (cover_frame s) ls)
 
-none_solved : (s : SpecValue) (old new ls : List Line) (g : Given) → new ≡ old ++ ls → given_by (cover_frame s) old ≡ Some g → NoneContradicts s old → All (λ c. c ≢ contradiction) (derived_from (cover_frame s) g ls) → NoneContradicts s new
+none_solved : (s : SpecValue) (old new ls : List Line) (g : Given) → new ≡ old ++ ls → given_by (cover_frame s) old ≡ Some g → NoneContradicts s old
+    → All (λ c. c ≢ contradiction) (derived_from (cover_frame s) g ls) → NoneContradicts s new
 none_solved s old new ls g e legal h k =
     let f : Frame = cover_frame s in
     let both : derived_by f new ≡ derived_by f old ++ derived_from f g ls = ap (derived_by f) e ∙ derived-append f (base_of f) g old ls legal in
     subst (All (λ (c : Linear). c ≢ contradiction)) (sym both) (All-append (λ (c : Linear). c ≢ contradiction) (derived_by f old) (derived_from f g ls) h k)
 
 -- honest lines of one solve more
-pub honest_solved : (s : SpecValue) (budget : ℕ) (old new ls : List Line) (g : Given) → IsUnfinished s budget old → EndsASolve old → new ≡ old ++ ls → given_by (cover_frame s) old ≡ Some g → AreHonestSteps (cover_frame s) g (searched s old) ls → NoneContradicts s new × AreHonestSolves (cover_frame s) new
+pub honest_solved : (s : SpecValue) (budget : ℕ) (old new ls : List Line) (g : Given) → IsUnfinished s budget old → EndsASolve old → new ≡ old ++ ls → given_by (cover_frame s) old ≡ Some g
+    → AreHonestSteps (cover_frame s) g (searched s old) ls → NoneContradicts s new × AreHonestSolves (cover_frame s) new
 honest_solved s budget old new ls g h starts e legal x =
     (none_solved s old new ls g e legal h.none x.no_contradiction, subst (AreHonestSolves (cover_frame s)) (sym e) (honest_solve (cover_frame s) old ls g h.honest starts legal x.honest))
 
@@ -165,7 +170,8 @@ covers_stand s found ls p covers = go ls (λ v c. subst (λ (us : List (List ℕ
         All-cons (MayStand s (vectors_in found)) (cover v) ms (may_cover s found (vectors_in found) v p c b) (go ms (λ w k. h w (before_all v (covers_of ms) w k)))
 
 -- a refutation of what is left refutes
-pub refutes : (s : SpecValue) (found : List EntryValue) (old new ls : List Line) (g h : Given) (base : List Linear) → All (MayStand s (vectors_in found)) new → new ≡ old ++ ls → AllDerived ls → given_by (cover_frame s) old ≡ Some g → given_by (cover_frame s) new ≡ Some h → IsRefutation (cover_frame s) g base ls → Refute s (vectors_in found) new
+pub refutes : (s : SpecValue) (found : List EntryValue) (old new ls : List Line) (g h : Given) (base : List Linear) → All (MayStand s (vectors_in found)) new → new ≡ old ++ ls → AllDerived ls
+    → given_by (cover_frame s) old ≡ Some g → given_by (cover_frame s) new ≡ Some h → IsRefutation (cover_frame s) g base ls → Refute s (vectors_in found) new
 refutes s found old new ls g h base stand e each legal whole r = go r.last r.split (at_last r.split)
   where
     at_last : ls ≡ r.steps ++ r.last ∷ [] → is_derived r.last ≡ true
@@ -183,12 +189,15 @@ refutes s found old new ls g h base stand e each legal whole r = go r.last r.spl
         let same : g ≡ mid.0 = some_same g mid.0 (sym legal ∙ mid.1) in
         let steps : given_from (cover_frame s) g r.steps ≡ Some front.0 = subst (λ (k : Given). given_from (cover_frame s) k r.steps ≡ Some front.0) (sym same) mid.2 in
         let one = first-line (cover_frame s) front.0 h (derived ops) [] front.2 in
-        last_of ops split front.0 front.1 steps (goes (cover_frame s) front.0 one.0 (derived ops) one.1) (subst (λ (ms : List Line). derived_from (cover_frame s) g ms ≡ derived_from (cover_frame s) g r.steps ++ contradiction ∷ []) q r.contradicts)
+        last_of ops split front.0 front.1 steps (goes (cover_frame s) front.0 one.0 (derived ops) one.1)
+            (subst (λ (ms : List Line). derived_from (cover_frame s) g ms ≡ derived_from (cover_frame s) g r.steps ++ contradiction ∷ []) q r.contradicts)
       where
         some_same : (a b : Given) → Some a ≡ Some b → a ≡ b
         some_same a b q = cc
 
-        last_of : (ops : List Op) → new ≡ (old ++ r.steps) ++ derived ops ∷ [] → (m : Given) → given_by (cover_frame s) (old ++ r.steps) ≡ Some m → given_from (cover_frame s) g r.steps ≡ Some m → {k : Given} → Goes (cover_frame s) m k (derived ops) → derived_from (cover_frame s) g (r.steps ++ derived ops ∷ []) ≡ derived_from (cover_frame s) g r.steps ++ contradiction ∷ [] → Refute s (vectors_in found) new
+        last_of : (ops : List Op) → new ≡ (old ++ r.steps) ++ derived ops ∷ [] → (m : Given) → given_by (cover_frame s) (old ++ r.steps) ≡ Some m → given_from (cover_frame s) g r.steps ≡ Some m
+            → {k : Given} → Goes (cover_frame s) m k (derived ops) → derived_from (cover_frame s) g (r.steps ++ derived ops ∷ []) ≡ derived_from (cover_frame s) g r.steps ++ contradiction ∷ []
+            → Refute s (vectors_in found) new
         last_of ops split m early steps (by_ops c q e) known =
             let push = derived-push (cover_frame s) g m r.steps ops c steps q in
             let is : c ≡ contradiction = same_last (derived_from (cover_frame s) g r.steps) c contradiction (sym push ∙ known) in
@@ -246,7 +255,8 @@ pub record HasCovered (s : SpecValue) (v : List ℕ) (id : ℕ) (old new : Solve
 pub small_vector : (s : SpecValue) (us : List (List ℕ)) (e : EntryValue) → IsWellFormed s → IsNext s us e → list_all small_number e.vector ≡ true
 small_vector s us e wf next = small_numbers s e.vector wf (subst (IsWithinWeights s) next.stated (vector_within s (bits_of e.design)))
 
-pub searching_covered : (s : SpecValue) (found : List EntryValue) (e : EntryValue) (id : ℕ) (old new : SolverValue) → IsWellFormed s → IsSearching s found old → IsNext s (vectors_in found) e → HasCovered s e.vector id old new → IsSearching s (found ++ e ∷ []) new
+pub searching_covered : (s : SpecValue) (found : List EntryValue) (e : EntryValue) (id : ℕ) (old new : SolverValue) → IsWellFormed s → IsSearching s found old → IsNext s (vectors_in found) e
+    → HasCovered s e.vector id old new → IsSearching s (found ++ e ∷ []) new
 searching_covered s found e id old new wf h next x =
     let f : Frame = cover_frame s in
     let v : List ℕ = e.vector in
@@ -263,13 +273,16 @@ searching_covered s found e id old new wf h next x =
     let place : id ≡ length g.constraints + 1 = omega (arith, x.next, a.fits, given-ids f (base_of f) g old.log.lines a.frame a.legal) in
     let sized : length block ≡ length v + 1 = a.frame.sized (b + 1) v in
     let old_stand : All (StandsIn (context_of after)) old.given = stand-on f g after (cover v ∷ []) old.given (given-cover f g g [] v refl small) a.stand in
-    let new_there : All (StandsIn (context_of after)) (numbered id block) = numbered-stand after id g.constraints block (ap (λ (cs : List Linear). g.constraints ++ cs) blocks) place (omega (arith, x.small, sized)) in
+    let new_there : All (StandsIn (context_of after)) (numbered id block) = numbered-stand after id g.constraints block (ap (λ (cs : List Linear). g.constraints ++ cs) blocks) place
+        (omega (arith, x.small, sized)) in
     let len : length (found ++ e ∷ []) ≡ length found + 1 = length_push found e in
     let number : 0 + b + 1 ≡ b + 1 = omega arith in
     record {
       variables_are = x.variables_more ∙ omega (arith, h.variables_are, mul-suc (length found) (length s.objectives), ap (λ (n : ℕ). n * length s.objectives) len);
-      given_are = ap constraints_of x.given_more ∙ (map-append (λ (c : Content). c.constraint) old.given (numbered id block) ∙ (ap₂ (λ (cs ds : List Linear). cs ++ ds) h.given_are (same_numbered id block)
-          ∙ (append_assoc (encoding s) (blocks_by f old.log.lines) block ∙ sym (ap (λ (cs : List Linear). encoding s ++ cs) (ap (blocks_from f 0) lines_are ∙ (blocks-cover f 0 old.log.lines v ∙ ap (λ (n : ℕ). blocks_from f 0 old.log.lines ++ block_of s n v) number))))));
+      given_are =
+          ap constraints_of x.given_more ∙ (map-append (λ (c : Content). c.constraint) old.given (numbered id block) ∙ (ap₂ (λ (cs ds : List Linear). cs ++ ds) h.given_are (same_numbered id block)
+          ∙ (append_assoc (encoding s) (blocks_by f old.log.lines) block ∙ sym (ap (λ (cs : List Linear). encoding s ++ cs)
+              (ap (blocks_from f 0) lines_are ∙ (blocks-cover f 0 old.log.lines v ∙ ap (λ (n : ℕ). blocks_from f 0 old.log.lines ++ block_of s n v) number))))));
       covers_are = ap covers_of lines_are ∙ (covers-append old.log.lines (cover v ∷ []) ∙ (ap (λ (us : List (List ℕ)). us ++ v ∷ []) h.covers_are ∙ sym (map-append vector_in found (e ∷ []))));
       agrees = record {
         frame = a.frame;
@@ -284,7 +297,8 @@ searching_covered s found e id old new wf h next x =
 pub count_covered : (old new : List Line) (v : List ℕ) → new ≡ old ++ cover v ∷ [] → derived_count new ≡ derived_count old
 count_covered old new v e = ap derived_count e ∙ omega (arith, derived_count-append old (cover v ∷ []))
 
-pub unfinished_covered : (s : SpecValue) (budget : ℕ) (v : List ℕ) (old new : List Line) (g : Given) → list_all small_number v ≡ true → given_by (cover_frame s) old ≡ Some g → new ≡ old ++ cover v ∷ [] → IsUnfinished s budget old → IsUnfinished s budget new
+pub unfinished_covered : (s : SpecValue) (budget : ℕ) (v : List ℕ) (old new : List Line) (g : Given) → list_all small_number v ≡ true → given_by (cover_frame s) old ≡ Some g
+    → new ≡ old ++ cover v ∷ [] → IsUnfinished s budget old → IsUnfinished s budget new
 unfinished_covered s budget v old new g small legal e h = record {
   few = subst (λ (ls : List Line). derived_count ls < budget) (sym e) (omega (arith, h.few, derived_count-append old (cover v ∷ [])));
   none = none_solved s old new (cover v ∷ []) g e legal h.none (λ k d l. absurd (omega (arith, l)));
@@ -321,7 +335,8 @@ next_long s us e h = sym (ap length h.stated) ∙ vector_long s (bits_of e.desig
 pub vector_fits : (s : SpecValue) (us : List (List ℕ)) (e : EntryValue) (v : List ℕ) → IsNext s us e → v ≡ e.vector → (length v ≡ length s.objectives) × IsWithinWeights s v
 vector_fits s us e v h q = (ap length q ∙ next_long s us e h, subst (IsWithinWeights s) (h.stated ∙ sym q) (vector_within s (bits_of e.design)))
 
-pub numbered-next : (first : ℕ) (cs : List Linear) (i id : ℕ) (x : Linear) → i < length cs → x ≡ get_or cs i x → id ≡ first + i → numbered first (take (i + 1) cs) ≡ numbered first (take i cs) ++ record { constraint = x; proof_id = id } ∷ []
+pub numbered-next : (first : ℕ) (cs : List Linear) (i id : ℕ) (x : Linear) → i < length cs → x ≡ get_or cs i x → id ≡ first + i
+    → numbered first (take (i + 1) cs) ≡ numbered first (take i cs) ++ record { constraint = x; proof_id = id } ∷ []
 numbered-next first cs i id x l read e =
     let t : take (i + 1) cs ≡ take i cs ++ x ∷ [] = take_more cs i x l ∙ ap (λ (c : Linear). take i cs ++ c ∷ []) (sym read) in
     let n : first + length (take i cs) ≡ id = omega (arith, l, e, length-take i cs) in
@@ -333,21 +348,25 @@ pub given-next : (start now next : SolverValue) (first : ℕ) (cs : List Linear)
 given-next start now next first cs i id x l read e is step =
     let one : List Content = record { constraint = x; proof_id = id } ∷ [] in
     step ∙ (ap (λ (sv : SolverValue). record sv { given = sv.given ++ one }) is
-    ∙ ap (λ (ds : List Content). record start { given = ds }) (append_assoc start.given (numbered first (take i cs)) one ∙ ap (λ (ds : List Content). start.given ++ ds) (sym (numbered-next first cs i id x l read e))))
+    ∙ ap (λ (ds : List Content). record start { given = ds }) (append_assoc start.given (numbered first (take i cs)) one
+        ∙ ap (λ (ds : List Content). start.given ++ ds) (sym (numbered-next first cs i id x l read e))))
 
-pub block_given : (log new : LogValue) (v : List ℕ) (first i : ℕ) → new ≡ record log { lines = log.lines ++ cover v ∷ [] } → first ≡ next_id log → 0 < next_id log → i < length v + 1 → IsGivenId new (first + i)
+pub block_given : (log new : LogValue) (v : List ℕ) (first i : ℕ) → new ≡ record log { lines = log.lines ++ cover v ∷ [] } → first ≡ next_id log → 0 < next_id log → i < length v + 1
+    → IsGivenId new (first + i)
 block_given log new v first i e n some l = subst (λ (k : ℕ). IsGivenId new (k + i)) (sym n) (subst (λ (w : LogValue). IsGivenId w (next_id log + i)) (sym e) (block_ids log v i l some))
 
 pub first_some : (s : SpecValue) (solver : SolverValue) → Agrees (cover_frame s) solver → 0 < next_id solver.log
 first_some s solver a = omega (arith, a.fits)
 
-pub covered_by : (s : SpecValue) (v : List ℕ) (id k : ℕ) (old one two new : SolverValue) (block : List Linear) → one ≡ record old { log = record old.log { lines = old.log.lines ++ cover v ∷ [] } } → two ≡ record one { variables = one.variables + k } → new ≡ record two { given = two.given ++ numbered id block }
+pub covered_by : (s : SpecValue) (v : List ℕ) (id k : ℕ) (old one two new : SolverValue) (block : List Linear) → one ≡ record old { log = record old.log { lines = old.log.lines ++ cover v ∷ [] } }
+    → two ≡ record one { variables = one.variables + k } → new ≡ record two { given = two.given ++ numbered id block }
     → k ≡ length s.objectives → id ≡ next_id old.log → id + length v + 1 ≤ 2 ^ 63 → block ≡ block_of s (length (covers_of old.log.lines) + 1) v → HasCovered s v id old new
 covered_by s v id k old one two new block a b c ek n small e = record {
   variables_more = ap (λ (sv : SolverValue). sv.variables) c ∙ (ap (λ (sv : SolverValue). sv.variables) b ∙ (ap (λ (sv : SolverValue). sv.variables + k) a ∙ ap (λ (m : ℕ). old.variables + m) ek));
   next = n;
   small = small;
-  given_more = ap (λ (sv : SolverValue). sv.given) c ∙ (ap (λ (sv : SolverValue). sv.given ++ numbered id block) (b ∙ ap (λ (sv : SolverValue). record sv { variables = sv.variables + k }) a) ∙ ap (λ (cs : List Linear). old.given ++ numbered id cs) e);
+  given_more = ap (λ (sv : SolverValue). sv.given) c ∙ (ap (λ (sv : SolverValue). sv.given ++ numbered id block) (b ∙ ap (λ (sv : SolverValue). record sv { variables = sv.variables + k }) a)
+      ∙ ap (λ (cs : List Linear). old.given ++ numbered id cs) e);
   log_more = ap (λ (sv : SolverValue). sv.log) c ∙ (ap (λ (sv : SolverValue). sv.log) b ∙ ap (λ (sv : SolverValue). sv.log) a);
 }
 

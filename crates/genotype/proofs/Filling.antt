@@ -7,7 +7,8 @@ use Rattle.genotype.specs.Draws.{gene_of, random_genes, after_words}
 left_more : (n i : ℕ) → i < n → n - i ≡ suc (n - (i + 1))
 left_more n i h = omega arith
 
-pub fill_more : {S : Type 0} (gives : S → ℕ) (after : S → S) (n i : ℕ) (xs all : List GeneValue) (y : GeneValue) (s t : S) → i < length xs → i < n → y ≡ gene_of (gives s) → t ≡ after s → take i xs ++ random_genes gives after (n - i) s ≡ all → take (i + 1) (slice_set xs i y) ++ random_genes gives after (n - (i + 1)) t ≡ all
+pub fill_more : {S : Type 0} (gives : S → ℕ) (after : S → S) (n i : ℕ) (xs all : List GeneValue) (y : GeneValue) (s t : S) → i < length xs → i < n → y ≡ gene_of (gives s) → t ≡ after s
+    → take i xs ++ random_genes gives after (n - i) s ≡ all → take (i + 1) (slice_set xs i y) ++ random_genes gives after (n - (i + 1)) t ≡ all
 fill_more gives after n i xs all y s t in_range h is to inv =
     ap (λ l. l ++ random_genes gives after (n - (i + 1)) t) (take_more_set xs i y in_range)
     ∙ append_assoc (take i xs) (y ∷ []) (random_genes gives after (n - (i + 1)) t)

@@ -48,7 +48,8 @@ place_of order u once lt =
     map_len (x ∷ xs) = omega (arith, map_len xs)
 
 -- a variable with a gene has its place among the first
-own_place : (genes : List GeneValue) (variables : ℕ) (order : List Literal) (j u : ℕ) (d : Literal) → IsOrderOf genes variables order → j < length order → var_of (get_or order j d) ≡ u → u < length genes → j < length genes
+own_place : (genes : List GeneValue) (variables : ℕ) (order : List Literal) (j u : ℕ) (d : Literal) → IsOrderOf genes variables order → j < length order → var_of (get_or order j d) ≡ u
+    → u < length genes → j < length genes
 own_place genes variables order j u d o within is lt =
     elim (cases_lt j (length genes)) [
       | inl low ↦ low

@@ -163,7 +163,8 @@ order_is genes variables front order fits led is =
     let others_len : length others ≡ more = length-map-range_with_len other_literal (length front) more in
     let total : length order ≡ variables = ap length is ∙ omega (arith, length-append front others, others_len, count, fits) in
     let owns : All (IsOwn genes) front = All-permutation (IsOwn genes) own front led.permutation (own_literals genes) in
-    let front_at : (i : ℕ) (d : Literal) → i < n → get_or order i d ≡ get_or front i d = λ i d lt. ap (λ (xs : List Literal). get_or xs i d) is ∙ get_or_append_left front others d i (omega (arith, lt, count)) in
+    let front_at : (i : ℕ) (d : Literal) → i < n → get_or order i d ≡ get_or front i d = λ i d lt. ap (λ (xs : List Literal). get_or xs i d) is
+        ∙ get_or_append_left front others d i (omega (arith, lt, count)) in
     let own_at : (i : ℕ) (d : Literal) → i < n → IsOwn genes (get_or order i d) = λ i d lt. subst (IsOwn genes) (sym (front_at i d lt)) (owns i d (omega (arith, lt, count))) in
     record {
       len = total;
@@ -211,7 +212,8 @@ own_step genes now next l v so_far push is =
     ∙ sym (map-range_with_len_more (literal_at genes) 0 v v (omega arith))
 
 -- one more of the other variables
-pub others_step : (old now next : List Literal) (l : Literal) (start at : ℕ) → now ≡ old ++ map other_literal (range_with_len start (at - start)) → next ≡ now ++ l ∷ [] → l ≡ other_literal at → start ≤ at
+pub others_step : (old now next : List Literal) (l : Literal) (start at : ℕ) → now ≡ old ++ map other_literal (range_with_len start (at - start)) → next ≡ now ++ l ∷ [] → l ≡ other_literal at
+    → start ≤ at
     → next ≡ old ++ map other_literal (range_with_len start (at + 1 - start))
 others_step old now next l start at so_far push is le =
     let before = map other_literal (range_with_len start (at - start)) in

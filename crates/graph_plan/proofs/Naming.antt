@@ -48,7 +48,9 @@ named index name l w =
     let digits : list_all is_ascii_digit (decimal index) ≡ true = digits_decimal own index l in
     record {
       some = omega (arith, decimal_nonempty index l, length-append (decimal index) (46 ∷ name));
-      bytes = list_all-append is_name_byte (decimal index) (46 ∷ name) ∙ both_true (list_all is_name_byte (decimal index)) (list_all is_name_byte (46 ∷ name)) (digit_bytes (decimal index) digits) (word_bytes name w.plain);
+      bytes =
+          list_all-append is_name_byte (decimal index) (46 ∷ name) ∙ both_true (list_all is_name_byte (decimal index)) (list_all is_name_byte (46 ∷ name)) (digit_bytes (decimal index) digits)
+          (word_bytes name w.plain);
     }
 
 pub if_named : {X E : Type 0} (bytes : X → Name) (r : Result X E) (index : ℕ) (name : Name) → index < 2 ^ 64 → IsWord name → IfOk r (λ x. bytes x ≡ name_in index name) → IfOk r (λ x. IsName (bytes x))

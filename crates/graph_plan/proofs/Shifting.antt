@@ -49,7 +49,8 @@ sends_back first older arcs a b before x =
     ]
 
 -- a chain from a task of the graph to another goes along its arcs
-chain_back : (first : ℕ) (older : List Message) (arcs : List TgffArc) (n a c : ℕ) → All (IsBefore first) older → Chain (older ++ map (message_of first) arcs) n (first + a) (first + c) → Chain (messages_of arcs) n a c
+chain_back : (first : ℕ) (older : List Message) (arcs : List TgffArc) (n a c : ℕ) → All (IsBefore first) older → Chain (older ++ map (message_of first) arcs) n (first + a) (first + c)
+    → Chain (messages_of arcs) n a c
 chain_back first older arcs zero a c before e = omega (arith, e)
 chain_back first older arcs (suc n) a c before p =
     let s = sends_back first older arcs a p.0 before p.1 in
@@ -60,7 +61,8 @@ sends_more : (ms ks : List Message) (a b : ℕ) → Sends ms a b → Sends (ms +
 sends_more ms ks a b x = record { message = x.message; there = Contains-append_left ms ks x.message x.there; from = x.from; to = x.to }
 
 -- arcs, cut behind one of them
-cut : (arcs : List TgffArc) (i : ℕ) (arc : TgffArc) → i < length arcs → arc ≡ get_or arcs i arc → messages_of arcs ≡ (messages_of (take i arcs) ++ own_message arc ∷ []) ++ messages_of (drop (i + 1) arcs)
+cut : (arcs : List TgffArc) (i : ℕ) (arc : TgffArc) → i < length arcs → arc ≡ get_or arcs i arc → messages_of arcs ≡ (messages_of (take i arcs) ++ own_message arc ∷ [])
+    ++ messages_of (drop (i + 1) arcs)
 cut arcs i arc l at =
     let rest = messages_of (drop (i + 1) arcs) in
     let front : take (i + 1) arcs ≡ take i arcs ++ arc ∷ [] = take_more arcs i arc l ∙ ap (λ (x : TgffArc). take i arcs ++ x ∷ []) (sym at) in
@@ -70,12 +72,14 @@ cut arcs i arc l at =
     ∙ ap (λ (ms : List Message). ms ++ rest) (map_push own_message (take i arcs) arc)
 
 -- no arc of a graph closes a cycle behind those before it and messages of tasks before the graph's
-pub never_closes : (first : ℕ) (older : List Message) (arcs : List TgffArc) (i : ℕ) (arc : TgffArc) → All (IsBefore first) older → ¬ HasCycle (messages_of arcs) → i < length arcs → arc ≡ get_or arcs i arc
+pub never_closes : (first : ℕ) (older : List Message) (arcs : List TgffArc) (i : ℕ) (arc : TgffArc) → All (IsBefore first) older → ¬ HasCycle (messages_of arcs) → i < length arcs
+    → arc ≡ get_or arcs i arc
     → Leads (older ++ map (message_of first) (take i arcs)) ((first + arc.to) ∷ []) (first + arc.from) → ⊥
 never_closes first older arcs i arc before none l at x =
     let so_far = take i arcs in
     let ms : List Message = messages_of so_far ++ own_message arc ∷ [] in
-    let way : Chain (older ++ map (message_of first) so_far) x.reaches.hops (first + arc.to) (first + arc.from) = subst (λ (s : ℕ). Chain (older ++ map (message_of first) so_far) x.reaches.hops s (first + arc.from)) (sym (one_of (first + arc.to) x.start x.among)) x.reaches.chain in
+    let way : Chain (older ++ map (message_of first) so_far) x.reaches.hops (first + arc.to) (first + arc.from) =
+        subst (λ (s : ℕ). Chain (older ++ map (message_of first) so_far) x.reaches.hops s (first + arc.from)) (sym (one_of (first + arc.to) x.start x.among)) x.reaches.chain in
     let lead : Leads (messages_of so_far) (arc.to ∷ []) arc.from = record {
       start = arc.to;
       among = (0, omega arith, refl);

@@ -65,7 +65,8 @@ refuted s f (ResourceUse r) facts b met = b.1.differ (met b.1.in_range)
 refuted s f (LinkUse l) facts b met = b.1.differ (met b.1.in_range)
 
 -- a broken rule is the first one where the rules before it are met, and it is met earlier
-first_of : (s : SpecValue) (f : Bits) (rule : Rule) → IsWellFormed s → AreMetBelow s f (number_of rule) → ((m x : ℕ) → IsEarlier m x (message_of rule) (place_of rule) → IsMet s f (number_of rule) m x) → Breaks s f rule → IsFirstBroken s f rule
+first_of : (s : SpecValue) (f : Bits) (rule : Rule) → IsWellFormed s → AreMetBelow s f (number_of rule)
+    → ((m x : ℕ) → IsEarlier m x (message_of rule) (place_of rule) → IsMet s f (number_of rule) m x) → Breaks s f rule → IsFirstBroken s f rule
 first_of s f rule facts lower earlier broken = record {
   broken = broken;
   none_before = λ other before b. elim before [
@@ -81,7 +82,8 @@ more s f n before here = below_more (λ (k : ℕ). (m x : ℕ) → IsMet s f k m
 everywhere : (s : SpecValue) (f : Bits) (rule : RouteRule) → Meets s f rule → (m x : ℕ) → IsMetAt s f rule m x
 everywhere s f rule meets m x in_range here = meets m in_range x here
 
-up_to : (s : SpecValue) (f : Bits) (rule : RouteRule) (n y : ℕ) → AllPairsBelow (MeetsAt s f rule) n (places s rule) → AllBelow (MeetsAt s f rule n) y → (m x : ℕ) → IsEarlier m x n y → IsMetAt s f rule m x
+up_to : (s : SpecValue) (f : Bits) (rule : RouteRule) (n y : ℕ) → AllPairsBelow (MeetsAt s f rule) n (places s rule) → AllBelow (MeetsAt s f rule n) y → (m x : ℕ) → IsEarlier m x n y
+    → IsMetAt s f rule m x
 up_to s f rule n y before here m x (inl l) in_range there = before m l x there
 up_to s f rule n y before here m x (inr e) in_range there = subst (λ (q : ℕ). MeetsAt s f rule q x) (sym e.0) (here x e.1)
 
@@ -121,7 +123,8 @@ pub first_unbound : (s : SpecValue) (f : Bits) (t : TaskNo) → IsWellFormed s �
 first_unbound s f t facts found =
     first_of s f (NotBoundOnce t) facts (lower_1 s f) (λ m x. up_to_place (BoundOnce s f) (length s.tasks) t.0 m x found.2) found.1
 
-pub first_into_sender : (s : SpecValue) (f : Bits) (m : MsgNo) (a : ArcNo) → IsWellFormed s → AllBoundOnce s f → AreMetBelow s f 2 → IsFirstAt s f NoArcIntoSender m.0 a.0 → IsFirstBroken s f (ArcIntoSender m a)
+pub first_into_sender : (s : SpecValue) (f : Bits) (m : MsgNo) (a : ArcNo) → IsWellFormed s → AllBoundOnce s f → AreMetBelow s f 2 → IsFirstAt s f NoArcIntoSender m.0 a.0
+    → IsFirstBroken s f (ArcIntoSender m a)
 first_into_sender s f m a facts bound lower found =
     first_of s f (ArcIntoSender m a) facts lower (up_to s f NoArcIntoSender m.0 a.0 found.3 found.4) (bound, found.0, found.2)
 
@@ -141,11 +144,13 @@ pub first_dangling : (s : SpecValue) (f : Bits) (m : MsgNo) (a : ArcNo) → IsWe
 first_dangling s f m a facts bound lower found =
     first_of s f (Dangling m a) facts lower (up_to s f GoesOn m.0 a.0 found.3 found.4) (bound, found.0, found.2)
 
-pub first_misused : (s : SpecValue) (f : Bits) (r : ResNo) → IsWellFormed s → AllBoundOnce s f → AreMetBelow s f 7 → IsFirst (IsMisused s f) (IsUsedRightly s f) (length s.resources) (Some r.0) → IsFirstBroken s f (ResourceUse r)
+pub first_misused : (s : SpecValue) (f : Bits) (r : ResNo) → IsWellFormed s → AllBoundOnce s f → AreMetBelow s f 7 → IsFirst (IsMisused s f) (IsUsedRightly s f) (length s.resources) (Some r.0)
+    → IsFirstBroken s f (ResourceUse r)
 first_misused s f r facts bound lower found =
     first_of s f (ResourceUse r) facts lower (λ m x. up_to_place (IsUsedRightly s f) (length s.resources) r.0 m x found.2) (bound, found.1)
 
-pub first_miswired : (s : SpecValue) (f : Bits) (l : LinkNo) → IsWellFormed s → AllBoundOnce s f → AreMetBelow s f 8 → IsFirst (IsMiswired s f) (IsWiredRightly s f) (length s.links) (Some l.0) → IsFirstBroken s f (LinkUse l)
+pub first_miswired : (s : SpecValue) (f : Bits) (l : LinkNo) → IsWellFormed s → AllBoundOnce s f → AreMetBelow s f 8 → IsFirst (IsMiswired s f) (IsWiredRightly s f) (length s.links) (Some l.0)
+    → IsFirstBroken s f (LinkUse l)
 first_miswired s f l facts bound lower found =
     first_of s f (LinkUse l) facts lower (λ m x. up_to_place (IsWiredRightly s f) (length s.links) l.0 m x found.2) (bound, found.1)
 

@@ -48,7 +48,8 @@ AllDigits-drop (suc k) (d ∷ ds) h = AllDigits-drop k ds h.1
 cut : (ds : List ℕ) (keep j : ℕ) → AllDigits 10 ds → keep + j ≡ length ds → V ds / 10 ^ j ≡ V (take keep ds)
 cut ds keep j h e =
     let len : length (drop keep ds) ≡ j = omega (arith, length-drop keep ds) in
-    let parts : V ds ≡ V (take keep ds) * 10 ^ j + V (drop keep ds) = ap V (sym (take-append-drop keep ds)) ∙ V-append (take keep ds) (drop keep ds) ∙ ap (λ (k : ℕ). V (take keep ds) * 10 ^ k + V (drop keep ds)) len in
+    let parts : V ds ≡ V (take keep ds) * 10 ^ j + V (drop keep ds) = ap V (sym (take-append-drop keep ds)) ∙ V-append (take keep ds) (drop keep ds)
+        ∙ ap (λ (k : ℕ). V (take keep ds) * 10 ^ k + V (drop keep ds)) len in
     let small : V (drop keep ds) < 10 ^ j = subst (λ (k : ℕ). V (drop keep ds) < 10 ^ k) len (digits_value-lt 10 (drop keep ds) (AllDigits-drop keep ds h)) in
     rw parts (div-mul-add (V (take keep ds)) (10 ^ j) (V (drop keep ds)) small)
 
@@ -170,9 +171,11 @@ units_by false whole fraction exponent e keep h e_is short k_is =
       | inr high ↦
           let k = exponent + 12 + length (whole ++ fraction) - (length fraction + 0) in
           let a : take keep (whole ++ fraction) ≡ whole ++ fraction = take_all keep (whole ++ fraction) (omega (arith, n)) in
-          let b : take (exponent + 12 + length (whole ++ fraction) - (length fraction + 0)) (whole ++ fraction) ≡ whole ++ fraction = take_all (exponent + 12 + length (whole ++ fraction) - (length fraction + 0)) (whole ++ fraction) (omega (arith, n)) in
+          let b : take (exponent + 12 + length (whole ++ fraction) - (length fraction + 0)) (whole ++ fraction) ≡ whole ++ fraction =
+              take_all (exponent + 12 + length (whole ++ fraction) - (length fraction + 0)) (whole ++ fraction) (omega (arith, n)) in
           rw (exact (whole ++ fraction) (exponent + 12) (length fraction + 0) h, a, b)
-          (many_zeros (V (whole ++ fraction)) (keep - length (whole ++ fraction)) (exponent + 12 + length (whole ++ fraction) - (length fraction + 0) - length (whole ++ fraction)) (omega (arith, n)) (omega (arith, n)))
+          (many_zeros (V (whole ++ fraction)) (keep - length (whole ++ fraction)) (exponent + 12 + length (whole ++ fraction) - (length fraction + 0) - length (whole ++ fraction))
+              (omega (arith, n)) (omega (arith, n)))
     ]
 
 -- the units of a numeral, from the digits that are kept and zeros, at most the bound
@@ -222,6 +225,7 @@ assembled p e keep a b v1 v2 z res hw hf e_is short k_is a_is b_is v1_is v2_is z
     ∙ ap (λ (k : ℕ). min k most) (sym (after-append 0 (take a p.whole) (take b p.fraction)))
     ∙ ap (λ (ds : List ℕ). min (V ds) most) (two_parts p.whole p.fraction keep a b a_is b_is)) in
     let z_same : z ≡ keep - length (p.whole ++ p.fraction) = omega (arith, n) in
-    let k_same : keep ≡ (cond p.exponent_negative 0 e + 12) + length (p.whole ++ p.fraction) - (length p.fraction + cond p.exponent_negative e 0) = k_is ∙ ap (λ (k : ℕ). cond p.exponent_negative 0 e + 12 + k - (length p.fraction + cond p.exponent_negative e 0)) (sym n) in
+    let k_same : keep ≡ (cond p.exponent_negative 0 e + 12) + length (p.whole ++ p.fraction) - (length p.fraction + cond p.exponent_negative e 0) = k_is
+        ∙ ap (λ (k : ℕ). cond p.exponent_negative 0 e + 12 + k - (length p.fraction + cond p.exponent_negative e 0)) (sym n) in
     res_is ∙ ap (λ (k : ℕ). min (v2 * 10 ^ k) most) z_same ∙ sat-zeros v2 (V (take keep (p.whole ++ p.fraction))) (keep - length (p.whole ++ p.fraction)) second
     ∙ units_cut p e keep (AllDigits-append p.whole p.fraction hw hf) e_is short k_same

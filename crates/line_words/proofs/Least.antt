@@ -83,7 +83,8 @@ first_broken-append-some (x ∷ xs) ys w e =
 
 -- ---- the statements of lines
 
-statements_from-append : (rules : Rules) (number : ℕ) (xs ys : List (List ℕ)) → statements_from rules number (xs ++ ys) ≡ statements_from rules number xs ++ statements_from rules (number + length xs) ys
+statements_from-append : (rules : Rules) (number : ℕ) (xs ys : List (List ℕ)) → statements_from rules number (xs ++ ys) ≡ statements_from rules number xs
+    ++ statements_from rules (number + length xs) ys
 statements_from-append rules number [] ys = ap (λ (n : ℕ). statements_from rules n ys) (omega arith)
 statements_from-append rules number (x ∷ xs) ys =
     let here = at_number number (rules.stated x) in
@@ -199,7 +200,8 @@ from_here rules lines (l ∷ ls) n o le e fine =
     let more : statements rules (take (n + 1) lines) ≡ before ++ at_number (n + 1) (rules.stated l) = statements_more rules lines n l lt is in
     let next : FineBelow rules lines (n + 1) → Outcome rules lines (run rules (n + 1 + 1) (before ++ at_number (n + 1) (rules.stated l)) ls)
     = λ f. subst (λ (st : List Statement). Outcome rules lines (run rules (n + 1 + 1) st ls)) more (from_here rules lines ls (n + 1) o (omega arith) rest f) in
-    rw run-cons (subst (λ (x : List ℕ). Outcome rules lines (unless_broken (n + 1) (first_broken (tests_after rules before x)) (run rules (n + 1 + 1) (before ++ at_number (n + 1) (rules.stated l)) ls))) (sym is)
+    rw run-cons (subst (λ (x : List ℕ). Outcome rules lines (unless_broken (n + 1) (first_broken (tests_after rules before x))
+        (run rules (n + 1 + 1) (before ++ at_number (n + 1) (rules.stated l)) ls))) (sym is)
     (at_line rules lines n (first_broken (tests_at rules lines n)) (run rules (n + 1 + 1) (before ++ at_number (n + 1) (rules.stated l)) ls) o lt refl fine next))
 
 -- Reading from the front gives what the file is, for each kind of file whose rules stand in their order.

@@ -32,7 +32,8 @@ ranked low (t ∷ ts) e = let parts = both (nat_le low (rank t.0)) (is_ranked (r
 
 -- Rules of statements that stand in their order, from the header on, are in order with those of the line.
 pub in_order : (statement : List Statement → Words → List Test) (end : List Statement → List Test)
-    → ((before : List Statement) (ws : Words) → IsRanked (rank NoHeader) (statement before ws)) → ((before : List Statement) → IsRanked (rank NoHeader) (end before)) → AreInOrder (text_rules statement end)
+    → ((before : List Statement) (ws : Words) → IsRanked (rank NoHeader) (statement before ws)) → ((before : List Statement) → IsRanked (rank NoHeader) (end before))
+        → AreInOrder (text_rules statement end)
 in_order statement end s e = record {
   at_lines = λ before line. (omega arith, (omega arith, stated_ranked statement end before (stated_words line) s));
   at_end = λ before. ranked_below 0 (rank NoHeader) (end before) (omega arith) (e before);
@@ -121,7 +122,8 @@ goes_on statement end before old new line ws total g is so_far fine =
     ∙ sym (gives_run statement end before old new line g ∙ rw here refl) ∙ so_far
 
 -- a statement that breaks a rule is the file's refusal
-pub stops_here : (statement : List Statement → Words → List Test) (end : List Statement → List Test) (before : List Statement) (old new : Left) (line : Numbered) (ws : Words) (total : Reading) (why : Why)
+pub stops_here : (statement : List Statement → Words → List Test) (end : List Statement → List Test) (before : List Statement) (old new : Left) (line : Numbered) (ws : Words) (total : Reading)
+    (why : Why)
     → Gives old new line → ws ≡ texts (words_in line.content) → run (text_rules statement end) old.number before old.lines ≡ total → first_broken (statement before ws) ≡ Some why
     → total ≡ Err (record { line = line.number; why = why })
 stops_here statement end before old new line ws total why g is so_far broken =

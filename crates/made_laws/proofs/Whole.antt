@@ -97,10 +97,12 @@ energy_step : Step cost_alone (codes "objective" ∷ codes "energy" ∷ []) (hav
 unfolding form_of keyword_of objective_form settings_of tests has_bad_shape has_bad_number has_unknown_name has_repeated_name has_big_number
 energy_step = record { statement = Objective (codes "energy") None false; line = record { words = refl; some = omega arith; few = omega arith }; form = refl; fine = refl; declared = refl }
 
-link_pair : (r : ℕ) (words : Stream) (e a b : ℕ) → AreOf32Bits words → e < 40 → are_joined r a b ≡ true → Goes (having r e false) (link_between e a b (1 + draw words 9 0) ∷ traffic_words e ∷ []) (having r (e + 1) false)
+link_pair : (r : ℕ) (words : Stream) (e a b : ℕ) → AreOf32Bits words → e < 40 → are_joined r a b ≡ true
+    → Goes (having r e false) (link_between e a b (1 + draw words 9 0) ∷ traffic_words e ∷ []) (having r (e + 1) false)
 link_pair r words e a b h few joined =
     let cost = drawn words 9 0 h (omega arith) in
-    (having r (e + 1) false, link_step r e a b (1 + draw words 9 0) (joined_of r a b joined) few (omega (arith, cost)), one_step (having r (e + 1) false) (having r (e + 1) false) (traffic_words e) (traffic_step r e few))
+    (having r (e + 1) false, link_step r e a b (1 + draw words 9 0) (joined_of r a b joined) few (omega (arith, cost)),
+        one_step (having r (e + 1) false) (having r (e + 1) false) (traffic_words e) (traffic_step r e few))
 
 -- all parts after the objectives
 abbrev pub parts_of : ℕ → Stream → List Words
@@ -119,7 +121,8 @@ parts_of side words =
 zero_more : (n : ℕ) → 0 + n ≡ n
 zero_more n = omega arith
 
-resources_part : (side : ℕ) (words : Stream) → IsMesh side → AreOf32Bits words → Goes (having 0 0 false) (taking 1 resource_lines words (below (resources_of side))) (having (resources_of side) 0 false)
+resources_part : (side : ℕ) (words : Stream) → IsMesh side → AreOf32Bits words → Goes (having 0 0 false) (taking 1 resource_lines words (below (resources_of side)))
+    (having (resources_of side) 0 false)
 resources_part side words m h =
     subst (λ k. Goes (having 0 0 false) (taking 1 resource_lines words (below (resources_of side))) (having k 0 false)) (zero_more (resources_of side))
     (resources_go words 0 (resources_of side) h (omega (arith, m.few_resources)))
@@ -134,7 +137,8 @@ links_part side words m h =
 tasks_part : (side r l : ℕ) → side ≤ 5 → IsMesh side → Goes (having r l false) (task_lines side) (having r l false)
 tasks_part side r l few m = (having r l false, hops_step r l side few, tasks_go r l 0 (tasks_of side) (omega (arith, m.few_tasks)))
 
-maps_part : (side l : ℕ) (words : Stream) → IsMesh side → AreOf32Bits words → Goes (having (resources_of side) l false) (taking 7 (map_lines side) words (below (tasks_of side))) (having (resources_of side) l true)
+maps_part : (side l : ℕ) (words : Stream) → IsMesh side → AreOf32Bits words → Goes (having (resources_of side) l false) (taking 7 (map_lines side) words (below (tasks_of side)))
+    (having (resources_of side) l true)
 maps_part side l words m h = options_go side l words (tasks_of side) h m.some_resources (omega (arith, m.few_resources)) m.some_tasks (omega (arith, m.few_tasks))
 
 parts_go : (side : ℕ) (words : Stream) → side ≤ 5 → IsMesh side → AreOf32Bits words → Goes (having 0 0 false) (parts_of side words) (having (resources_of side) (length (all_ends side)) true)

@@ -24,7 +24,8 @@ use Rattle.ordered_solver.proofs.Parts.{under-parts, model-all, model-given, giv
 use Rattle.ordered_solver.proofs.Shown.{shown-among}
 
 -- lists with the same models have the same answer
-says-same : (cs ds : List Linear) (order : List Literal) (answer : Answer) → ((v : ℕ → Bool) → IsModel cs v → IsModel ds v) → ((v : ℕ → Bool) → IsModel ds v → IsModel cs v) → AnswerSays cs order answer → AnswerSays ds order answer
+says-same : (cs ds : List Linear) (order : List Literal) (answer : Answer) → ((v : ℕ → Bool) → IsModel cs v → IsModel ds v) → ((v : ℕ → Bool) → IsModel ds v → IsModel cs v)
+    → AnswerSays cs order answer → AnswerSays ds order answer
 says-same cs ds order (Model values) to from h = record {
   one_each = h.one_each;
   first = record { model = to (bits_of values.items) h.first.model; first = λ w m. h.first.first w (from w m) };
@@ -33,8 +34,10 @@ says-same cs ds order Nothing to from h = λ v m. h v (from v m)
 says-same cs ds order Budget to from h = tt
 
 -- a search's end, said of the given constraints
-pub says-given : (start : List Live) (log : LogValue) (order : List Literal) (answer : Answer) → AreKept (given_of log start) (kept_of log start) log → AnswerSays (constraints_in start) order answer → AnswerSays (constraints_of (given_of log start)) order answer
-says-given start log order answer keeps h = says-same (constraints_in start) (constraints_of (given_of log start)) order answer (λ v m. model-given v log start m) (λ v m. model-all v log start m (keeps.follow v m)) h
+pub says-given : (start : List Live) (log : LogValue) (order : List Literal) (answer : Answer) → AreKept (given_of log start) (kept_of log start) log
+    → AnswerSays (constraints_in start) order answer → AnswerSays (constraints_of (given_of log start)) order answer
+says-given start log order answer keeps h =
+    says-same (constraints_in start) (constraints_of (given_of log start)) order answer (λ v m. model-given v log start m) (λ v m. model-all v log start m (keeps.follow v m)) h
 
 -- what is honest over a list is honest over a part of it
 steps-part : (f : Frame) (g : Given) (cs ds : List Linear) (ls : List Line) → AreAmong cs ds → AreHonestSteps f g ds ls → AreHonestSteps f g cs ls
@@ -50,7 +53,8 @@ steps-part f g cs ds ls among h =
           clauses_each = w.honest.clauses_each;
           unabsorbed = λ k d l.
               (let earlier : List Linear = take k clauses in
-              unabsorbed-among (cs ++ earlier) (ds ++ earlier) (get_or clauses k d) (among-append cs earlier (ds ++ earlier) (λ x m. among-front ds earlier x (among x m)) (among-back ds earlier)) (w.honest.unabsorbed k d l));
+              unabsorbed-among (cs ++ earlier) (ds ++ earlier) (get_or clauses k d) (among-append cs earlier (ds ++ earlier) (λ x m. among-front ds earlier x (among x m)) (among-back ds earlier))
+                  (w.honest.unabsorbed k d l));
         };
       };
       no_contradiction = h.no_contradiction;
@@ -60,12 +64,15 @@ refutation-part : (f : Frame) (g : Given) (cs ds : List Linear) (ls : List Line)
 refutation-part f g cs ds ls among h = record { steps = h.steps; last = h.last; split = h.split; honest = steps-part f g cs ds h.steps among h.honest; contradicts = h.contradicts }
 
 -- what is said of lines over all constraints, said over a part of them
-lines-part : (f : Frame) (g : Given) (cs ds : List Linear) (order : List Literal) (ls whole : List Line) (answer : Answer) → AreAmong cs ds → AreAmong (ds ++ derived_by f whole) (cs ++ derived_by f whole) → LinesSay f g ds order ls whole answer → LinesSay f g cs order ls whole answer
-lines-part f g cs ds order ls whole (Model values) among all h = record { honest = steps-part f g cs ds ls among h.honest; shows = shown-among (ds ++ derived_by f whole) (cs ++ derived_by f whole) order (bits_of values.items) all h.shows }
+lines-part : (f : Frame) (g : Given) (cs ds : List Linear) (order : List Literal) (ls whole : List Line) (answer : Answer) → AreAmong cs ds
+    → AreAmong (ds ++ derived_by f whole) (cs ++ derived_by f whole) → LinesSay f g ds order ls whole answer → LinesSay f g cs order ls whole answer
+lines-part f g cs ds order ls whole (Model values) among all h =
+    record { honest = steps-part f g cs ds ls among h.honest; shows = shown-among (ds ++ derived_by f whole) (cs ++ derived_by f whole) order (bits_of values.items) all h.shows }
 lines-part f g cs ds order ls whole Nothing among all h = refutation-part f g cs ds ls among h
 lines-part f g cs ds order ls whole Budget among all h = steps-part f g cs ds ls among h
 
-new-part : (f : Frame) (g : Given) (cs ds : List Linear) (order : List Literal) (ls whole : List Line) (answer : Answer) → AreAmong cs ds → LinesSay f g ds order ls whole answer → AreNewSays f g cs ls answer
+new-part : (f : Frame) (g : Given) (cs ds : List Linear) (order : List Literal) (ls whole : List Line) (answer : Answer) → AreAmong cs ds → LinesSay f g ds order ls whole answer
+    → AreNewSays f g cs ls answer
 new-part f g cs ds order ls whole (Model values) among h = steps-part f g cs ds ls among h.honest
 new-part f g cs ds order ls whole Nothing among h = refutation-part f g cs ds ls among h
 new-part f g cs ds order ls whole Budget among h = steps-part f g cs ds ls among h
@@ -78,14 +85,17 @@ derived-among cs gs ks earlier later ds among e =
     among-append cs ds (gs ++ ds) (λ c m. both c (among c m)) (among-back gs ds)
 
 -- in a frame that agrees with the solver before, what the search's end says of the lines
-answered : (start : List Live) (s : SolverValue) (new : LogValue) (order : List Literal) (variables budget : ℕ) (answer : Answer) (f : Frame) → s.given ≡ given_of s.log start → s.kept ≡ kept_of s.log start → AreKept (given_of s.log start) (kept_of s.log start) s.log → IsFound start s.log new order variables budget answer → (a : Agrees f s) → IsAnswered f a.given (constraints_in start) s.log new order answer × AreLastDerived f a.given s.log.lines (kept_of s.log start)
+answered : (start : List Live) (s : SolverValue) (new : LogValue) (order : List Literal) (variables budget : ℕ) (answer : Answer) (f : Frame) → s.given ≡ given_of s.log start
+    → s.kept ≡ kept_of s.log start → AreKept (given_of s.log start) (kept_of s.log start) s.log → IsFound start s.log new order variables budget answer → (a : Agrees f s)
+    → IsAnswered f a.given (constraints_in start) s.log new order answer × AreLastDerived f a.given s.log.lines (kept_of s.log start)
 answered start s new order variables budget answer f eg ek keeps h a =
     let context : Context = context_of a.given in
     let stand : All (StandsIn context) (given_of s.log start) = subst (λ (cs : List Content). All (StandsIn context) cs) eg a.stand in
     let kp = keeps.last f a.given a.frame a.fits a.legal stand in
     (h.shown f a.given a.frame a.fits a.legal (under-parts context s.log start stand kp.stand), kp)
 
-pub in-frames : (start : List Live) (s t : SolverValue) (order : List Literal) (variables budget : ℕ) (answer : Answer) → s.given ≡ given_of s.log start → s.kept ≡ kept_of s.log start → t.given ≡ s.given → AreKept (given_of s.log start) (kept_of s.log start) s.log → IsFound start s.log t.log order variables budget answer → AnswersInFrames s t order answer
+pub in-frames : (start : List Live) (s t : SolverValue) (order : List Literal) (variables budget : ℕ) (answer : Answer) → s.given ≡ given_of s.log start → s.kept ≡ kept_of s.log start
+    → t.given ≡ s.given → AreKept (given_of s.log start) (kept_of s.log start) s.log → IsFound start s.log t.log order variables budget answer → AnswersInFrames s t order answer
 in-frames start s t order variables budget answer eg ek same keeps h f a =
     let r = answered start s t.log order variables budget answer f eg ek keeps h a in
     let w = r.0 in
@@ -96,7 +106,8 @@ in-frames start s t order variables budget answer eg ek same keeps h f a =
     let ks : List Linear = constraints_of (kept_of s.log start) in
     let first : s.log.first ≡ t.log.first = sym (ap (λ (v : LogValue). v.first) h.log.kept) in
     let T : List Content → Type 0 = λ cs. All (StandsIn (context_of w.after)) cs in
-    let grown : whole ≡ (kp.earlier ++ ks) ++ derived_from f a.given lines = ap (λ (v : LogValue). derived_by f v.lines) h.log.kept ∙ derived-append f (base_of f) a.given s.log.lines lines a.legal ∙ ap (λ (cs : List Linear). cs ++ derived_from f a.given lines) kp.last in
+    let grown : whole ≡ (kp.earlier ++ ks) ++ derived_from f a.given lines = ap (λ (v : LogValue). derived_by f v.lines) h.log.kept ∙ derived-append f (base_of f) a.given s.log.lines lines a.legal
+        ∙ ap (λ (cs : List Linear). cs ++ derived_from f a.given lines) kp.last in
     let among = derived-among (constraints_in start) gs ks kp.earlier (derived_from f a.given lines) whole (all-among s.log start) grown in
     let L : List Content → Type 0 = λ cs. LinesSay f a.given (constraints_of cs) order lines t.log.lines answer in
     record {
@@ -112,12 +123,14 @@ in-frames start s t order variables budget answer eg ek same keeps h f a =
       lines = subst L (sym eg) (lines-part f a.given gs (constraints_in start) order lines t.log.lines answer (given-among s.log start) among w.lines);
     }
 
-pub new-over-kept : (start : List Live) (s t : SolverValue) (order : List Literal) (variables budget : ℕ) (answer : Answer) → s.given ≡ given_of s.log start → s.kept ≡ kept_of s.log start → AreKept (given_of s.log start) (kept_of s.log start) s.log → IsFound start s.log t.log order variables budget answer → AreNewOverKept s t answer
+pub new-over-kept : (start : List Live) (s t : SolverValue) (order : List Literal) (variables budget : ℕ) (answer : Answer) → s.given ≡ given_of s.log start → s.kept ≡ kept_of s.log start
+    → AreKept (given_of s.log start) (kept_of s.log start) s.log → IsFound start s.log t.log order variables budget answer → AreNewOverKept s t answer
 new-over-kept start s t order variables budget answer eg ek keeps h f a =
     let r = answered start s t.log order variables budget answer f eg ek keeps h a in
     let w = r.0 in
     let lines : List Line = new_lines s.log t.log in
-    let both = new-part f a.given (constraints_of (given_of s.log start) ++ constraints_of (kept_of s.log start)) (constraints_in start) order lines t.log.lines answer (both-among s.log start) w.lines in
+    let both = new-part f a.given (constraints_of (given_of s.log start) ++ constraints_of (kept_of s.log start)) (constraints_in start) order lines t.log.lines answer (both-among s.log start)
+        w.lines in
     let G : List Content → Type 0 = λ cs. AreNewSays f a.given (constraints_of cs ++ constraints_of (kept_of s.log start)) lines answer in
     let K : List Content → Type 0 = λ cs. AreNewSays f a.given (constraints_of s.given ++ constraints_of cs) lines answer in
     subst K (sym ek) (subst G (sym eg) both)
@@ -130,10 +143,12 @@ numbered-push id (d ∷ cs) c =
     ap (λ (xs : List Content). record { constraint = d; proof_id = id } ∷ xs) rest
 
 -- one constraint more under the next id
-pub numbered-last : (cs : List Linear) (live : List Live) (x : Live) → x.proof_id ≡ length cs + 1 → map content live ≡ numbered 1 cs → map content (live ++ x ∷ []) ≡ numbered 1 (cs ++ x.constraint ∷ [])
+pub numbered-last : (cs : List Linear) (live : List Live) (x : Live) → x.proof_id ≡ length cs + 1 → map content live ≡ numbered 1 cs
+    → map content (live ++ x ∷ []) ≡ numbered 1 (cs ++ x.constraint ∷ [])
 numbered-last cs live x id e =
     let n : 1 + length cs ≡ x.proof_id = omega arith in
-    map-append content live (x ∷ []) ∙ ap (λ (xs : List Content). xs ++ content x ∷ []) e ∙ sym (numbered-push 1 cs x.constraint ∙ ap (λ m. numbered 1 cs ++ record { constraint = x.constraint; proof_id = m } ∷ []) n)
+    map-append content live (x ∷ []) ∙ ap (λ (xs : List Content). xs ++ content x ∷ []) e ∙ sym (numbered-push 1 cs x.constraint
+        ∙ ap (λ m. numbered 1 cs ++ record { constraint = x.constraint; proof_id = m } ∷ []) n)
 
 -- constraints alone, given by no line
 abbrev only : List Linear → Given
@@ -149,7 +164,8 @@ numbered-stands id early (c ∷ cs) e h (suc k) d l =
     let P : List Linear → Type 0 = λ xs. StandsIn (context_of (only xs)) (get_or (numbered (id + 1) cs) k d) in
     subst P (append_assoc early (c ∷ []) cs) rest
 
-pub agrees-new : (f : Frame) (variables : ℕ) (spent : Bool) → IsFrame f → length f.base + 1 < 2 ^ 62 → Agrees f (record { variables = variables; given = numbered 1 f.base; kept = []; log = record { first = length f.base + 1; lines = [] }; spent = spent })
+pub agrees-new : (f : Frame) (variables : ℕ) (spent : Bool) → IsFrame f → length f.base + 1 < 2 ^ 62
+    → Agrees f (record { variables = variables; given = numbered 1 f.base; kept = []; log = record { first = length f.base + 1; lines = [] }; spent = spent })
 agrees-new f variables spent frame few = record { frame = frame; fits = refl; given = base_of f; legal = refl; stand = numbered-stands 1 [] f.base refl (omega arith) }
 
 pub agrees-constraint : (f : Frame) (s : SolverValue) (c : Content) (a : Agrees f s) → StandsIn (context_of a.given) c → Agrees f (record s { given = s.given ++ c ∷ [] })

@@ -42,7 +42,8 @@ counted-place : (test : Term → Bool) (ts : List Term) → 0 < count_by test ts
 counted-place test [] h = absurd (omega arith)
 counted-place test (t ∷ ts) h = go (test t) refl (counted-place test ts)
   where
-    go : (b : Bool) → test t ≡ b → (0 < count_by test ts → (k : ℕ) × (k < length ts) × ((d : Term) → test (get_or ts k d) ≡ true)) → (k : ℕ) × (k < length (t ∷ ts)) × ((d : Term) → test (get_or (t ∷ ts) k d) ≡ true)
+    go : (b : Bool) → test t ≡ b → (0 < count_by test ts → (k : ℕ) × (k < length ts) × ((d : Term) → test (get_or ts k d) ≡ true)) → (k : ℕ) × (k < length (t ∷ ts))
+        × ((d : Term) → test (get_or (t ∷ ts) k d) ≡ true)
     go true e ih = (0, omega arith, λ d. e)
     go false e ih =
         let c : count_by test (t ∷ ts) ≡ cond {A = ℕ} (test t) 1 0 + count_by test ts = sum_by-cons (λ (u : Term). cond (test u) 1 0) t ts in
@@ -51,14 +52,16 @@ counted-place test (t ∷ ts) h = go (test t) refl (counted-place test ts)
         (suc r.0, omega (arith, r.1), r.2)
 
 -- the one place of the current level
-current-place : (live : List Live) (es : List Entry) (c : Linear) → IsLearned live es c → 0 < level_of es → (k : ℕ) × (k < length c.terms) × ((d : Term) → level_in es (get_or c.terms k d).lit.var ≡ level_of es)
+current-place : (live : List Live) (es : List Entry) (c : Linear) → IsLearned live es c → 0 < level_of es → (k : ℕ) × (k < length c.terms)
+    × ((d : Term) → level_in es (get_or c.terms k d).lit.var ≡ level_of es)
 current-place live es c l h =
     let one = l.one_current h in
     let r = counted-place (is_current es) c.terms (omega arith) in
     (r.0, r.1, λ d. (let e = r.2 d in grind (arith, nat_tests)))
 
 -- at another place there is another level
-current-alone : (live : List Live) (es : List Entry) (c : Linear) → IsLearned live es c → 0 < level_of es → (i k : ℕ) (d : Term) → i < length c.terms → k < length c.terms → i ≢ k → level_in es (get_or c.terms k d).lit.var ≡ level_of es → level_in es (get_or c.terms i d).lit.var ≢ level_of es
+current-alone : (live : List Live) (es : List Entry) (c : Linear) → IsLearned live es c → 0 < level_of es → (i k : ℕ) (d : Term) → i < length c.terms → k < length c.terms → i ≢ k
+    → level_in es (get_or c.terms k d).lit.var ≡ level_of es → level_in es (get_or c.terms i d).lit.var ≢ level_of es
 current-alone live es c l h i k d li lk ne at-k at-i =
     let one = l.one_current h in
     let f : Term → ℕ = λ t. cond (is_current es t) 1 0 in
@@ -111,7 +114,8 @@ leaves-one live es c back l b h =
     }
 
 -- the room is at most the number of literals that a test counts
-room-counted : (p : ℕ → Option Bool) (test : Term → Bool) (ts : List Term) → ((i : ℕ) (d : Term) → i < length ts → cond (is_false p (get_or ts i d).lit) 0 (get_or ts i d).coef ≤ cond (test (get_or ts i d)) 1 0) → open_weight p ts ≤ count_by test ts
+room-counted : (p : ℕ → Option Bool) (test : Term → Bool) (ts : List Term) → ((i : ℕ) (d : Term) → i < length ts
+    → cond (is_false p (get_or ts i d).lit) 0 (get_or ts i d).coef ≤ cond (test (get_or ts i d)) 1 0) → open_weight p ts ≤ count_by test ts
 room-counted p test [] h = omega arith
 room-counted p test (t ∷ ts) h =
     let a = open-cons p t ts in
@@ -130,7 +134,8 @@ room-one live es c back l b h =
     p : ℕ → Option Bool
     p = value_in (upto_level back es)
 
-    each : (i : ℕ) (d : Term) → i < length c.terms → (o : Bool) → eqb (level_in es (get_or c.terms i d).lit.var) (level_of es) ≡ o → cond (is_false p (get_or c.terms i d).lit) 0 (get_or c.terms i d).coef ≤ cond (is_current es (get_or c.terms i d)) 1 0
+    each : (i : ℕ) (d : Term) → i < length c.terms → (o : Bool) → eqb (level_in es (get_or c.terms i d).lit.var) (level_of es) ≡ o
+        → cond (is_false p (get_or c.terms i d).lit) 0 (get_or c.terms i d).coef ≤ cond (is_current es (get_or c.terms i d)) 1 0
     each i d lt true e =
         let unit = l.clause.unit i d lt in
         rw e (some (is_false p (get_or c.terms i d).lit) (get_or c.terms i d).coef (omega arith))
@@ -147,7 +152,8 @@ term-is : (t : Term) (l : Literal) → t.coef ≡ 1 → t.lit ≡ l → t ≡ re
 term-is t l c e = ap (λ n. record { coef = n; lit = t.lit }) c ∙ ap (λ m. record { coef = 1; lit = m }) e
 
 -- so it forces the literal that is left
-pub asserts : (live : List Live) (es : List Entry) (c : Linear) (back : ℕ) (lit : Literal) → IsLearned live es c → IsLevelBelow es c.terms back → 0 < level_of es → IsUnassignedAt (value_in (upto_level back es)) c.terms lit → Forces (value_in (upto_level back es)) c lit
+pub asserts : (live : List Live) (es : List Entry) (c : Linear) (back : ℕ) (lit : Literal) → IsLearned live es c → IsLevelBelow es c.terms back → 0 < level_of es
+    → IsUnassignedAt (value_in (upto_level back es)) c.terms lit → Forces (value_in (upto_level back es)) c lit
 asserts live es c back lit l b h u =
     let room = room-one live es c back l b h in
     let degree = l.clause.degree in
@@ -160,7 +166,8 @@ asserts live es c back lit l b h u =
     }
 
 -- under a level below the one to jump back to it is closed
-pub quiet-below : (live : List Live) (es : List Entry) (c : Linear) (back n : ℕ) → IsLearned live es c → IsLevelBelow es c.terms back → 0 < level_of es → n < back → IsClosed (value_in (upto_level n es)) c
+pub quiet-below : (live : List Live) (es : List Entry) (c : Linear) (back n : ℕ) → IsLearned live es c → IsLevelBelow es c.terms back → 0 < level_of es → n < back
+    → IsClosed (value_in (upto_level n es)) c
 quiet-below live es c back n l b h lt =
     let d : Term = record { coef = 0; lit = record { var = 0; yes = true } } in
     let r = current-place live es c l h in
@@ -189,22 +196,28 @@ quiet-below live es c back n l b h lt =
     ]
 
 -- a false literal of the current level, or each false one is of a lower level
-current-or-not : (es : List Entry) (ts : List Term) → HasCurrent es ts ⊎ ((i : ℕ) (d : Term) → i < length ts → is_false (value_in es) (get_or ts i d).lit ≡ true → level_in es (get_or ts i d).lit.var ≢ level_of es)
+current-or-not : (es : List Entry) (ts : List Term) → HasCurrent es ts ⊎ ((i : ℕ) (d : Term) → i < length ts → is_false (value_in es) (get_or ts i d).lit ≡ true
+    → level_in es (get_or ts i d).lit.var ≢ level_of es)
 current-or-not es [] = inr (λ i d l. absurd (omega arith))
 current-or-not es (t ∷ ts) = go (is_false (value_in es) t.lit) (eqb (level_in es t.lit.var) (level_of es)) refl refl (current-or-not es ts)
   where
-    later : ((i : ℕ) (d : Term) → i < length ts → is_false (value_in es) (get_or ts i d).lit ≡ true → level_in es (get_or ts i d).lit.var ≢ level_of es) → (is_false (value_in es) t.lit ≡ true → level_in es t.lit.var ≢ level_of es) → (i : ℕ) (d : Term) → i < length (t ∷ ts) → is_false (value_in es) (get_or (t ∷ ts) i d).lit ≡ true → level_in es (get_or (t ∷ ts) i d).lit.var ≢ level_of es
+    later : ((i : ℕ) (d : Term) → i < length ts → is_false (value_in es) (get_or ts i d).lit ≡ true → level_in es (get_or ts i d).lit.var ≢ level_of es)
+        → (is_false (value_in es) t.lit ≡ true → level_in es t.lit.var ≢ level_of es) → (i : ℕ) (d : Term) → i < length (t ∷ ts) → is_false (value_in es) (get_or (t ∷ ts) i d).lit ≡ true
+        → level_in es (get_or (t ∷ ts) i d).lit.var ≢ level_of es
     later h here zero d l f = here f
     later h here (suc i) d l f = h i d (omega arith) f
 
-    go : (a b : Bool) → is_false (value_in es) t.lit ≡ a → eqb (level_in es t.lit.var) (level_of es) ≡ b → HasCurrent es ts ⊎ ((i : ℕ) (d : Term) → i < length ts → is_false (value_in es) (get_or ts i d).lit ≡ true → level_in es (get_or ts i d).lit.var ≢ level_of es) → HasCurrent es (t ∷ ts) ⊎ ((i : ℕ) (d : Term) → i < length (t ∷ ts) → is_false (value_in es) (get_or (t ∷ ts) i d).lit ≡ true → level_in es (get_or (t ∷ ts) i d).lit.var ≢ level_of es)
+    go : (a b : Bool) → is_false (value_in es) t.lit ≡ a → eqb (level_in es t.lit.var) (level_of es) ≡ b → HasCurrent es ts
+        ⊎ ((i : ℕ) (d : Term) → i < length ts → is_false (value_in es) (get_or ts i d).lit ≡ true → level_in es (get_or ts i d).lit.var ≢ level_of es) → HasCurrent es (t ∷ ts)
+        ⊎ ((i : ℕ) (d : Term) → i < length (t ∷ ts) → is_false (value_in es) (get_or (t ∷ ts) i d).lit ≡ true → level_in es (get_or (t ∷ ts) i d).lit.var ≢ level_of es)
     go true true e q ih = inl (record { term = t; there = (0, omega arith, refl); false_there = e; current = grind (arith, nat_tests) })
     go a b e q (inl w) = inl (record { term = w.term; there = (suc (w.there).0, omega (arith, (w.there).1), (w.there).2); false_there = w.false_there; current = w.current })
     go false b e q (inr w) = inr (later w (λ f. absurd (cc)))
     go true false e q (inr w) = inr (later w (λ f. grind (arith, nat_tests)))
 
 -- a conflict above level 0 has a false literal of the current level, since all is closed below
-pub has-current : (held : List Attached) (es : List Entry) (c : ConId) (k : Linear) → ClosedBelow held es → attached_at held c ≡ Some k → InConflict (value_in es) k → 0 < level_of es → HasCurrent es k.terms
+pub has-current : (held : List Attached) (es : List Entry) (c : ConId) (k : Linear) → ClosedBelow held es → attached_at held c ≡ Some k → InConflict (value_in es) k → 0 < level_of es
+    → HasCurrent es k.terms
 has-current held es c k below attached conflict h = elim (current-or-not es k.terms) [
   | inl w ↦ w
   | inr none ↦ absurd (
@@ -220,7 +233,8 @@ has-current held es c k below attached conflict h = elim (current-or-not es k.te
 pub found-one : (p : ℕ → Option Bool) (c : Linear) → LeavesOne p c → HasUnassigned p c.terms
 found-one p c l =
     let i : ℕ = (l.there).0 in
-    record { lit = l.left.lit; at = record { place = i; in_terms = (l.there).1; there = λ d. ap (λ (t : Term). t.lit) (get_or_default c.terms i d l.left (l.there).1 ∙ (l.there).2); unassigned = l.unassigned } }
+    record { lit = l.left.lit; at = record { place = i; in_terms = (l.there).1; there = λ d. ap (λ (t : Term). t.lit) (get_or_default c.terms i d l.left (l.there).1 ∙ (l.there).2); unassigned =
+        l.unassigned } }
 
 -- the variables of a learned clause are assigned, and so in range
 pub learned-below : (live : List Live) (es : List Entry) (c : Linear) (n : ℕ) → IsLearned live es c → All (λ (e : Entry). e.lit.var < n) es → VarsBelow n c.terms

@@ -49,7 +49,8 @@ pub kept-live : (log : LogValue) (live : List Live) (x : Live) (xs : List Live) 
 kept-live log live x xs e = first-live (is_kept log) live x xs e
 
 -- without the first that passes a test, the others that pass it are left, and all that fail it
-pub without-first : (p : Live → Bool) (live : List Live) (x : Live) (xs : List Live) → HasDistinctIds live → filter p live ≡ x ∷ xs → (filter p (without x.id live) ≡ xs) × (filter (fails p) (without x.id live) ≡ filter (fails p) live)
+pub without-first : (p : Live → Bool) (live : List Live) (x : Live) (xs : List Live) → HasDistinctIds live → filter p live ≡ x ∷ xs → (filter p (without x.id live) ≡ xs)
+    × (filter (fails p) (without x.id live) ≡ filter (fails p) live)
 without-first p [] x xs distinct e = absurd (cc)
 without-first p (f ∷ live) x xs distinct e = go (p f) refl e (without-first p live x xs (λ i j d a l. distinct (suc i) (suc j) d (omega arith) (omega arith)))
   where
@@ -72,7 +73,8 @@ without-first p (f ∷ live) x xs distinct e = go (p f) refl e (without-first p 
         let other : eqb f.id.0 x.id.0 ≡ false = ne_eqb f.id.0 x.id.0 (λ q. false≢true (sym apart ∙ ap (λ (n : ℕ). is_live live (record { 0 = n })) q ∙ live-x)) in
         let out : without x.id (f ∷ live) ≡ f ∷ without x.id live = ap (λ b. cond (not b) (f ∷ without x.id live) (without x.id live)) other in
         let passing : filter p (f ∷ without x.id live) ≡ filter p (without x.id live) = ap (λ b. cond b (f ∷ filter p (without x.id live)) (filter p (without x.id live))) t in
-        let failing : filter (fails p) (f ∷ without x.id live) ≡ f ∷ filter (fails p) (without x.id live) = ap (λ b. cond (not b) (f ∷ filter (fails p) (without x.id live)) (filter (fails p) (without x.id live))) t in
+        let failing : filter (fails p) (f ∷ without x.id live) ≡ f ∷ filter (fails p) (without x.id live) =
+            ap (λ b. cond (not b) (f ∷ filter (fails p) (without x.id live)) (filter (fails p) (without x.id live))) t in
         let before : filter (fails p) (f ∷ live) ≡ f ∷ filter (fails p) live = ap (λ b. cond (not b) (f ∷ filter (fails p) live) (filter (fails p) live)) t in
         (ap (filter p) out ∙ passing ∙ ih.0, ap (filter (fails p)) out ∙ failing ∙ ap (λ (ls : List Live). f ∷ ls) ih.1 ∙ sym before)
 
@@ -104,7 +106,8 @@ first-kept log live all ids id h e = go (kept_in log live) refl (sym e ∙ h.ids
     go (x ∷ xs) k q = (let p = parts x xs q in record { clause = x; others = xs; under = p.0; kept = k; ids_are = p.1 })
 
 -- after the first one was dropped
-pub dropped-first : (log : LogValue) (live after : List Live) (id : ConId) (ids : List ConId) → HasDistinctIds live → All (IsKnown log) live → (h : HasFirst log live id ids) → after ≡ without id live → HasDropped log live after × HasKeptIds after ids log
+pub dropped-first : (log : LogValue) (live after : List Live) (id : ConId) (ids : List ConId) → HasDistinctIds live → All (IsKnown log) live → (h : HasFirst log live id ids)
+    → after ≡ without id live → HasDropped log live after × HasKeptIds after ids log
 dropped-first log live after id ids distinct known h e =
     let x : Live = h.clause in
     let is : after ≡ without x.id live = e ∙ ap (λ (i : ConId). without i live) (sym h.under) in
@@ -138,7 +141,8 @@ renamed-kept : (log : LogValue) (ids : List (Option ConId)) (live : List Live) �
 renamed-kept log ids [] = refl
 renamed-kept log ids (e ∷ live) = go (is_kept log e) (renamed-kept log ids live)
   where
-    go : (b : Bool) → kept_in log (map (renamed ids) live) ≡ map (renamed ids) (kept_in log live) → cond b (renamed ids e ∷ kept_in log (map (renamed ids) live)) (kept_in log (map (renamed ids) live)) ≡ map (renamed ids) (cond b (e ∷ kept_in log live) (kept_in log live))
+    go : (b : Bool) → kept_in log (map (renamed ids) live) ≡ map (renamed ids) (kept_in log live) → cond b (renamed ids e ∷ kept_in log (map (renamed ids) live))
+        (kept_in log (map (renamed ids) live)) ≡ map (renamed ids) (cond b (e ∷ kept_in log live) (kept_in log live))
     go true ih = ap (λ (ls : List Live). renamed ids e ∷ ls) ih
     go false ih = ih
 
@@ -146,20 +150,26 @@ moved-ids : (ids : List (Option ConId)) (live : List Live) → map id_of (map (r
 moved-ids ids [] = refl
 moved-ids ids (e ∷ live) = ap (λ (is : List ConId). moved ids e.id ∷ is) (moved-ids ids live)
 
-pub kept-renamed : (log : LogValue) (old new : List Live) (ids : List (Option ConId)) (kept after : List ConId) → IsRenaming old new ids → HasKeptIds old kept log → after ≡ map (moved ids) kept → HasKeptIds new after log
+pub kept-renamed : (log : LogValue) (old new : List Live) (ids : List (Option ConId)) (kept after : List ConId) → IsRenaming old new ids → HasKeptIds old kept log → after ≡ map (moved ids) kept
+    → HasKeptIds new after log
 kept-renamed log old new ids kept after r h e = record {
-  ids_are = e ∙ ap (map (moved ids)) h.ids_are ∙ sym (moved-ids ids (kept_in log old)) ∙ ap (map id_of) (sym (renamed-kept log ids old)) ∙ ap (λ (ls : List Live). map id_of (kept_in log ls)) (sym r.ids_alone);
+  ids_are =
+      e ∙ ap (map (moved ids)) h.ids_are ∙ sym (moved-ids ids (kept_in log old)) ∙ ap (map id_of) (sym (renamed-kept log ids old))
+      ∙ ap (λ (ls : List Live). map id_of (kept_in log ls)) (sym r.ids_alone);
   known = subst (λ (ls : List Live). All (IsKnown log) ls) (sym r.ids_alone) (All-map (IsKnown log) (renamed ids) old h.known);
 }
 
 -- store, propagator and trail stay together under new ids
-pub loaded-renamed : (old new : List Live) (p q : PropagatorView) (t : TrailView) (ids : List (Option ConId)) → IsLoaded old p t → IsRenaming old new ids → IsOneToOne ids → IsMoved (new_id ids) p.attached q.attached → q.variables ≡ p.variables → IsCounted q t → IsLoaded new q t
+pub loaded-renamed : (old new : List Live) (p q : PropagatorView) (t : TrailView) (ids : List (Option ConId)) → IsLoaded old p t → IsRenaming old new ids → IsOneToOne ids
+    → IsMoved (new_id ids) p.attached q.attached → q.variables ≡ p.variables → IsCounted q t → IsLoaded new q t
 loaded-renamed old new p q t ids l r one change variables counted =
     let A : List Live → Type 0 = λ ls. All (IsAttached q.attached) ls in
     let R : List Live → Type 0 = λ ls. All (IsInRange t.variables) ls in
     record {
       ready = ready-remap p q old new ids t l.ready r one change variables counted;
-      attached = subst A (sym r.ids_alone) (All-map (IsAttached q.attached) (renamed ids) old (λ k d h. at (get_or old k d) (new_id ids (get_or old k d).id) refl (r.exactly_live (get_or old k d).id ∙ place-live old k d h) (l.attached k d h)));
+      attached =
+          subst A (sym r.ids_alone) (All-map (IsAttached q.attached) (renamed ids) old (λ k d h. at (get_or old k d) (new_id ids (get_or old k d).id) refl
+          (r.exactly_live (get_or old k d).id ∙ place-live old k d h) (l.attached k d h)));
       in_range = subst R (sym r.ids_alone) (All-map (IsInRange t.variables) (renamed ids) old l.in_range);
     }
   where
@@ -178,7 +188,9 @@ contents log [] = (refl, refl)
 contents log (e ∷ live) = go (is_kept log e) (contents log live)
   where
     Same : Bool → Type 0
-    Same b = (map content (cond b (e ∷ kept_in log live) (kept_in log live)) ≡ cond b (content e ∷ filter (has_derived log) (map content live)) (filter (has_derived log) (map content live))) × (map content (cond (not b) (e ∷ given_in log live) (given_in log live)) ≡ cond (not b) (content e ∷ filter (λ c. not (has_derived log c)) (map content live)) (filter (λ c. not (has_derived log c)) (map content live)))
+    Same b = (map content (cond b (e ∷ kept_in log live) (kept_in log live)) ≡ cond b (content e ∷ filter (has_derived log) (map content live)) (filter (has_derived log) (map content live)))
+        × (map content (cond (not b) (e ∷ given_in log live) (given_in log live)) ≡ cond (not b) (content e ∷ filter (λ c. not (has_derived log c)) (map content live))
+        (filter (λ c. not (has_derived log c)) (map content live)))
 
     go : (b : Bool) → (kept_of log live ≡ filter (has_derived log) (map content live)) × (given_of log live ≡ filter (λ c. not (has_derived log c)) (map content live)) → Same b
     go true ih = (ap (λ (cs : List Content). content e ∷ cs) ih.0, ih.1)

@@ -54,7 +54,8 @@ honest-steps f g base ls h = record {
 }
 
 -- the budget is used up
-pub found-budget : (start live : List Live) (ids ids_after : List ConId) (old new : LogValue) (order : List Literal) (variables budget n : ℕ) (es : List Entry) → HasLearned start live ids ids_after old new n → n ≡ budget → IsCounted variables es n → IsFound start old new order variables budget Budget
+pub found-budget : (start live : List Live) (ids ids_after : List ConId) (old new : LogValue) (order : List Literal) (variables budget n : ℕ) (es : List Entry)
+    → HasLearned start live ids ids_after old new n → n ≡ budget → IsCounted variables es n → IsFound start old new order variables budget Budget
 found-budget start live ids ids_after old new order variables budget n es h e counted =
     let is = lines-are old new h.added.lines h.added.written in
     let len : length (new_lines old new) ≡ n = ap length is ∙ h.counted in
@@ -72,12 +73,14 @@ found-budget start live ids ids_after old new order variables budget n es h e co
     }
 
 -- there is no model
-pub found-nothing : (start live after : List Live) (ids ids_after : List ConId) (old mid new : LogValue) (id : ConId) (order : List Literal) (variables budget n : ℕ) (es : List Entry) → HasLearned start live ids ids_after old mid n → Refutes live after mid new id → n < budget → IsCounted variables es n → IsFound start old new order variables budget Nothing
+pub found-nothing : (start live after : List Live) (ids ids_after : List ConId) (old mid new : LogValue) (id : ConId) (order : List Literal) (variables budget n : ℕ) (es : List Entry)
+    → HasLearned start live ids ids_after old mid n → Refutes live after mid new id → n < budget → IsCounted variables es n → IsFound start old new order variables budget Nothing
 found-nothing start live after ids ids_after old mid new id order variables budget n es h r below counted =
     let ops : List Op = (r.derives).ops in
     let last : Line = derived ops in
     let lines : List Line = h.added.lines ++ last ∷ [] in
-    let written : new ≡ record old { lines = old.lines ++ lines } = (r.derives).one_more ∙ ap (λ (v : LogValue). record v { lines = v.lines ++ last ∷ [] }) h.added.written ∙ ap (λ (ls : List Line). record old { lines = ls }) (append_assoc old.lines h.added.lines (last ∷ [])) in
+    let written : new ≡ record old { lines = old.lines ++ lines } = (r.derives).one_more ∙ ap (λ (v : LogValue). record v { lines = v.lines ++ last ∷ [] }) h.added.written
+        ∙ ap (λ (ls : List Line). record old { lines = ls }) (append_assoc old.lines h.added.lines (last ∷ [])) in
     let is = lines-are old new lines written in
     let len : length (new_lines old new) ≡ n + 1 = ap length is ∙ length_push h.added.lines last ∙ ap (λ m. m + 1) h.counted in
     let top = word-lt variables (marks es) in
@@ -105,7 +108,8 @@ found-nothing start live after ids ids_after old mid new id order variables budg
     }
 
 -- the values of a trail have its literals
-takes-values : (es : List Entry) (variables : ℕ) (values : List Bool) → IsDistinct es → All (λ (e : Entry). e.lit.var < variables) es → HasValues variables es values → TakesBelow (whole (bits_of values)) es (length es)
+takes-values : (es : List Entry) (variables : ℕ) (values : List Bool) → IsDistinct es → All (λ (e : Entry). e.lit.var < variables) es → HasValues variables es values
+    → TakesBelow (whole (bits_of values)) es (length es)
 takes-values es variables values distinct below h j d l =
     let at = first-at es (get_or es j d).lit.var j d l refl (distinct j d l) in
     ap (λ (b : Bool). Some b) (h.each (get_or es j d).lit.var (get_or es j d).lit.yes (below j d l) at.value)
@@ -123,15 +127,21 @@ abbrev pub AreHeld : List Live → List Attached → Type 0
 AreHeld live held = (c : ConId) (k : Linear) → attached_at held c ≡ Some k → Contains (constraints_in live) k
 
 -- each variable has a value, and nothing is in conflict
-pub found-model : (start live : List Live) (ids ids_after : List ConId) (held : List Attached) (old new : LogValue) (order : List Literal) (variables budget n : ℕ) (es : List Entry) (values : Vec Bool) → HasLearned start live ids ids_after old new n → n < budget → IsCounted variables es n → length order ≡ variables → Covers order variables → All (IsAttached held) live → All (IsInRange variables) live → AreHeld live held → IsSearch held order es → IsFull order es → AllClosed held es → IsDistinct es → All (λ (e : Entry). e.lit.var < variables) es → HasValues variables es values.items → IsFound start old new order variables budget (Model values)
+pub found-model : (start live : List Live) (ids ids_after : List ConId) (held : List Attached) (old new : LogValue) (order : List Literal) (variables budget n : ℕ) (es : List Entry)
+    (values : Vec Bool) → HasLearned start live ids ids_after old new n → n < budget → IsCounted variables es n → length order ≡ variables → Covers order variables → All (IsAttached held) live
+    → All (IsInRange variables) live → AreHeld live held → IsSearch held order es → IsFull order es → AllClosed held es → IsDistinct es → All (λ (e : Entry). e.lit.var < variables) es
+    → HasValues variables es values.items → IsFound start old new order variables budget (Model values)
 found-model start live ids ids_after held old new order variables budget n es values h below counted every covers attached in_range among decided full closed distinct inside has =
     let v : ℕ → Bool = bits_of values.items in
     let is = lines-are old new h.added.lines h.added.written in
     let len : length (new_lines old new) ≡ n = ap length is ∙ h.counted in
     let top = word-lt variables (marks es) in
     let takes = takes-values es variables values.items distinct inside has in
-    let shown : ShowsFirst (constraints_in live) order v = shows-first held (constraints_in live) order es v decided full takes (λ b closed-b c k at. All-contains (IsClosed b) (constraints_in live) k closed-b (among c k at)) in
-    let model : IsModel (constraints_in live) v = All-map (Holds v) (λ (e : Live). e.constraint) live (λ i d l. closed-holds es v (get_or live i d).constraint takes (λ j t lt. full-below order es variables covers full (get_or (get_or live i d).constraint.terms j t).lit.var (in_range i d l j t lt)) (closed (get_or live i d).id (get_or live i d).constraint (attached i d l))) in
+    let shown : ShowsFirst (constraints_in live) order v = shows-first held (constraints_in live) order es v decided full takes
+        (λ b closed-b c k at. All-contains (IsClosed b) (constraints_in live) k closed-b (among c k at)) in
+    let model : IsModel (constraints_in live) v = All-map (Holds v) (λ (e : Live). e.constraint) live
+        (λ i d l. closed-holds es v (get_or live i d).constraint takes (λ j t lt. full-below order es variables covers full (get_or (get_or live i d).constraint.terms j t).lit.var
+        (in_range i d l j t lt)) (closed (get_or live i d).id (get_or live i d).constraint (attached i d l))) in
     let split : constraints_in live ≡ constraints_in start ++ constraints_in h.added.more = ap constraints_in h.added.split ∙ constraints-append start h.added.more in
     let M : List Linear → Type 0 = λ cs. IsModel cs v in
     record {
@@ -149,8 +159,10 @@ found-model start live ids ids_after held old new order variables budget n es va
           let new-ones = h.honest f g frame fits legal under in
           let L : List Line → Type 0 = λ ls. given_from f g ls ≡ Some s.after in
           let A : List Line → Type 0 = λ ls. AreHonestSteps f g (constraints_in start) ls in
-          let whole-derived : derived_by f new.lines ≡ derived_by f old.lines ++ constraints_in h.added.more = ap (λ (w : LogValue). derived_by f w.lines) h.added.written ∙ derived-append f (base_of f) g old.lines h.added.lines legal ∙ ap (λ (cs : List Linear). derived_by f old.lines ++ cs) s.gives in
-          let all : AreAmong (constraints_in live) (constraints_in start ++ derived_by f new.lines) = live-among (constraints_in start) (derived_by f old.lines) (constraints_in h.added.more) (constraints_in live) (derived_by f new.lines) split whole-derived in
+          let whole-derived : derived_by f new.lines ≡ derived_by f old.lines ++ constraints_in h.added.more = ap (λ (w : LogValue). derived_by f w.lines) h.added.written
+              ∙ derived-append f (base_of f) g old.lines h.added.lines legal ∙ ap (λ (cs : List Linear). derived_by f old.lines ++ cs) s.gives in
+          let all : AreAmong (constraints_in live) (constraints_in start ++ derived_by f new.lines) =
+              live-among (constraints_in start) (derived_by f old.lines) (constraints_in h.added.more) (constraints_in live) (derived_by f new.lines) split whole-derived in
           record {
             after = s.after;
             legal = subst L (sym is) s.legal;

@@ -79,7 +79,8 @@ derived-next first (l ∷ ls) ops id e =
 abbrev pub with_line : LogValue → List Op → LogValue
 with_line log ops = record log { lines = log.lines ++ derived ops ∷ [] }
 
-pub kept-more : (log : LogValue) (more : List Live) (x : Live) (ops : List Op) → x.proof_id ≡ next_id log → All (IsKnown log) more → All (λ e. is_kept log e ≡ true) more → All (λ e. is_kept (with_line log ops) e ≡ true) (more ++ x ∷ [])
+pub kept-more : (log : LogValue) (more : List Live) (x : Live) (ops : List Op) → x.proof_id ≡ next_id log → All (IsKnown log) more → All (λ e. is_kept log e ≡ true) more
+    → All (λ e. is_kept (with_line log ops) e ≡ true) (more ++ x ∷ [])
 kept-more log more x ops next known all =
     let K : Live → Type 0 = λ e. is_kept (with_line log ops) e ≡ true in
     All-push K more x (λ k d l. derived-more log.first log.lines (derived ops ∷ []) (get_or more k d).proof_id (known k d l) ∙ all k d l) (derived-next log.first log.lines ops x.proof_id next)
@@ -118,7 +119,8 @@ given-later-in log new more live e known =
     filter-same (λ x. not (is_kept new x)) (λ x. not (is_kept log x)) live (λ k d l. ap not (same k d l))
 
 -- one constraint more
-pub given-ids-more : (log : LogValue) (live after : List Live) (x : Live) → after ≡ live ++ x ∷ [] → IsGivenId log x.proof_id → All (HasGivenId log) (map content live) → All (HasGivenId log) (map content after)
+pub given-ids-more : (log : LogValue) (live after : List Live) (x : Live) → after ≡ live ++ x ∷ [] → IsGivenId log x.proof_id → All (HasGivenId log) (map content live)
+    → All (HasGivenId log) (map content after)
 given-ids-more log live after x e g all =
     let P : List Content → Type 0 = λ xs. All (HasGivenId log) xs in
     subst P (sym (ap (map content) e ∙ map-append content live (x ∷ []))) (All-push (HasGivenId log) (map content live) (content x) all g)

@@ -37,7 +37,8 @@ under-back cs ds zero c l h = h
 under-back cs ds (suc i) c l h = slice-back cs ds i c (omega arith) h
 
 -- what was given an id below a log's next one stood under it before more lines came
-pub stands-back : (f : Frame) (log : LogValue) (g h : Given) (more : List Line) (given : List Content) → IsFrame f → FitsFrom f log.first → given_by f log.lines ≡ Some g → given_from f g more ≡ Some h → All (HasGivenId log) given → All (StandsIn (context_of h)) given → All (StandsIn (context_of g)) given
+pub stands-back : (f : Frame) (log : LogValue) (g h : Given) (more : List Line) (given : List Content) → IsFrame f → FitsFrom f log.first → given_by f log.lines ≡ Some g
+    → given_from f g more ≡ Some h → All (HasGivenId log) given → All (StandsIn (context_of h)) given → All (StandsIn (context_of g)) given
 stands-back f log g h more given frame fits legal later ids all k d l =
     let c : Content = get_or given k d in
     let s = all k d l in
@@ -65,7 +66,9 @@ keeps-given log given kept c h =
     record {
       count = h.count;
       derived_ids = h.derived_ids;
-      follow = λ v m. h.follow v (models-front v (constraints_of given) (constraints_of (c ∷ [])) (subst (λ (cs : List Linear). IsModel cs v) (map-append (λ (x : Content). x.constraint) given (c ∷ [])) m));
+      follow =
+          λ v m. h.follow v (models-front v (constraints_of given) (constraints_of (c ∷ [])) (subst (λ (cs : List Linear). IsModel cs v) (map-append (λ (x : Content). x.constraint) given (c ∷ []))
+          m));
       last = λ f g frame fits legal stand. h.last f g frame fits legal (λ k d l. subst (StandsIn (context_of g)) (get_or_append_left given (c ∷ []) d k l) (stand k d (omega arith)));
     }
 
@@ -74,7 +77,8 @@ derived-still : (first : ℕ) (ls more : List Line) (id : ℕ) → is_derived_id
 derived-still first [] more id h = absurd (cc)
 derived-still first (l ∷ ls) more id h = go (is_derived l && eqb id first) h (derived-still (first + ids_of l) ls more id)
   where
-    go : (b : Bool) → cond b true (is_derived_id (first + ids_of l) ls id) ≡ true → (is_derived_id (first + ids_of l) ls id ≡ true → is_derived_id (first + ids_of l) (ls ++ more) id ≡ true) → cond b true (is_derived_id (first + ids_of l) (ls ++ more) id) ≡ true
+    go : (b : Bool) → cond b true (is_derived_id (first + ids_of l) ls id) ≡ true → (is_derived_id (first + ids_of l) ls id ≡ true → is_derived_id (first + ids_of l) (ls ++ more) id ≡ true)
+        → cond b true (is_derived_id (first + ids_of l) (ls ++ more) id) ≡ true
     go true q ih = refl
     go false q ih = ih q
 
@@ -82,7 +86,8 @@ derived-ids-still : (log : LogValue) (more : List Line) (kept : List Content) �
 derived-ids-still log more kept all k d l = derived-still log.first log.lines more (get_or kept k d).proof_id (all k d l)
 
 -- after a cover
-pub keeps-cover : (log : LogValue) (given kept : List Content) (v : List ℕ) → All (HasGivenId log) given → AreKept given kept log → AreKept given kept (record log { lines = log.lines ++ cover v ∷ [] })
+pub keeps-cover : (log : LogValue) (given kept : List Content) (v : List ℕ) → All (HasGivenId log) given → AreKept given kept log
+    → AreKept given kept (record log { lines = log.lines ++ cover v ∷ [] })
 keeps-cover log given kept v ids h =
     let one : Line = cover v in
     let sum : derived_count (log.lines ++ one ∷ []) ≡ derived_count log.lines + derived_count (one ∷ []) = sum_by-append (λ (l : Line). cond (is_derived l) 1 0) log.lines (one ∷ []) in
@@ -111,7 +116,8 @@ all-count (l ∷ ls) h =
     omega arith
 
 -- the kept clauses before any is dropped: those of before, and the new ones
-kept-all : (start all : List Live) (ids ids_after : List ConId) (old new : LogValue) → All (IsKnown old) start → (a : HasAdded start all ids ids_after old new) → kept_of new all ≡ kept_of old start ++ map content a.more
+kept-all : (start all : List Live) (ids ids_after : List ConId) (old new : LogValue) → All (IsKnown old) start → (a : HasAdded start all ids ids_after old new)
+    → kept_of new all ≡ kept_of old start ++ map content a.more
 kept-all start all ids ids_after old new known a =
     let split : kept_in new all ≡ kept_in new start ++ a.more = ap (kept_in new) a.split ∙ kept-behind new start a.more a.derived_ids in
     let same : kept_in new start ≡ kept_in old start = kept-later old new a.lines start a.written known in
@@ -125,10 +131,12 @@ given-all start all ids ids_after old new known a =
 pub given-on : (start live : List Live) (old new : LogValue) → All (IsKnown old) start → GoesOnKept start live old new → given_of new live ≡ given_of old start
 given-on start live old new known k = k.dropped.same_given ∙ given-all start k.all k.ids k.ids_after old new known k.added
 
-count-on : (start live : List Live) (old new : LogValue) → All (IsKnown old) start → AreKept (given_of old start) (kept_of old start) old → GoesOnKept start live old new → length (kept_of new live) ≡ min kept_limit (derived_count new.lines)
+count-on : (start live : List Live) (old new : LogValue) → All (IsKnown old) start → AreKept (given_of old start) (kept_of old start) old → GoesOnKept start live old new
+    → length (kept_of new live) ≡ min kept_limit (derived_count new.lines)
 count-on start live old new known h k =
     let a = k.added in
-    let whole : length (kept_of new k.all) ≡ length (kept_of old start) + length (map content a.more) = ap length (kept-all start k.all k.ids k.ids_after old new known a) ∙ length-append (kept_of old start) (map content a.more) in
+    let whole : length (kept_of new k.all) ≡ length (kept_of old start) + length (map content a.more) = ap length (kept-all start k.all k.ids k.ids_after old new known a)
+        ∙ length-append (kept_of old start) (map content a.more) in
     let mapped : length (map content a.more) ≡ length a.more = length-map a.more content in
     let lines : derived_count new.lines ≡ derived_count (old.lines ++ a.lines) = ap (λ (v : LogValue). derived_count v.lines) a.written in
     let sum : derived_count (old.lines ++ a.lines) ≡ derived_count old.lines + derived_count a.lines = sum_by-append (λ (l : Line). cond {A = ℕ} (is_derived l) 1 0) old.lines a.lines in
@@ -138,26 +146,34 @@ count-on start live old new known h k =
     let cut = k.count in
     omega arith
 
-follow-on : (start live : List Live) (old new : LogValue) → All (IsKnown old) start → AreKept (given_of old start) (kept_of old start) old → GoesOnKept start live old new → (v : ℕ → Bool) → IsModel (constraints_of (given_of new live)) v → IsModel (constraints_of (kept_of new live)) v
+follow-on : (start live : List Live) (old new : LogValue) → All (IsKnown old) start → AreKept (given_of old start) (kept_of old start) old → GoesOnKept start live old new → (v : ℕ → Bool)
+    → IsModel (constraints_of (given_of new live)) v → IsModel (constraints_of (kept_of new live)) v
 follow-on start live old new known h k v m =
     let M : List Content → Type 0 = λ cs. IsModel (constraints_of cs) v in
     let given : IsModel (constraints_of (given_of old start)) v = subst M (given-on start live old new known k) m in
     let all = k.added.follow v (model-all v old start given (h.follow v given)) in
     let both : IsModel (constraints_of (k.dropped.dropped ++ kept_of new live)) v = subst M k.dropped.oldest (model-kept v new k.all all) in
-    models-back v (constraints_of k.dropped.dropped) (constraints_of (kept_of new live)) (subst (λ (cs : List Linear). IsModel cs v) (map-append (λ (x : Content). x.constraint) k.dropped.dropped (kept_of new live)) both)
+    models-back v (constraints_of k.dropped.dropped) (constraints_of (kept_of new live)) (subst (λ (cs : List Linear). IsModel cs v)
+        (map-append (λ (x : Content). x.constraint) k.dropped.dropped (kept_of new live)) both)
 
 -- in a frame, what is kept before any is dropped
-last-all : (f : Frame) (start all : List Live) (ids ids_after : List ConId) (old new : LogValue) (g h : Given) → All (IsKnown old) start → (a : HasAdded start all ids ids_after old new) → given_by f old.lines ≡ Some g → given_from f g a.lines ≡ Some h → AreLastDerived f g old.lines (kept_of old start) → AreGiven f g all a.more a.lines → AreLastDerived f h new.lines (kept_of new all)
+last-all : (f : Frame) (start all : List Live) (ids ids_after : List ConId) (old new : LogValue) (g h : Given) → All (IsKnown old) start → (a : HasAdded start all ids ids_after old new)
+    → given_by f old.lines ≡ Some g → given_from f g a.lines ≡ Some h → AreLastDerived f g old.lines (kept_of old start) → AreGiven f g all a.more a.lines
+    → AreLastDerived f h new.lines (kept_of new all)
 last-all f start all ids ids_after old new g h known a legal later kp w =
     let ks : List Content = kept_of old start in
     let ms : List Content = map content a.more in
     let same : w.after ≡ h = some-same w.after h (sym w.legal ∙ later) in
     let S : Given → Type 0 = λ x. All (λ (e : Live). StandsUnder (context_of x) e.proof_id e.constraint) a.more in
-    let stands : All (StandsIn (context_of h)) (ks ++ ms) = All-append (StandsIn (context_of h)) ks ms (stands-on f g h a.lines ks later kp.stand) (All-map (StandsIn (context_of h)) content a.more (subst S same w.stand)) in
+    let stands : All (StandsIn (context_of h)) (ks ++ ms) = All-append (StandsIn (context_of h)) ks ms (stands-on f g h a.lines ks later kp.stand)
+        (All-map (StandsIn (context_of h)) content a.more (subst S same w.stand)) in
     let new-ones : derived_from f g a.lines ≡ constraints_of ms = w.gives ∙ sym (given-are a.more) in
-    let whole : derived_by f new.lines ≡ derived_by f old.lines ++ derived_from f g a.lines = ap (λ (v : LogValue). derived_by f v.lines) a.written ∙ derived-append f (base_of f) g old.lines a.lines legal in
-    let parts : derived_by f old.lines ++ derived_from f g a.lines ≡ (kp.earlier ++ constraints_of ks) ++ constraints_of ms = ap (λ (cs : List Linear). cs ++ derived_from f g a.lines) kp.last ∙ ap (λ (cs : List Linear). (kp.earlier ++ constraints_of ks) ++ cs) new-ones in
-    let joined : (kp.earlier ++ constraints_of ks) ++ constraints_of ms ≡ kp.earlier ++ constraints_of (ks ++ ms) = append_assoc kp.earlier (constraints_of ks) (constraints_of ms) ∙ ap (λ (cs : List Linear). kp.earlier ++ cs) (sym (map-append (λ (x : Content). x.constraint) ks ms)) in
+    let whole : derived_by f new.lines ≡ derived_by f old.lines ++ derived_from f g a.lines = ap (λ (v : LogValue). derived_by f v.lines) a.written
+        ∙ derived-append f (base_of f) g old.lines a.lines legal in
+    let parts : derived_by f old.lines ++ derived_from f g a.lines ≡ (kp.earlier ++ constraints_of ks) ++ constraints_of ms = ap (λ (cs : List Linear). cs ++ derived_from f g a.lines) kp.last
+        ∙ ap (λ (cs : List Linear). (kp.earlier ++ constraints_of ks) ++ cs) new-ones in
+    let joined : (kp.earlier ++ constraints_of ks) ++ constraints_of ms ≡ kp.earlier ++ constraints_of (ks ++ ms) = append_assoc kp.earlier (constraints_of ks) (constraints_of ms)
+        ∙ ap (λ (cs : List Linear). kp.earlier ++ cs) (sym (map-append (λ (x : Content). x.constraint) ks ms)) in
     let L : List Content → Type 0 = λ cs. AreLastDerived f h new.lines cs in
     subst L (sym (kept-all start all ids ids_after old new known a)) (record { earlier = kp.earlier; last = whole ∙ parts ∙ joined; stand = stands })
 
@@ -171,11 +187,14 @@ last-dropped f h lines dropped kept a =
     let len = length-append dropped kept in
     record {
       earlier = a.earlier ++ constraints_of dropped;
-      last = a.last ∙ ap (λ (cs : List Linear). a.earlier ++ cs) (map-append (λ (x : Content). x.constraint) dropped kept) ∙ sym (append_assoc a.earlier (constraints_of dropped) (constraints_of kept));
+      last =
+          a.last ∙ ap (λ (cs : List Linear). a.earlier ++ cs) (map-append (λ (x : Content). x.constraint) dropped kept) ∙ sym (append_assoc a.earlier (constraints_of dropped) (constraints_of kept));
       stand = all-back (StandsIn (context_of h)) dropped kept a.stand;
     }
 
-last-on : (start live : List Live) (old new : LogValue) → All (IsKnown old) start → All (HasGivenId old) (given_of old start) → AreKept (given_of old start) (kept_of old start) old → GoesOnKept start live old new → (f : Frame) (h : Given) → IsFrame f → FitsFrom f new.first → given_by f new.lines ≡ Some h → All (StandsIn (context_of h)) (given_of new live) → AreLastDerived f h new.lines (kept_of new live)
+last-on : (start live : List Live) (old new : LogValue) → All (IsKnown old) start → All (HasGivenId old) (given_of old start) → AreKept (given_of old start) (kept_of old start) old
+    → GoesOnKept start live old new → (f : Frame) (h : Given) → IsFrame f → FitsFrom f new.first → given_by f new.lines ≡ Some h → All (StandsIn (context_of h)) (given_of new live)
+    → AreLastDerived f h new.lines (kept_of new live)
 last-on start live old new known ids keeps k f h frame fits legal stand =
     let a = k.added in
     let whole : given_by f (old.lines ++ a.lines) ≡ Some h = ap (λ (v : LogValue). given_by f v.lines) (sym a.written) ∙ legal in
@@ -189,7 +208,8 @@ last-on start live old new known ids keeps k f h frame fits legal stand =
     last-dropped f h new.lines k.dropped.dropped (kept_of new live) (subst (λ (cs : List Content). AreLastDerived f h new.lines cs) k.dropped.oldest all)
 
 -- after a search
-pub keeps-on : (start live : List Live) (old new : LogValue) → All (IsKnown old) start → All (HasGivenId old) (given_of old start) → AreKept (given_of old start) (kept_of old start) old → GoesOnKept start live old new → AreKept (given_of new live) (kept_of new live) new
+pub keeps-on : (start live : List Live) (old new : LogValue) → All (IsKnown old) start → All (HasGivenId old) (given_of old start) → AreKept (given_of old start) (kept_of old start) old
+    → GoesOnKept start live old new → AreKept (given_of new live) (kept_of new live) new
 keeps-on start live old new known ids keeps k = record {
   count = count-on start live old new known keeps k;
   derived_ids = All-map (HasDerivedId new) content (kept_in new live) (filter_passes (is_kept new) live);

@@ -17,7 +17,8 @@ use Rattle.ordered_solver.proofs.Loading.{itself}
 use Rattle.ordered_solver.proofs.KeptOn.{all-back}
 
 -- all of them were detached
-pub leaving-all : (live : List Live) (p q : PropagatorView) (t : TrailView) (ids : List ConId) → IsLoaded live p t → Drops ids p.attached q.attached → q.variables ≡ p.variables → IsCounted q t → AreLeaving live q t ids
+pub leaving-all : (live : List Live) (p q : PropagatorView) (t : TrailView) (ids : List ConId) → IsLoaded live p t → Drops ids p.attached q.attached → q.variables ≡ p.variables → IsCounted q t
+    → AreLeaving live q t ids
 leaving-all live p q t ids l drops variables counted = record {
   ready = ready-drop p q live t ids l.ready drops variables counted;
   gone = drops.gone;
@@ -59,7 +60,8 @@ take-parts (suc n) (x ∷ xs) ys =
     ap (λ (us : List ConId). x ∷ us) (take-parts n xs ys ∙ ap (λ (m : ℕ). take n xs ++ take m ys) e)
 
 -- the first ids of a list that stands in two parts
-pub drops-parts : (front back all : List ConId) (many first : ℕ) (old mid new : List Attached) → front ++ back ≡ all → first ≡ min many (length front) → Drops (take first front) old mid → Drops (take (many - first) back) mid new → Drops (take many all) old new
+pub drops-parts : (front back all : List ConId) (many first : ℕ) (old mid new : List Attached) → front ++ back ≡ all → first ≡ min many (length front) → Drops (take first front) old mid
+    → Drops (take (many - first) back) mid new → Drops (take many all) old new
 drops-parts front back all many first old mid new is e p q =
     let F : List ConId → Type 0 = λ us. Drops us old mid in
     let B : ℕ → Type 0 = λ n. Drops (take n back) mid new in
@@ -102,7 +104,8 @@ leaving-none live p t l = record {
     is x (inr a) = a
 
 -- the first of a list that leaves
-pub leaving-first : (live after : List Live) (p : PropagatorView) (t : TrailView) (all : List ConId) (id : ConId) (ids : List ConId) (n : ℕ) → all ≡ id ∷ ids → after ≡ without id live → AreLeaving live p t (take (n + 1) all) → AreLeaving after p t (take n ids)
+pub leaving-first : (live after : List Live) (p : PropagatorView) (t : TrailView) (all : List ConId) (id : ConId) (ids : List ConId) (n : ℕ) → all ≡ id ∷ ids → after ≡ without id live
+    → AreLeaving live p t (take (n + 1) all) → AreLeaving after p t (take n ids)
 leaving-first live after p t all id ids n is e l =
     let A : List ConId → Type 0 = λ us. AreLeaving live p t us in
     let first : take (n + 1) all ≡ id ∷ take n ids = ap (λ (m : ℕ). take m all) (add-one n) ∙ ap (λ (us : List ConId). take (suc n) us) is in

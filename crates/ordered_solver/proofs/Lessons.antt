@@ -45,7 +45,8 @@ pub attached-wider : (live : List Live) (held bs : List Attached) (id : ConId) (
 attached-wider live held bs id o on fresh change c k h = change.others c (λ q. false≢true (sym fresh ∙ ap (is_live live) (sym q) ∙ on c k h)) ∙ h
 
 -- the trail after a lesson
-pub ordered-learns : (live after : List Live) (held bs : List Attached) (order : List Literal) (es now : List Entry) (log log_after : LogValue) (id : ConId) → AreLive live held → 0 < level_of es → IsOrdered held order es → Learns live after held bs es now log log_after id → IsOrdered bs order now
+pub ordered-learns : (live after : List Live) (held bs : List Attached) (order : List Literal) (es now : List Entry) (log log_after : LogValue) (id : ConId) → AreLive live held → 0 < level_of es
+    → IsOrdered held order es → Learns live after held bs es now log log_after id → IsOrdered bs order now
 ordered-learns live after held bs order es now log log_after id on h o l =
     let c : Linear = l.clause.constraint in
     let below = back-below es c.terms l.back l.level_below h in
@@ -76,7 +77,8 @@ abbrev pub IsDerived : Line → Type 0
 IsDerived l = is_derived l ≡ true
 
 -- one honest line more
-honest-line : (f : Frame) (g h : Given) (base : List Linear) (ls : List Line) (ops : List Op) (c : Linear) → AreHonestLines f g base ls → given_from f g ls ≡ Some h → line_gives (context_of h) ops ≡ Ok c → IsClause c → IsUnabsorbed (base ++ derived_from f g ls) c → AreHonestLines f g base (ls ++ derived ops ∷ [])
+honest-line : (f : Frame) (g h : Given) (base : List Linear) (ls : List Line) (ops : List Op) (c : Linear) → AreHonestLines f g base ls → given_from f g ls ≡ Some h
+    → line_gives (context_of h) ops ≡ Ok c → IsClause c → IsUnabsorbed (base ++ derived_from f g ls) c → AreHonestLines f g base (ls ++ derived ops ∷ [])
 honest-line f g h base ls ops c honest e gives is new = record {
   derived_each = All-append IsDerived ls (derived ops ∷ []) honest.derived_each (All-cons IsDerived (derived ops) [] refl (All-nil IsDerived));
   after = with_derived h c;
@@ -85,7 +87,8 @@ honest-line f g h base ls ops c honest e gives is new = record {
 }
 
 -- each live constraint stands under its id, one more of them too
-under-more : (f : Frame) (h : Given) (live : List Live) (x : Live) (ops : List Op) → is_live live x.id ≡ false → x.proof_id < 2 ^ 63 → x.proof_id ≡ length h.constraints + 1 → line_gives (context_of h) ops ≡ Ok x.constraint → HasUnder (context_of h) live → HasUnder (context_of (with_derived h x.constraint)) (live ++ x ∷ [])
+under-more : (f : Frame) (h : Given) (live : List Live) (x : Live) (ops : List Op) → is_live live x.id ≡ false → x.proof_id < 2 ^ 63 → x.proof_id ≡ length h.constraints + 1
+    → line_gives (context_of h) ops ≡ Ok x.constraint → HasUnder (context_of h) live → HasUnder (context_of (with_derived h x.constraint)) (live ++ x ∷ [])
 under-more f h live x ops fresh small next gives under c on = elim (cases_eq x.id.0 c.0) [
   | inl q ↦ (let is : live_at (live ++ x ∷ []) c ≡ x = ap (live_at (live ++ x ∷ [])) (sym (same_id x.id c q)) ∙ live_at_new live x fresh in
       let S : Live → Type 0 = λ e. StandsUnder (context_of (with_derived h x.constraint)) e.proof_id e.constraint in
@@ -127,7 +130,9 @@ given-more f g live more old log lines x ops frame fits legal written fresh id s
       after = with_derived h c;
       legal = given-push f g h lines ops c s.legal gives;
       under = under-more f h live x ops fresh small next gives s.under;
-      stand = All-push Stands more x (λ k d l. given-stays f h (with_derived h c) (derived ops ∷ []) (get_or more k d).proof_id (get_or more k d).constraint one (s.stand k d l)) (derived-stands h c x.proof_id small next);
+      stand =
+          All-push Stands more x (λ k d l. given-stays f h (with_derived h c) (derived ops ∷ []) (get_or more k d).proof_id (get_or more k d).constraint one (s.stand k d l))
+          (derived-stands h c x.proof_id small next);
       gives = derived-push f g h lines ops c s.legal gives ∙ ap (λ (cs : List Linear). cs ++ c ∷ []) s.gives ∙ sym (constraints-append more (x ∷ []));
     }
 
@@ -152,10 +157,13 @@ added-none start ids log = record {
 }
 
 -- one clause more, which the live constraints propagate
-abbrev pub added-more : (start live : List Live) (ids ids_after : List ConId) (old log log_after : LogValue) (x : Live) → HasAdded start live ids ids_after old log → is_live live x.id ≡ false → Derives live log log_after x.constraint → x.proof_id ≡ next_id log → x.proof_id < 2 ^ 63 → IsClause x.constraint → IsPropagated (constraints_in live) x.constraint → HasAdded start (live ++ x ∷ []) ids (ids_after ++ x.id ∷ []) old log_after
+abbrev pub added-more : (start live : List Live) (ids ids_after : List ConId) (old log log_after : LogValue) (x : Live) → HasAdded start live ids ids_after old log → is_live live x.id ≡ false
+    → Derives live log log_after x.constraint → x.proof_id ≡ next_id log → x.proof_id < 2 ^ 63 → IsClause x.constraint → IsPropagated (constraints_in live) x.constraint
+    → HasAdded start (live ++ x ∷ []) ids (ids_after ++ x.id ∷ []) old log_after
 added-more start live ids ids_after old log log_after x h fresh derives next small clause propagated =
     let ops : List Op = derives.ops in
-    let written : log_after ≡ record old { lines = old.lines ++ (h.lines ++ derived ops ∷ []) } = derives.one_more ∙ ap (λ (v : LogValue). record v { lines = v.lines ++ derived ops ∷ [] }) h.written ∙ ap (λ (ls : List Line). record old { lines = ls }) (append_assoc old.lines h.lines (derived ops ∷ [])) in
+    let written : log_after ≡ record old { lines = old.lines ++ (h.lines ++ derived ops ∷ []) } = derives.one_more
+        ∙ ap (λ (v : LogValue). record v { lines = v.lines ++ derived ops ∷ [] }) h.written ∙ ap (λ (ls : List Line). record old { lines = ls }) (append_assoc old.lines h.lines (derived ops ∷ [])) in
     record {
       more = h.more ++ x ∷ [];
       split = ap (λ (ls : List Live). ls ++ x ∷ []) h.split ∙ append_assoc start h.more (x ∷ []);
@@ -179,11 +187,15 @@ pub learned-none : (start : List Live) (ids : List ConId) (log : LogValue) → H
 learned-none start ids log = record {
   added = added-none start ids log;
   counted = refl;
-  honest = λ f g frame fits legal under. record { derived_each = All-nil IsDerived; after = g; legal = refl; honest = record { clauses_each = All-nil IsClause; unabsorbed = λ k d l. absurd (omega arith) } };
+  honest =
+      λ f g frame fits legal under. record { derived_each = All-nil IsDerived; after = g; legal = refl; honest =
+      record { clauses_each = All-nil IsClause; unabsorbed = λ k d l. absurd (omega arith) } };
 }
 
 -- one lesson more
-pub learned-more : (start live after : List Live) (ids ids_after : List ConId) (held bs : List Attached) (order : List Literal) (es now : List Entry) (old log log_after : LogValue) (n : ℕ) (id : ConId) → All (IsAttached held) live → 0 < level_of es → IsOrdered held order es → HasLearned start live ids ids_after old log n → Learns live after held bs es now log log_after id → HasLearned start after ids (ids_after ++ id ∷ []) old log_after (n + 1)
+pub learned-more : (start live after : List Live) (ids ids_after : List ConId) (held bs : List Attached) (order : List Literal) (es now : List Entry) (old log log_after : LogValue) (n : ℕ)
+    (id : ConId) → All (IsAttached held) live → 0 < level_of es → IsOrdered held order es → HasLearned start live ids ids_after old log n → Learns live after held bs es now log log_after id
+    → HasLearned start after ids (ids_after ++ id ∷ []) old log_after (n + 1)
 learned-more start live after ids ids_after held bs order es now old log log_after n id attached h o s l =
     let x : Live = l.clause in
     let c : Linear = x.constraint in
@@ -200,13 +212,16 @@ learned-more start live after ids ids_after held bs order es now old log log_aft
       honest = λ f g frame fits legal under.
           (let w = a.shown f g frame fits legal under in
           let gives = (l.derives).legal (context_of w.after) (given-knows w.after) w.under in
-          let all : constraints_in start ++ derived_from f g a.lines ≡ constraints_in live = ap (λ (cs : List Linear). constraints_in start ++ cs) w.gives ∙ sym (constraints-append start a.more) ∙ ap constraints_in (sym a.split) in
+          let all : constraints_in start ++ derived_from f g a.lines ≡ constraints_in live = ap (λ (cs : List Linear). constraints_in start ++ cs) w.gives ∙ sym (constraints-append start a.more)
+              ∙ ap constraints_in (sym a.split) in
           let U : List Linear → Type 0 = λ cs. IsUnabsorbed cs c in
           honest-line f g w.after (constraints_in start) a.lines ops c (s.honest f g frame fits legal under) w.legal gives l.learned.clause (subst U (sym all) new));
     }))
 
 -- `0 >= 1` is one clause more
-abbrev pub added-refuted : (start live after : List Live) (ids ids_after : List ConId) (old log log_after : LogValue) (id : ConId) → HasAdded start live ids ids_after old log → Refutes live after log log_after id → HasAdded start after ids (ids_after ++ id ∷ []) old log_after
+abbrev pub added-refuted : (start live after : List Live) (ids ids_after : List ConId) (old log log_after : LogValue) (id : ConId) → HasAdded start live ids ids_after old log
+    → Refutes live after log log_after id → HasAdded start after ids (ids_after ++ id ∷ []) old log_after
 added-refuted start live after ids ids_after old log log_after id h r =
     let x : Live = record { id = id; constraint = contradiction; proof_id = r.proof_id } in
-    subst (λ (ls : List Live). HasAdded start ls ids (ids_after ++ id ∷ []) old log_after) (sym r.added) (added-more start live ids ids_after old log log_after x h r.fresh r.derives r.next r.small contradiction-clause r.propagated)
+    subst (λ (ls : List Live). HasAdded start ls ids (ids_after ++ id ∷ []) old log_after) (sym r.added)
+        (added-more start live ids ids_after old log log_after x h r.fresh r.derives r.next r.small contradiction-clause r.propagated)

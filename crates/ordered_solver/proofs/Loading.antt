@@ -64,18 +64,22 @@ place-live (e ∷ live) (suc k) d h = ap (λ b. cond (eqb e.id.0 (get_or live k 
 others-apart : (live : List Live) (id : ConId) → is_live live id ≡ false → (k : ℕ) (d : Live) → k < length live → (get_or live k d).id ≢ id
 others-apart live id fresh k d h q = false≢true (sym fresh ∙ ap (is_live live) (sym q) ∙ place-live live k d h)
 
-attached-change : (live : List Live) (held bs : List Attached) (id : ConId) (o : Option Linear) → is_live live id ≡ false → ChangesOnly held bs id o → All (IsAttached held) live → All (IsAttached bs) live
+attached-change : (live : List Live) (held bs : List Attached) (id : ConId) (o : Option Linear) → is_live live id ≡ false → ChangesOnly held bs id o → All (IsAttached held) live
+    → All (IsAttached bs) live
 attached-change live held bs id o fresh change all k d h = change.others (get_or live k d).id (others-apart live id fresh k d h) ∙ all k d h
 
-pub loaded-add : (live : List Live) (p q : PropagatorView) (t : TrailView) (x : Live) → IsLoaded live p t → is_live live x.id ≡ false → VarsBelow t.variables x.constraint.terms → ChangesOnly p.attached q.attached x.id (Some (constraint_of (live ++ x ∷ []) x.id)) → q.variables ≡ p.variables → IsCounted q t → IsLoaded (live ++ x ∷ []) q t
+pub loaded-add : (live : List Live) (p q : PropagatorView) (t : TrailView) (x : Live) → IsLoaded live p t → is_live live x.id ≡ false → VarsBelow t.variables x.constraint.terms
+    → ChangesOnly p.attached q.attached x.id (Some (constraint_of (live ++ x ∷ []) x.id)) → q.variables ≡ p.variables → IsCounted q t → IsLoaded (live ++ x ∷ []) q t
 loaded-add live p q t x l fresh below change variables counted =
     record {
       ready = ready-attach p q (live ++ x ∷ []) t x.id (ready-add p live t x l.ready) (live-added live x) change variables counted;
-      attached = All-push (IsAttached q.attached) live x (attached-change live p.attached q.attached x.id (Some (constraint_of (live ++ x ∷ []) x.id)) fresh change l.attached) (change.here ∙ ap (λ (c : Linear). Some c) (constraint-added live x fresh));
+      attached = All-push (IsAttached q.attached) live x (attached-change live p.attached q.attached x.id (Some (constraint_of (live ++ x ∷ []) x.id)) fresh change l.attached)
+          (change.here ∙ ap (λ (c : Linear). Some c) (constraint-added live x fresh));
       in_range = All-push (IsInRange t.variables) live x l.in_range below;
     }
 
-pub loaded-trail : (live : List Live) (p q : PropagatorView) (t u : TrailView) → IsLoaded live p t → q.attached ≡ p.attached → q.variables ≡ p.variables → u.variables ≡ t.variables → IsCounted q u → IsLoaded live q u
+pub loaded-trail : (live : List Live) (p q : PropagatorView) (t u : TrailView) → IsLoaded live p t → q.attached ≡ p.attached → q.variables ≡ p.variables → u.variables ≡ t.variables → IsCounted q u
+    → IsLoaded live q u
 loaded-trail live p q t u l attached variables same counted =
     let A : List Attached → Type 0 = λ held. All (IsAttached held) live in
     let R : ℕ → Type 0 = λ n. All (IsInRange n) live in

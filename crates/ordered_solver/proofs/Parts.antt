@@ -66,7 +66,8 @@ all-content v live all = subst (λ (cs : List Linear). IsModel cs v) (sym (given
 
 -- models of the parts, and of all
 pub model-all : (v : ℕ → Bool) (log : LogValue) (live : List Live) → IsModel (constraints_of (given_of log live)) v → IsModel (constraints_of (kept_of log live)) v → IsModel (constraints_in live) v
-model-all v log live given kept = All-map (Holds v) (λ (e : Live). e.constraint) live (parts-all (HoldsOf v) (is_kept log) live (content-all v (given_in log live) given) (content-all v (kept_in log live) kept))
+model-all v log live given kept =
+    All-map (Holds v) (λ (e : Live). e.constraint) live (parts-all (HoldsOf v) (is_kept log) live (content-all v (given_in log live) given) (content-all v (kept_in log live) kept))
 
 pub model-given : (v : ℕ → Bool) (log : LogValue) (live : List Live) → IsModel (constraints_in live) v → IsModel (constraints_of (given_of log live)) v
 model-given v log live m = all-content v (given_in log live) (All-filter (fails (is_kept log)) (HoldsOf v) live (constraint-all v live m))
@@ -88,7 +89,9 @@ among-of : (cs : List Linear) (live : List Live) → All (HasIt cs) live → Are
 among-of cs live all c h = All-contains (λ (x : Linear). Contains cs x) (constraints_in live) c (All-map (λ (x : Linear). Contains cs x) (λ (e : Live). e.constraint) live all) h
 
 among-part : (p : Live → Bool) (live : List Live) → AreAmong (constraints_of (map content (filter p live))) (constraints_in live)
-among-part p live = subst (λ (cs : List Linear). AreAmong cs (constraints_in live)) (sym (given-are (filter p live))) (among-of (constraints_in live) (filter p live) (All-filter p (HasIt (constraints_in live)) live (has-own live)))
+among-part p live =
+    subst (λ (cs : List Linear). AreAmong cs (constraints_in live)) (sym (given-are (filter p live)))
+    (among-of (constraints_in live) (filter p live) (All-filter p (HasIt (constraints_in live)) live (has-own live)))
 
 -- the given constraints are among all, and so are both parts
 pub given-among : (log : LogValue) (live : List Live) → AreAmong (constraints_of (given_of log live)) (constraints_in live)
@@ -103,8 +106,10 @@ all-among log live =
     let gs : List Linear = constraints_of (given_of log live) in
     let ks : List Linear = constraints_of (kept_of log live) in
     among-of (gs ++ ks) live (parts-all (HasIt (gs ++ ks)) (is_kept log) live
-    (λ k d l. Contains-append_left gs ks (get_or (given_in log live) k d).constraint (subst (λ (cs : List Linear). HasIt cs (get_or (given_in log live) k d)) (sym (given-are (given_in log live))) (has-own (given_in log live) k d l)))
-    (λ k d l. Contains-append_right gs ks (get_or (kept_in log live) k d).constraint (subst (λ (cs : List Linear). HasIt cs (get_or (kept_in log live) k d)) (sym (given-are (kept_in log live))) (has-own (kept_in log live) k d l))))
+    (λ k d l. Contains-append_left gs ks (get_or (given_in log live) k d).constraint (subst (λ (cs : List Linear). HasIt cs (get_or (given_in log live) k d)) (sym (given-are (given_in log live)))
+        (has-own (given_in log live) k d l)))
+    (λ k d l. Contains-append_right gs ks (get_or (kept_in log live) k d).constraint (subst (λ (cs : List Linear). HasIt cs (get_or (kept_in log live) k d)) (sym (given-are (kept_in log live)))
+        (has-own (kept_in log live) k d l))))
 
 -- a test that each element passes keeps all, and the opposite one none
 filter-all : (p : Live → Bool) (live : List Live) → All (λ e. p e ≡ true) live → filter p live ≡ live
@@ -126,7 +131,8 @@ pub kept-behind : (log : LogValue) (start more : List Live) → All (λ e. is_ke
 kept-behind log start more all = filter-append (is_kept log) start more ∙ ap (λ (xs : List Live). kept_in log start ++ xs) (filter-all (is_kept log) more all)
 
 pub given-before : (log : LogValue) (start more : List Live) → All (λ e. is_kept log e ≡ true) more → given_in log (start ++ more) ≡ given_in log start
-given-before log start more all = filter-append (fails (is_kept log)) start more ∙ ap (λ (xs : List Live). given_in log start ++ xs) (filter-none (is_kept log) more all) ∙ append-nil (given_in log start)
+given-before log start more all =
+    filter-append (fails (is_kept log)) start more ∙ ap (λ (xs : List Live). given_in log start ++ xs) (filter-none (is_kept log) more all) ∙ append-nil (given_in log start)
 
 -- where nothing is kept, all is given
 turned : (p : Live → Bool) (live : List Live) → All (λ e. p e ≡ false) live → (filter p live ≡ []) × (filter (fails p) live ≡ live)
@@ -134,15 +140,18 @@ turned p [] h = (refl, refl)
 turned p (e ∷ live) h =
     let here : p e ≡ false = All-head (λ (x : Live). p x ≡ false) e live h in
     let ih = turned p live (All-tail (λ (x : Live). p x ≡ false) e live h) in
-    (ap (λ (t : Bool). cond t (e ∷ filter p live) (filter p live)) here ∙ ih.0, ap (λ (t : Bool). cond (not t) (e ∷ filter (fails p) live) (filter (fails p) live)) here ∙ ap (λ (xs : List Live). e ∷ xs) ih.1)
+    (ap (λ (t : Bool). cond t (e ∷ filter p live) (filter p live)) here ∙ ih.0, ap (λ (t : Bool). cond (not t) (e ∷ filter (fails p) live) (filter (fails p) live)) here
+        ∙ ap (λ (xs : List Live). e ∷ xs) ih.1)
 
 pub none-kept : (log : LogValue) (live : List Live) → log.lines ≡ [] → (kept_in log live ≡ []) × (given_in log live ≡ live)
 none-kept log live e = turned (is_kept log) live (λ k d l. ap (λ (ls : List Line). is_derived_id log.first ls (get_or live k d).proof_id) e)
 
 -- one given constraint more
-pub kept-given : (log : LogValue) (live : List Live) (x : Live) → is_kept log x ≡ false → (kept_in log (live ++ x ∷ []) ≡ kept_in log live) × (given_in log (live ++ x ∷ []) ≡ given_in log live ++ x ∷ [])
+pub kept-given : (log : LogValue) (live : List Live) (x : Live) → is_kept log x ≡ false → (kept_in log (live ++ x ∷ []) ≡ kept_in log live)
+    × (given_in log (live ++ x ∷ []) ≡ given_in log live ++ x ∷ [])
 kept-given log live x e =
     let p : Live → Bool = is_kept log in
     let one : filter p (x ∷ []) ≡ [] = ap (λ (t : Bool). cond t (x ∷ []) []) e in
     let other : filter (fails p) (x ∷ []) ≡ x ∷ [] = ap (λ (t : Bool). cond (not t) (x ∷ []) []) e in
-    (filter-append p live (x ∷ []) ∙ ap (λ (xs : List Live). kept_in log live ++ xs) one ∙ append-nil (kept_in log live), filter-append (fails p) live (x ∷ []) ∙ ap (λ (xs : List Live). given_in log live ++ xs) other)
+    (filter-append p live (x ∷ []) ∙ ap (λ (xs : List Live). kept_in log live ++ xs) one ∙ append-nil (kept_in log live), filter-append (fails p) live (x ∷ [])
+        ∙ ap (λ (xs : List Live). given_in log live ++ xs) other)

@@ -51,7 +51,8 @@ passed-appends held order places old new a p =
           subst P (sym (upto_level-all n new (omega arith))) (passed-more order (get_or places n 0) old new (goes-appends held old new a) before))
     ])
 
-pub passed-decide : (order : List Literal) (places : List ℕ) (es : List Entry) (l : Literal) (place k : ℕ) → k ≡ level_of (es ++ record { lit = l; reason = None } ∷ []) → k < length places → HasPassed order place es → ArePassed order es places → ArePassed order (es ++ record { lit = l; reason = None } ∷ []) (set places k place)
+pub passed-decide : (order : List Literal) (places : List ℕ) (es : List Entry) (l : Literal) (place k : ℕ) → k ≡ level_of (es ++ record { lit = l; reason = None } ∷ []) → k < length places
+    → HasPassed order place es → ArePassed order es places → ArePassed order (es ++ record { lit = l; reason = None } ∷ []) (set places k place)
 passed-decide order places es l place k is h passed p =
     let e : Entry = record { lit = l; reason = None } in
     let level : level_of (es ++ e ∷ []) ≡ level_of es + 1 = level-push es e in
@@ -74,7 +75,8 @@ passed-here order places es m is p =
     let P : List Entry → Type 0 = λ us. HasPassed order (get_or places m 0) us in
     subst P (upto_level-all m es (omega arith)) (p m (omega arith))
 
-passed-jump : (order : List Literal) (places : List ℕ) (es : List Entry) (n : ℕ) (e : Entry) → is_decision e ≡ false → n < level_of es → ArePassed order es places → ArePassed order (upto_level n es ++ e ∷ []) places
+passed-jump : (order : List Literal) (places : List ℕ) (es : List Entry) (n : ℕ) (e : Entry) → is_decision e ≡ false → n < level_of es → ArePassed order es places
+    → ArePassed order (upto_level n es ++ e ∷ []) places
 passed-jump order places es n e forced h p =
     let kept : List Entry = upto_level n es in
     let level : level_of kept ≡ n = level_of-upto_level n es (omega arith) in
@@ -91,7 +93,8 @@ passed-jump order places es n e forced h p =
           subst P (sym whole) (passed-more order (get_or places m 0) kept (kept ++ e ∷ []) (goes-push kept e) here))
     ])
 
-pub passed-learns : (live after : List Live) (held held_after : List Attached) (order : List Literal) (places : List ℕ) (es es_after : List Entry) (log log_after : LogValue) (id : ConId) → Learns live after held held_after es es_after log log_after id → 0 < level_of es → ArePassed order es places → ArePassed order es_after places
+pub passed-learns : (live after : List Live) (held held_after : List Attached) (order : List Literal) (places : List ℕ) (es es_after : List Entry) (log log_after : LogValue) (id : ConId)
+    → Learns live after held held_after es es_after log log_after id → 0 < level_of es → ArePassed order es places → ArePassed order es_after places
 passed-learns live after held held_after order places es es_after log log_after id r h p =
     let e : Entry = record { lit = r.lit; reason = Some r.clause.id } in
     let below = back-below es r.clause.constraint.terms r.back r.level_below h in

@@ -41,14 +41,16 @@ goes-below b es k l h = goes-from b (take k es) (λ j d lt.
     rw e (h j d (omega arith)))
 
 -- a closed assignment that has the decisions has all that follows them
-pub takes-upto : (held : List Attached) (order : List Literal) (es : List Entry) (b : ℕ → Option Bool) → IsSearch held order es → ClosedAll held b → (k : ℕ) → k ≤ length es → ((j : ℕ) (d : Entry) → j < k → (get_or es j d).reason ≡ None → b (get_or es j d).lit.var ≡ Some (get_or es j d).lit.yes) → TakesBelow b es k
+pub takes-upto : (held : List Attached) (order : List Literal) (es : List Entry) (b : ℕ → Option Bool) → IsSearch held order es → ClosedAll held b → (k : ℕ) → k ≤ length es
+    → ((j : ℕ) (d : Entry) → j < k → (get_or es j d).reason ≡ None → b (get_or es j d).lit.var ≡ Some (get_or es j d).lit.yes) → TakesBelow b es k
 takes-upto held order es b s closed zero l dec j d lt = absurd (omega arith)
 takes-upto held order es b s closed (suc k) l dec j d lt =
     let ih : TakesBelow b es k = takes-upto held order es b s closed k (omega arith) (λ i f h. dec i f (omega arith)) in
     elim (cases_lt j k) [
       | inl h ↦ ih j d h
       | inr g ↦ (elim (s j d (omega arith)) [
-        | inl f ↦ closed-goes (value_in (take j es)) b f.constraint (get_or es j d).lit f.forces (goes-below b es j (omega arith) (λ i e h. ih i e (omega arith))) (closed f.reason f.constraint f.attached)
+        | inl f ↦ closed-goes (value_in (take j es)) b f.constraint (get_or es j d).lit f.forces (goes-below b es j (omega arith) (λ i e h. ih i e (omega arith)))
+            (closed f.reason f.constraint f.attached)
         | inr t ↦ dec j d (omega arith) t.no_reason
       ])
     ]
@@ -69,7 +71,9 @@ apart-below es j k x e lt h free q =
     none-apart (take k es) x j e free (omega arith) (ap (λ (f : Entry). f.lit.var) g ∙ q)
 
 -- a decision before a place where a variable of the order has no value yet stands before it in the order
-decided-before : (held : List Attached) (order : List Literal) (es : List Entry) (v : ℕ → Bool) (b : ℕ → Option Bool) → IsSearch held order es → TakesBelow (whole v) es (length es) → (k n : ℕ) (d : Literal) → k < length es → value_in (take k es) (get_or order n d).var ≡ None → ((j : ℕ) (f : Literal) → j < n → b (get_or order j f).var ≡ Some (v (get_or order j f).var)) → (j : ℕ) (e : Entry) → j < k → (get_or es j e).reason ≡ None → b (get_or es j e).lit.var ≡ Some (get_or es j e).lit.yes
+decided-before : (held : List Attached) (order : List Literal) (es : List Entry) (v : ℕ → Bool) (b : ℕ → Option Bool) → IsSearch held order es → TakesBelow (whole v) es (length es)
+    → (k n : ℕ) (d : Literal) → k < length es → value_in (take k es) (get_or order n d).var ≡ None → ((j : ℕ) (f : Literal) → j < n → b (get_or order j f).var ≡ Some (v (get_or order j f).var))
+    → (j : ℕ) (e : Entry) → j < k → (get_or es j e).reason ≡ None → b (get_or es j e).lit.var ≡ Some (get_or es j e).lit.yes
 decided-before held order es v b s agree k n d h free same j e lt none =
     elim (s j e (omega arith)) [
       | inl q ↦ (let t = q.there in absurd (cc))
@@ -88,7 +92,9 @@ decided-before held order es v b s agree k n d h free same j e lt none =
     ]
 
 -- where the values haven't the order's literal, each closed assignment that agrees with them before takes their value too
-pub shown-at : (held : List Attached) (order : List Literal) (es : List Entry) (v : ℕ → Bool) (b : ℕ → Option Bool) → IsSearch held order es → ClosedAll held b → TakesBelow (whole v) es (length es) → (n : ℕ) (d : Literal) → value_in es (get_or order n d).var ≢ None → lit_true v (get_or order n d) ≡ false → ((j : ℕ) (f : Literal) → j < n → b (get_or order j f).var ≡ Some (v (get_or order j f).var)) → b (get_or order n d).var ≡ Some (v (get_or order n d).var)
+pub shown-at : (held : List Attached) (order : List Literal) (es : List Entry) (v : ℕ → Bool) (b : ℕ → Option Bool) → IsSearch held order es → ClosedAll held b
+    → TakesBelow (whole v) es (length es) → (n : ℕ) (d : Literal) → value_in es (get_or order n d).var ≢ None → lit_true v (get_or order n d) ≡ false
+    → ((j : ℕ) (f : Literal) → j < n → b (get_or order j f).var ≡ Some (v (get_or order j f).var)) → b (get_or order n d).var ≡ Some (v (get_or order n d).var)
 shown-at held order es v b s closed agree n d assigned untrue same = go (value_in es (get_or order n d).var) refl
   where
     x : ℕ
@@ -102,7 +108,8 @@ shown-at held order es v b s closed agree n d assigned untrue same = go (value_i
       | inl f ↦ (let V : ℕ → Type 0 = λ y. value_in (take k es) y ≡ None in
           let free : value_in (take k es) x ≡ None = subst V var-is (f.forces).unassigned in
           let below = takes-upto held order es b s closed k (omega arith) (decided-before held order es v b s agree k n d h free same) in
-          let taken : b (get_or es k blank).lit.var ≡ Some (get_or es k blank).lit.yes = closed-goes (value_in (take k es)) b f.constraint (get_or es k blank).lit f.forces (goes-below b es k (omega arith) below) (closed f.reason f.constraint f.attached) in
+          let taken : b (get_or es k blank).lit.var ≡ Some (get_or es k blank).lit.yes = closed-goes (value_in (take k es)) b f.constraint (get_or es k blank).lit f.forces
+              (goes-below b es k (omega arith) below) (closed f.reason f.constraint f.attached) in
           let own : Some (v (get_or es k blank).lit.var) ≡ Some (get_or es k blank).lit.yes = agree k blank h in
           let B : ℕ → Type 0 = λ y. b y ≡ Some (v y) in
           subst B var-is (taken ∙ sym own))
@@ -130,7 +137,8 @@ shown-at held order es v b s closed agree n d assigned untrue same = go (value_i
     go (Some y) e = (let p = place-of es x y e in at p.0 p.1 (p.2 blank))
 
 -- a whole search shows its values to be the first
-pub shows-first : (held : List Attached) (cs : List Linear) (order : List Literal) (es : List Entry) (v : ℕ → Bool) → IsSearch held order es → IsFull order es → TakesBelow (whole v) es (length es) → ((b : ℕ → Option Bool) → IsClosedFor cs b → ClosedAll held b) → ShowsFirst cs order v
+pub shows-first : (held : List Attached) (cs : List Linear) (order : List Literal) (es : List Entry) (v : ℕ → Bool) → IsSearch held order es → IsFull order es → TakesBelow (whole v) es (length es)
+    → ((b : ℕ → Option Bool) → IsClosedFor cs b → ClosedAll held b) → ShowsFirst cs order v
 shows-first held cs order es v s full agree all place d h untrue b closed same = shown-at held order es v b s (all b closed) agree place d (full place d h) untrue same
 
 pub shown-among : (cs ds : List Linear) (order : List Literal) (v : ℕ → Bool) → AreAmong cs ds → ShowsFirst cs order v → ShowsFirst ds order v
@@ -158,10 +166,12 @@ first-of-shown cs order v w shown model = from (length order) 0 (omega arith) (�
     blank : Literal
     blank = record { var = 0; yes = true }
 
-    differ : (n : ℕ) → n < length order → ((j : ℕ) (d : Literal) → j < n → v (get_or order j d).var ≡ w (get_or order j d).var) → v (get_or order n blank).var ≢ w (get_or order n blank).var → (o : Bool) → lit_true v (get_or order n blank) ≡ o → lit_true v (get_or order n blank) ≡ true
+    differ : (n : ℕ) → n < length order → ((j : ℕ) (d : Literal) → j < n → v (get_or order j d).var ≡ w (get_or order j d).var) → v (get_or order n blank).var ≢ w (get_or order n blank).var
+        → (o : Bool) → lit_true v (get_or order n blank) ≡ o → lit_true v (get_or order n blank) ≡ true
     differ n h same ne true e = e
     differ n h same ne false e =
-        let t : Some (w (get_or order n blank).var) ≡ Some (v (get_or order n blank).var) = shown n blank h e (whole w) (model-closed cs w model) (λ j d l. ap (λ (a : Bool). Some a) (sym (same j d l))) in
+        let t : Some (w (get_or order n blank).var) ≡ Some (v (get_or order n blank).var) = shown n blank h e (whole w) (model-closed cs w model)
+            (λ j d l. ap (λ (a : Bool). Some a) (sym (same j d l))) in
         absurd (ne (sym (some-same (w (get_or order n blank).var) (v (get_or order n blank).var) t)))
 
     from : (m n : ℕ) → n + m ≡ length order → ((j : ℕ) (d : Literal) → j < n → v (get_or order j d).var ≡ w (get_or order j d).var) → AgreeOn order v w ⊎ IsBefore order v w
@@ -187,7 +197,8 @@ first-of-shown cs order v w shown model = from (length order) 0 (omega arith) (�
         ]
 
 -- a constraint that is closed under values of all its variables holds
-pub closed-holds : (es : List Entry) (v : ℕ → Bool) (c : Linear) → TakesBelow (whole v) es (length es) → ((i : ℕ) (d : Term) → i < length c.terms → value_in es (get_or c.terms i d).lit.var ≢ None) → IsClosed (value_in es) c → Holds v c
+pub closed-holds : (es : List Entry) (v : ℕ → Bool) (c : Linear) → TakesBelow (whole v) es (length es) → ((i : ℕ) (d : Term) → i < length c.terms → value_in es (get_or c.terms i d).lit.var ≢ None)
+    → IsClosed (value_in es) c → Holds v c
 closed-holds es v c agree assigned closed =
     let goes = goes-from (whole v) es agree in
     let too : FalseToo (whole v) (value_in es) c.terms = λ i d l f. turned (get_or c.terms i d).lit (value_in es (get_or c.terms i d).lit.var) refl goes (assigned i d l) f in

@@ -111,7 +111,8 @@ ordered-appends held order old new o a =
           subst P (sym same) (o.closed_below n lt));
     }
 
-pub ordered-decide : (held : List Attached) (order : List Literal) (es : List Entry) (l : Literal) → IsOrdered held order es → AllClosed held es → IsNext order es l → IsOrdered held order (es ++ record { lit = l; reason = None } ∷ [])
+pub ordered-decide : (held : List Attached) (order : List Literal) (es : List Entry) (l : Literal) → IsOrdered held order es → AllClosed held es → IsNext order es l
+    → IsOrdered held order (es ++ record { lit = l; reason = None } ∷ [])
 ordered-decide held order es l o closed next =
     let e : Entry = record { lit = l; reason = None } in
     let level : level_of (es ++ e ∷ []) ≡ level_of es + 1 = level-push es e in
@@ -127,7 +128,8 @@ ordered-decide held order es l o closed next =
     }
 
 -- after a jump back below the current level, with more attached, what is forced there pushed
-pub ordered-jump : (held bs : List Attached) (order : List Literal) (es : List Entry) (n : ℕ) (e : Entry) → n < level_of es → IsWider held bs → ((m : ℕ) → m < n → AllClosed bs (upto_level m es)) → IsForcedAt bs (upto_level n es) (length (upto_level n es)) e → IsOrdered held order es → IsOrdered bs order (upto_level n es ++ e ∷ [])
+pub ordered-jump : (held bs : List Attached) (order : List Literal) (es : List Entry) (n : ℕ) (e : Entry) → n < level_of es → IsWider held bs → ((m : ℕ) → m < n → AllClosed bs (upto_level m es))
+    → IsForcedAt bs (upto_level n es) (length (upto_level n es)) e → IsOrdered held order es → IsOrdered bs order (upto_level n es ++ e ∷ [])
 ordered-jump held bs order es n e h wider closed f o =
     let kept : List Entry = upto_level n es in
     let len = length-take (length kept) es in

@@ -41,7 +41,8 @@ all-forced live p t order l o k d r h e = elim (o.search k d h) [
 ]
 
 -- a conflict above level 0 has a false literal of the current level
-pub current : (live : List Live) (p : PropagatorView) (t : TrailView) (order : List Literal) (c : ConId) → IsLoaded live p t → IsOrdered p.attached order t.entries → IsConflict p.attached t.entries c → 0 < level_of t.entries → HasCurrent t.entries (constraint_of live c).terms
+pub current : (live : List Live) (p : PropagatorView) (t : TrailView) (order : List Literal) (c : ConId) → IsLoaded live p t → IsOrdered p.attached order t.entries
+    → IsConflict p.attached t.entries c → 0 < level_of t.entries → HasCurrent t.entries (constraint_of live c).terms
 current live p t order c l o k h =
     let P : Linear → Type 0 = λ q. HasCurrent t.entries q.terms in
     subst P (sym (l.ready.stored c k.constraint k.attached)) (has-current p.attached t.entries c k.constraint o.closed_below k.attached k.conflict h)
@@ -56,7 +57,8 @@ are-held live p t l c k at =
     (r.place, omega arith, get_or-map (λ (e : Live). e.constraint) live r.place d k r.within ∙ ap (λ (e : Live). e.constraint) (r.there d) ∙ l.ready.stored c k at)
 
 -- how far a search has come, where nothing has changed
-pub learned-same : (start live after : List Live) (first ids ids_after : List ConId) (old log log_after : LogValue) (n : ℕ) → after ≡ live → ids_after ≡ ids → log_after ≡ log → HasLearned start live first ids old log n → HasLearned start after first ids_after old log_after n
+pub learned-same : (start live after : List Live) (first ids ids_after : List ConId) (old log log_after : LogValue) (n : ℕ) → after ≡ live → ids_after ≡ ids → log_after ≡ log
+    → HasLearned start live first ids old log n → HasLearned start after first ids_after old log_after n
 learned-same start live after first ids ids_after old log log_after n a b c h =
     let P : List Live → Type 0 = λ ls. HasLearned start ls first ids_after old log_after n in
     let Q : List ConId → Type 0 = λ is. HasLearned start live first is old log_after n in
@@ -64,16 +66,20 @@ learned-same start live after first ids ids_after old log log_after n a b c h =
     subst P (sym a) (subst Q (sym b) (subst R (sym c) h))
 
 -- after a lesson
-pub turn-learned : (start live after : List Live) (first ids ids_after : List ConId) (p : PropagatorView) (t : TrailView) (bs : List Attached) (order : List Literal) (now : List Entry) (old log log_after : LogValue) (n : ℕ) (id : ConId) → IsLoaded live p t → IsOrdered p.attached order t.entries → 0 < level_of t.entries → HasLearned start live first ids old log n → Learns live after p.attached bs t.entries now log log_after id → ids_after ≡ ids ++ id ∷ [] → HasLearned start after first ids_after old log_after (n + 1)
+pub turn-learned : (start live after : List Live) (first ids ids_after : List ConId) (p : PropagatorView) (t : TrailView) (bs : List Attached) (order : List Literal) (now : List Entry)
+    (old log log_after : LogValue) (n : ℕ) (id : ConId) → IsLoaded live p t → IsOrdered p.attached order t.entries → 0 < level_of t.entries → HasLearned start live first ids old log n
+    → Learns live after p.attached bs t.entries now log log_after id → ids_after ≡ ids ++ id ∷ [] → HasLearned start after first ids_after old log_after (n + 1)
 turn-learned start live after first ids ids_after p t bs order now old log log_after n id l o h s r e =
     let P : List ConId → Type 0 = λ is. HasLearned start after first is old log_after (n + 1) in
     subst P (sym e) (learned-more start live after first ids p.attached bs order t.entries now old log log_after n id l.attached h o s r)
 
-pub turn-ordered : (live after : List Live) (p : PropagatorView) (t : TrailView) (bs : List Attached) (order : List Literal) (now : List Entry) (log log_after : LogValue) (id : ConId) → IsLoaded live p t → IsOrdered p.attached order t.entries → 0 < level_of t.entries → Learns live after p.attached bs t.entries now log log_after id → IsOrdered bs order now
+pub turn-ordered : (live after : List Live) (p : PropagatorView) (t : TrailView) (bs : List Attached) (order : List Literal) (now : List Entry) (log log_after : LogValue) (id : ConId)
+    → IsLoaded live p t → IsOrdered p.attached order t.entries → 0 < level_of t.entries → Learns live after p.attached bs t.entries now log log_after id → IsOrdered bs order now
 turn-ordered live after p t bs order now log log_after id l o h r = ordered-learns live after p.attached bs order t.entries now log log_after id l.ready.live h o r
 
 -- the trail's word rose in the turn
-pub turn-word : (live after : List Live) (held bs : List Attached) (first es now : List Entry) (log log_after : LogValue) (id : ConId) (v : ℕ) → GoesOnFrom first es → length es ≤ v → 0 < level_of es → Learns live after held bs es now log log_after id → word v (marks first) < word v (marks now)
+pub turn-word : (live after : List Live) (held bs : List Attached) (first es now : List Entry) (log log_after : LogValue) (id : ConId) (v : ℕ) → GoesOnFrom first es → length es ≤ v
+    → 0 < level_of es → Learns live after held bs es now log log_after id → word v (marks first) < word v (marks now)
 turn-word live after held bs first es now log log_after id v goes few h r =
     let up = word-goes_on v first es goes in
     let below = back-below es r.clause.constraint.terms r.back r.level_below h in

@@ -141,7 +141,8 @@ sum_is_normal a b p q = record {
   positive = add-positive a b p q;
   rising = from-pairs 0 (add a b).terms (add-rising a b p q);
   same = λ x. merged_same x a.terms b.terms s m ∙ sym (sum_z-append (share (is_var x)) (map as_part a.terms) (map as_part b.terms));
-  degree = difference (((pos a.degree +ℤ pos b.degree) -ℤ negated_sum ps) +ℤ negated_sum (map as_part s.terms)) (a.degree + b.degree) s.cancelled (omega (arith, ints, merged_negated a.terms b.terms s m, sum_z-append on_negated (map as_part a.terms) (map as_part b.terms)));
+  degree = difference (((pos a.degree +ℤ pos b.degree) -ℤ negated_sum ps) +ℤ negated_sum (map as_part s.terms)) (a.degree + b.degree) s.cancelled
+      (omega (arith, ints, merged_negated a.terms b.terms s m, sum_z-append on_negated (map as_part a.terms) (map as_part b.terms)));
 }
   where
     s : Sum

@@ -111,7 +111,8 @@ same_shares q ps qs same =
 -- the same shares and the degree that goes with them keep the meaning
 keeps : (ps : List Part) (d : ℤ) (c : Linear) → ((q : ℕ → Bool) → sum_z (share q) (map as_part c.terms) ≡ sum_z (share q) ps) → c.degree ≡ normal_degree ps d c.terms → KeepsMeaning ps d c
 keeps ps d c same degree = record {
-  forth = λ v h. subst (λ (n : ℕ). n ≤ true_weight v c.terms) (sym degree) (le-or_zero ((d -ℤ negated_sum ps) +ℤ negated_sum (map as_part c.terms)) (true_weight v c.terms) (omega (arith, ints, h, true_sum_is v ps, true_sum_is v (map as_part c.terms), true_weight_is v c.terms, same v)));
+  forth = λ v h. subst (λ (n : ℕ). n ≤ true_weight v c.terms) (sym degree) (le-or_zero ((d -ℤ negated_sum ps) +ℤ negated_sum (map as_part c.terms)) (true_weight v c.terms)
+      (omega (arith, ints, h, true_sum_is v ps, true_sum_is v (map as_part c.terms), true_weight_is v c.terms, same v)));
   back = λ v h.
       let l = or_zero-le ((d -ℤ negated_sum ps) +ℤ negated_sum (map as_part c.terms)) (true_weight v c.terms) (subst (λ (n : ℕ). n ≤ true_weight v c.terms) degree h) in
       omega (arith, ints, l, true_sum_is v ps, true_sum_is v (map as_part c.terms), true_weight_is v c.terms, same v);

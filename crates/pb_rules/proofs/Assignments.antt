@@ -53,7 +53,8 @@ flip-false p l ts free i d h f =
     ]
 
 -- making a literal of the terms false takes its coefficient
-pub room-flip : (p : ℕ → Option Bool) (l : Literal) (t : Term) (ts : List Term) (k : ℕ) → p l.var ≡ None → t.lit ≡ l → k < length ts → get_or ts k t ≡ t → open_weight (flipped p l) ts + t.coef ≤ open_weight p ts
+pub room-flip : (p : ℕ → Option Bool) (l : Literal) (t : Term) (ts : List Term) (k : ℕ) → p l.var ≡ None → t.lit ≡ l → k < length ts → get_or ts k t ≡ t
+    → open_weight (flipped p l) ts + t.coef ≤ open_weight p ts
 room-flip p l t [] k free e h at = absurd (omega arith)
 room-flip p l t (u ∷ ts) zero free e h at =
     let a = open-cons p u ts in

@@ -94,7 +94,8 @@ carried context (Weaken x) (a ∷ st) after e =
     was_known context x (Ok (weaken x a ∷ st)) after (λ known g. by_weakening small known (let q : weaken x a ∷ st ≡ after = cc in sym q)) f) e
 
 -- the first of several operations, and the others after it
-pub first_op : (context : Context) (o : Op) (os : List Op) (st after : List Linear) → apply_all context (o ∷ os) st ≡ Ok after → (mid : List Linear) × (apply context o st ≡ Ok mid) × (apply_all context os mid ≡ Ok after)
+pub first_op : (context : Context) (o : Op) (os : List Op) (st after : List Linear) → apply_all context (o ∷ os) st ≡ Ok after → (mid : List Linear) × (apply context o st ≡ Ok mid)
+    × (apply_all context os mid ≡ Ok after)
 first_op context o os st after e = go (apply context o st) refl e
   where
     go : (r : Stacks) → apply context o st ≡ r → and_then (apply_all context os) r ≡ Ok after → (mid : List Linear) × (apply context o st ≡ Ok mid) × (apply_all context os mid ≡ Ok after)

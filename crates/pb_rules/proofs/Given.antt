@@ -53,7 +53,8 @@ given-front f g h (l ∷ ls) ms e =
     (r.0, ap (option_and_then (λ k. given_from f k ls)) s.1 ∙ r.1, r.2)
 
 -- one derived line more gives one constraint more
-pub given-push : (f : Frame) (g h : Given) (ls : List Line) (ops : List Op) (c : Linear) → given_from f g ls ≡ Some h → line_gives (context_of h) ops ≡ Ok c → given_from f g (ls ++ derived ops ∷ []) ≡ Some (with_derived h c)
+pub given-push : (f : Frame) (g h : Given) (ls : List Line) (ops : List Op) (c : Linear) → given_from f g ls ≡ Some h → line_gives (context_of h) ops ≡ Ok c
+    → given_from f g (ls ++ derived ops ∷ []) ≡ Some (with_derived h c)
 given-push f g h ls ops c e k = given-append f g h ls (derived ops ∷ []) e ∙ ap (λ (r : Result Linear Fault). option_and_then (λ k. given_from f k []) (option_map (with_derived h) (result_ok r))) k
 
 -- one cover more gives its block
@@ -67,7 +68,8 @@ derived-append f g h (l ∷ ls) ms e =
     let s = first-line f g h l ls e in
     go l s.0 (goes f g s.0 l s.1) (derived-append f s.0 h ls ms s.2)
   where
-    go : (l : Line) (m : Given) → Goes f g m l → derived_from f m (ls ++ ms) ≡ derived_from f m ls ++ derived_from f h ms → derived_from f g (l ∷ (ls ++ ms)) ≡ derived_from f g (l ∷ ls) ++ derived_from f h ms
+    go : (l : Line) (m : Given) → Goes f g m l → derived_from f m (ls ++ ms) ≡ derived_from f m ls ++ derived_from f h ms
+        → derived_from f g (l ∷ (ls ++ ms)) ≡ derived_from f g (l ∷ ls) ++ derived_from f h ms
     go (derived ops) m (by_ops c q e) ih =
         let P : Given → Type 0 = λ m. derived_from f m (ls ++ ms) ≡ derived_from f m ls ++ derived_from f h ms in
         rw q (ap (λ cs. c ∷ cs) (subst P e ih))
@@ -75,7 +77,8 @@ derived-append f g h (l ∷ ls) ms e =
         let P : Given → Type 0 = λ m. derived_from f m (ls ++ ms) ≡ derived_from f m ls ++ derived_from f h ms in
         subst P e ih
 
-pub derived-push : (f : Frame) (g h : Given) (ls : List Line) (ops : List Op) (c : Linear) → given_from f g ls ≡ Some h → line_gives (context_of h) ops ≡ Ok c → derived_from f g (ls ++ derived ops ∷ []) ≡ derived_from f g ls ++ c ∷ []
+pub derived-push : (f : Frame) (g h : Given) (ls : List Line) (ops : List Op) (c : Linear) → given_from f g ls ≡ Some h → line_gives (context_of h) ops ≡ Ok c
+    → derived_from f g (ls ++ derived ops ∷ []) ≡ derived_from f g ls ++ c ∷ []
 derived-push f g h ls ops c e k =
     derived-append f g h ls (derived ops ∷ []) e ∙ ap (λ (r : Result Linear Fault). derived_from f g ls ++ onto_some (result_ok r) (λ c. [])) k
 
@@ -91,7 +94,8 @@ given-ids f g h (l ∷ ls) frame e =
   where
     go : (l : Line) (m : Given) → Goes f g m l → length m.constraints ≡ length g.constraints + ids_of l
     go (derived ops) m (by_ops c q e) = ap (λ (k : Given). length k.constraints) e ∙ length-append g.constraints (c ∷ [])
-    go (cover v) m (by_block q e) = ap (λ (k : Given). length k.constraints) e ∙ length-append g.constraints (f.block (g.covers + 1) v) ∙ ap (λ n. length g.constraints + n) (frame.sized (g.covers + 1) v)
+    go (cover v) m (by_block q e) =
+        ap (λ (k : Given). length k.constraints) e ∙ length-append g.constraints (f.block (g.covers + 1) v) ∙ ap (λ n. length g.constraints + n) (frame.sized (g.covers + 1) v)
 
 -- what was given stays at its place
 pub given-grows : (f : Frame) (g h : Given) (ls : List Line) → given_from f g ls ≡ Some h → (more : List Linear) × (h.constraints ≡ g.constraints ++ more)
@@ -172,7 +176,8 @@ given-sound v f g h (l ∷ ls) e m b =
   where
     go : (l : Line) (k : Given) → Goes f g k l → IsModel (blocks_from f g.covers (l ∷ ls)) v → IsModel k.constraints v × IsModel (blocks_from f k.covers ls) v
     go (derived ops) k (by_ops c q e) b = (
-      subst (λ (k : Given). IsModel k.constraints v) (sym e) (All-append (Holds v) g.constraints (c ∷ []) m (All-cons (Holds v) c [] (line-sound v (context_of g) ops c (under-holds (Holds v) g.constraints m) q) (All-nil (Holds v)))),
+      subst (λ (k : Given). IsModel k.constraints v) (sym e) (All-append (Holds v) g.constraints (c ∷ []) m
+          (All-cons (Holds v) c [] (line-sound v (context_of g) ops c (under-holds (Holds v) g.constraints m) q) (All-nil (Holds v)))),
       subst (λ (k : Given). IsModel (blocks_from f k.covers ls) v) (sym e) b,
     )
     go (cover w) k (by_block q e) b = (

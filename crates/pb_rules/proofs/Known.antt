@@ -160,7 +160,8 @@ derived-knows g c known x = mentions-append g.constraints (c ∷ []) x ∙ turn 
     turn false false h = refl
 
 -- after lines the variables are there that were there before, and those of the blocks of the covers
-pub given-variables : (f : Frame) (g h : Given) (ls : List Line) → given_from f g ls ≡ Some h → (x : ℕ) → (context_of h).knows x ≡ cond ((context_of g).knows x) true (any_mentions (blocks_from f g.covers ls) x)
+pub given-variables : (f : Frame) (g h : Given) (ls : List Line) → given_from f g ls ≡ Some h → (x : ℕ)
+    → (context_of h).knows x ≡ cond ((context_of g).knows x) true (any_mentions (blocks_from f g.covers ls) x)
 given-variables f g h [] e x = let q : g ≡ h = cc in ap (λ (k : Given). any_mentions k.constraints x) (sym q) ∙ none (any_mentions g.constraints x)
   where
     none : (b : Bool) → b ≡ cond b true false
@@ -170,7 +171,8 @@ given-variables f g h (l ∷ ls) e x =
     let s = first-line f g h l ls e in
     given-variables f s.0 h ls s.2 x ∙ go l s.0 (goes f g s.0 l s.1)
   where
-    go : (l : Line) (k : Given) → Goes f g k l → cond ((context_of k).knows x) true (any_mentions (blocks_from f k.covers ls) x) ≡ cond ((context_of g).knows x) true (any_mentions (blocks_from f g.covers (l ∷ ls)) x)
+    go : (l : Line) (k : Given) → Goes f g k l → cond ((context_of k).knows x) true (any_mentions (blocks_from f k.covers ls) x)
+        ≡ cond ((context_of g).knows x) true (any_mentions (blocks_from f g.covers (l ∷ ls)) x)
     go (derived ops) k (by_ops c q is) =
         let known = line-known (context_of g) ops c (given-knows g) q in
         ap (λ (k : Given). cond ((context_of k).knows x) true (any_mentions (blocks_from f k.covers ls) x)) is

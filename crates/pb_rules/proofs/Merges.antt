@@ -39,7 +39,8 @@ one-cancelled t f m h (u ∷ us) =
     let j = joined-cancelled t u (f us) in
     go (ltb t.lit.var u.lit.var) (eqb t.lit.var u.lit.var) (omega arith) (omega arith) ih
   where
-    go : (p q : Bool) → (f (u ∷ us)).cancelled ≤ t.coef + m → (joined t u (f us)).cancelled ≤ t.coef + m → (merge_one t f us).cancelled ≤ t.coef + m → (cond p (onto t (f (u ∷ us))) (cond q (joined t u (f us)) (onto u (merge_one t f us)))).cancelled ≤ t.coef + m
+    go : (p q : Bool) → (f (u ∷ us)).cancelled ≤ t.coef + m → (joined t u (f us)).cancelled ≤ t.coef + m → (merge_one t f us).cancelled ≤ t.coef + m
+        → (cond p (onto t (f (u ∷ us))) (cond q (joined t u (f us)) (onto u (merge_one t f us)))).cancelled ≤ t.coef + m
     go true q a b c = a
     go false true a b c = b
     go false false a b c = c
@@ -67,7 +68,8 @@ cut-append : (d : ℕ) (ts us : List Term) → cut d (ts ++ us) ≡ cut d ts ++ 
 cut-append d [] us = refl
 cut-append d (t ∷ ts) us = go (ltb 0 (min t.coef d)) (cut-append d ts us)
   where
-    go : (b : Bool) → cut d (ts ++ us) ≡ cut d ts ++ cut d us → cond b (record { coef = min t.coef d; lit = t.lit } ∷ cut d (ts ++ us)) (cut d (ts ++ us)) ≡ cond b (record { coef = min t.coef d; lit = t.lit } ∷ cut d ts) (cut d ts) ++ cut d us
+    go : (b : Bool) → cut d (ts ++ us) ≡ cut d ts ++ cut d us → cond b (record { coef = min t.coef d; lit = t.lit } ∷ cut d (ts ++ us)) (cut d (ts ++ us))
+        ≡ cond b (record { coef = min t.coef d; lit = t.lit } ∷ cut d ts) (cut d ts) ++ cut d us
     go true ih = ap (λ vs. let r : Term = record { coef = min t.coef d; lit = t.lit } in r ∷ vs) ih
     go false ih = ih
 
@@ -85,7 +87,8 @@ cut-miss d t m e p = let test : ltb 0 (min t.coef d) ≡ false = grind (arith, n
 pub slice-all : (ts : List Term) (i : ℕ) → take (length ts - i) (drop i ts) ≡ drop i ts
 slice-all ts i = take_all (length ts - i) (drop i ts) (omega (arith, length-drop i ts))
 
-pub rest-of : (xs ys : List Term) (i j : ℕ) (out first second : List Term) → first ≡ out ++ take (length xs - i) (drop i xs) → second ≡ first ++ take (length ys - j) (drop j ys) → second ≡ out ++ (drop i xs ++ drop j ys)
+pub rest-of : (xs ys : List Term) (i j : ℕ) (out first second : List Term) → first ≡ out ++ take (length xs - i) (drop i xs) → second ≡ first ++ take (length ys - j) (drop j ys)
+    → second ≡ out ++ (drop i xs ++ drop j ys)
 rest-of xs ys i j out first second a b =
     b ∙ ap (λ os. first ++ os) (slice-all ys j) ∙ ap (λ os. os ++ drop j ys) (a ∙ ap (λ os. out ++ os) (slice-all xs i)) ∙ append_assoc out (drop i xs) (drop j ys)
 
@@ -106,7 +109,8 @@ total-more ts i t h e =
     (omega arith, omega arith)
 
 -- the first term of a variable, found at its place
-pub without-at : (x : ℕ) (ts : List Term) (p : ℕ) (d : Term) → p < length ts → ((k : ℕ) (d : Term) → k < p → (get_or ts k d).lit.var ≢ x) → (get_or ts p d).lit.var ≡ x → (without_var x ts ≡ take p ts ++ drop (p + 1) ts) × (coef_of x ts ≡ (get_or ts p d).coef)
+pub without-at : (x : ℕ) (ts : List Term) (p : ℕ) (d : Term) → p < length ts → ((k : ℕ) (d : Term) → k < p → (get_or ts k d).lit.var ≢ x) → (get_or ts p d).lit.var ≡ x
+    → (without_var x ts ≡ take p ts ++ drop (p + 1) ts) × (coef_of x ts ≡ (get_or ts p d).coef)
 without-at x [] p d l before at = absurd (omega arith)
 without-at x (t ∷ ts) zero d l before at = let hit : eqb t.lit.var x ≡ true = grind (arith, nat_tests) in (rw hit refl, rw hit refl)
 without-at x (t ∷ ts) (suc p) d l before at =

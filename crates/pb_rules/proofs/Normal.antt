@@ -186,7 +186,8 @@ product-positive n m p q = let a = mul-le 1 1 n m (omega arith) (omega arith) in
 pub times-normal : (n : ℕ) (a : Linear) → 0 < n → IsNormal a.terms a.degree → excess (times n a) ≡ None → IsNormal (times n a).terms (times n a).degree
 times-normal n a p q h =
     let w = within (times n a) h in
-    normal-from (times n a).terms (times n a).degree (map-rising (multiplied n) (λ t. refl) 0 a.terms (from-normal a.terms a.degree q)) (map-positive (multiplied n) (λ t. refl) a.terms (λ t z. product-positive n t.coef p z) q.positive) w.0 w.1
+    normal-from (times n a).terms (times n a).degree (map-rising (multiplied n) (λ t. refl) 0 a.terms (from-normal a.terms a.degree q))
+        (map-positive (multiplied n) (λ t. refl) a.terms (λ t z. product-positive n t.coef p z) q.positive) w.0 w.1
 
 -- the coefficients of a multiple
 pub times-total : (n : ℕ) (ts : List Term) → total (map (multiplied n) ts) ≡ n * total ts
@@ -215,7 +216,8 @@ divide-normal n a p q =
     let d = q.small_degree in
     let t = map-total (divided n) (λ t. refl) a.terms (λ t. up-most n t.coef p) in
     let e = up-most n a.degree p in
-    normal-from (divide n a).terms (divide n a).degree (map-rising (divided n) (λ t. refl) 0 a.terms (from-normal a.terms a.degree q)) (map-positive (divided n) (λ t. refl) a.terms (λ t z. up-positive n t.coef p z) q.positive) (omega arith) (omega arith)
+    normal-from (divide n a).terms (divide n a).degree (map-rising (divided n) (λ t. refl) 0 a.terms (from-normal a.terms a.degree q))
+        (map-positive (divided n) (λ t. refl) a.terms (λ t z. up-positive n t.coef p z) q.positive) (omega arith) (omega arith)
 
 -- a list with some terms left out, and the others no greater
 pub data Shrunk : List Term → List Term → Type 0 where
@@ -296,14 +298,16 @@ abbrev Normal : Linear → Type 0
 Normal c = IsNormal c.terms c.degree
 
 -- all that legal lines give over a frame is in normal form
-pub given-normal : (f : Frame) (g h : Given) (ls : List Line) → IsFrame f → given_from f g ls ≡ Some h → All (λ c. IsNormal c.terms c.degree) g.constraints → All (λ c. IsNormal c.terms c.degree) h.constraints
+pub given-normal : (f : Frame) (g h : Given) (ls : List Line) → IsFrame f → given_from f g ls ≡ Some h → All (λ c. IsNormal c.terms c.degree) g.constraints
+    → All (λ c. IsNormal c.terms c.degree) h.constraints
 given-normal f g h [] frame e n = let q : g ≡ h = cc in subst (λ (k : Given). All Normal k.constraints) q n
 given-normal f g h (l ∷ ls) frame e n =
     let s = first-line f g h l ls e in
     given-normal f s.0 h ls frame s.2 (go l s.0 (goes f g s.0 l s.1))
   where
     go : (l : Line) (k : Given) → Goes f g k l → All Normal k.constraints
-    go (derived ops) k (by_ops c q e) = subst (λ (k : Given). All Normal k.constraints) (sym e) (All-append Normal g.constraints (c ∷ []) n (All-cons Normal c [] (line-keeps (context_of g) Normal (normal-kept (context_of g) (under-holds Normal g.constraints n)) ops c q) (All-nil Normal)))
+    go (derived ops) k (by_ops c q e) = subst (λ (k : Given). All Normal k.constraints) (sym e) (All-append Normal g.constraints (c ∷ []) n
+        (All-cons Normal c [] (line-keeps (context_of g) Normal (normal-kept (context_of g) (under-holds Normal g.constraints n)) ops c q) (All-nil Normal)))
     go (cover w) k (by_block q e) = subst (λ (k : Given). All Normal k.constraints) (sym e) (All-append Normal g.constraints (f.block (g.covers + 1) w) n (frame.block_normal (g.covers + 1) w))
 
 -- which number is too large

@@ -25,7 +25,8 @@ from-pairs k (t ∷ ts) f zero (suc j) d l m = let a = from-least (t.lit.var + 1
 from-pairs k (t ∷ ts) f (suc i) zero d l m = absurd (omega arith)
 from-pairs k (t ∷ ts) f (suc i) (suc j) d l m = from-pairs (t.lit.var + 1) ts f.1 i j d (omega arith) (omega arith)
 
-pub rising-from : (k : ℕ) (ts : List Term) → ((d : Term) → 0 < length ts → k ≤ (get_or ts 0 d).lit.var) → ((i j : ℕ) (d : Term) → i < j → j < length ts → (get_or ts i d).lit.var < (get_or ts j d).lit.var) → From k ts
+pub rising-from : (k : ℕ) (ts : List Term) → ((d : Term) → 0 < length ts → k ≤ (get_or ts 0 d).lit.var)
+    → ((i j : ℕ) (d : Term) → i < j → j < length ts → (get_or ts i d).lit.var < (get_or ts j d).lit.var) → From k ts
 rising-from k [] b h = tt
 rising-from k (t ∷ ts) b h =
     (b t (omega arith), rising-from (t.lit.var + 1) ts (λ d l. (let r = h 0 1 d (omega arith) (omega arith) in omega arith)) (λ i j d l m. h (suc i) (suc j) d (omega arith) (omega arith)))

@@ -27,7 +27,8 @@ falsifies-own true = refl
 falsifies-own false = refl
 
 -- making an unassigned literal true leaves the room, where no other term has its variable
-pub open_weight-made_true : (p q : ℕ → Option Bool) (l : Literal) (ts : List Term) → p l.var ≡ None → q l.var ≡ Some l.yes → ((x : ℕ) → l.var ≢ x → q x ≡ p x) → ((i : ℕ) (d : Term) → i < length ts → (get_or ts i d).lit.var ≡ l.var → (get_or ts i d).lit ≡ l) → open_weight q ts ≡ open_weight p ts
+pub open_weight-made_true : (p q : ℕ → Option Bool) (l : Literal) (ts : List Term) → p l.var ≡ None → q l.var ≡ Some l.yes → ((x : ℕ) → l.var ≢ x → q x ≡ p x)
+    → ((i : ℕ) (d : Term) → i < length ts → (get_or ts i d).lit.var ≡ l.var → (get_or ts i d).lit ≡ l) → open_weight q ts ≡ open_weight p ts
 open_weight-made_true p q l [] free made others only = refl
 open_weight-made_true p q l (t ∷ ts) free made others only =
     let f : (ℕ → Option Bool) → Term → ℕ = λ p t. cond (is_false p t.lit) 0 t.coef in
@@ -54,7 +55,8 @@ same_variable ts degree n i j d hi hj e =
       ])
     ]
 
-pub only_term : (ts : List Term) (degree : ℕ) → IsNormal ts degree → (i : ℕ) (t : Term) → i < length ts → t ≡ get_or ts i t → (j : ℕ) (d : Term) → j < length ts → (get_or ts j d).lit.var ≡ t.lit.var → (get_or ts j d).lit ≡ t.lit
+pub only_term : (ts : List Term) (degree : ℕ) → IsNormal ts degree → (i : ℕ) (t : Term) → i < length ts → t ≡ get_or ts i t → (j : ℕ) (d : Term) → j < length ts
+    → (get_or ts j d).lit.var ≡ t.lit.var → (get_or ts j d).lit ≡ t.lit
 only_term ts degree normal i t h at j d l v =
     let at' : get_or ts i d ≡ t = get_or_default ts i d t h ∙ sym at in
     let k : j ≡ i = same_variable ts degree normal j i d l h (v ∙ ap (λ (u : Term). u.lit.var) (sym at')) in

@@ -23,4 +23,6 @@ pub record IsFirstModel (given : List Linear) (order : List Literal) (v : ℕ �
 
 -- constraints show an assignment to be the first: where it hasn't the order's literal, each closed partial assignment that agrees with it before takes its value too
 abbrev pub ShowsFirst : List Linear → List Literal → (ℕ → Bool) → Type 0
-ShowsFirst cs order v = (place : ℕ) (d : Literal) → place < length order → lit_true v (slice_index_or order place d) ≡ false → (p : ℕ → Option Bool) → IsClosedFor cs p → ((j : ℕ) (e : Literal) → j < place → p (slice_index_or order j e).var ≡ Some (v (slice_index_or order j e).var)) → p (slice_index_or order place d).var ≡ Some (v (slice_index_or order place d).var)
+ShowsFirst cs order v = (place : ℕ) (d : Literal) → place < length order → lit_true v (slice_index_or order place d) ≡ false → (p : ℕ → Option Bool) → IsClosedFor cs p
+    → ((j : ℕ) (e : Literal) → j < place → p (slice_index_or order j e).var ≡ Some (v (slice_index_or order j e).var))
+    → p (slice_index_or order place d).var ≡ Some (v (slice_index_or order place d).var)

@@ -37,13 +37,16 @@ entry_long s e h = sym (ap length h.stated) ∙ vector_long s (bits_of e.design)
 
 -- the vectors of a front have a number for each objective
 pub claim_long : (s : SpecValue) (front : FrontValue) → IsClaim s front → AllLong (length s.objectives) (vectors_of front)
-claim_long s front h = All-from_map (λ (u : List ℕ). length u ≡ length s.objectives) vector_in front.entries (All-weaker (IsEntry s) (λ (e : EntryValue). length e.vector ≡ length s.objectives) (entry_long s) front.entries h.entries)
+claim_long s front h =
+    All-from_map (λ (u : List ℕ). length u ≡ length s.objectives) vector_in front.entries (All-weaker (IsEntry s) (λ (e : EntryValue). length e.vector ≡ length s.objectives) (entry_long s)
+    front.entries h.entries)
 
 pub new_checker : (s : SpecValue) (front : FrontValue) (p : Progress) → IsWellFormed s → IsClaim s front → p ≡ begun s → IsChecker s front p
 new_checker s front p wf claim e =
     subst (IsChecker s front) (sym e) (record { claim = claim; reached = begins_reached s (vectors_of front); known = begins_known s wf; few = omega arith; lines = omega arith })
 
-pub next_checker : (s : SpecValue) (front : FrontValue) (p q : Progress) (piece : List ℕ) → IsChecker s front p → IsPiece piece → q ≡ take_line s (vectors_of front) p piece → q.given.covers < 2 ^ 58 → q.lines + 1 < 2 ^ 64 → IsChecker s front q
+pub next_checker : (s : SpecValue) (front : FrontValue) (p q : Progress) (piece : List ℕ) → IsChecker s front p → IsPiece piece → q ≡ take_line s (vectors_of front) p piece
+    → q.given.covers < 2 ^ 58 → q.lines + 1 < 2 ^ 64 → IsChecker s front q
 next_checker s front p q piece h cut e few lines = record {
   claim = h.claim;
   reached = subst (λ (r : Progress). IsReached s (vectors_of front) r) (sym e) (reaches_on s (vectors_of front) p piece h.reached cut);
@@ -54,7 +57,8 @@ next_checker s front p q piece h cut e few lines = record {
 
 -- ---- the end
 
-pub accepted_by : (cs : List Linear) (covers lines : ℕ) (closed : Bool) (refused : Option Refused) → refused ≡ None → lines ≢ 0 → closed ≡ true → verdict_of (progress_of cs covers lines closed refused) ≡ verdicts.Accepted
+pub accepted_by : (cs : List Linear) (covers lines : ℕ) (closed : Bool) (refused : Option Refused) → refused ≡ None → lines ≢ 0 → closed ≡ true
+    → verdict_of (progress_of cs covers lines closed refused) ≡ verdicts.Accepted
 accepted_by cs covers lines closed refused none some ends =
     ap (λ (o : Option Refused). verdict_if (progress_of cs covers lines closed refused) o) none
     ∙ (ap (λ (b : Bool). cond b (verdicts.Refused (refusal_at 1 BadStep)) (cond closed verdicts.Accepted (verdicts.Refused (refusal_at (lines + 1) NoContradiction)))) (ne_eqb lines 0 some)
@@ -67,24 +71,30 @@ taken : (s : SpecValue) (us : List (List ℕ)) (cs : List Linear) (covers lines 
 taken s us cs covers lines closed refused piece none = ap (take_if s us (progress_of cs covers lines closed refused) piece) none
 
 pub takes_header : (s : SpecValue) (us : List (List ℕ)) (cs : List Linear) (covers lines : ℕ) (closed : Bool) (refused : Option Refused) (piece : List ℕ) → refused ≡ None
-    → judge_next s us lines (given_of cs covers) piece ≡ Ok (stand_of (given_of cs covers) Header) → progress_of cs covers (lines + 1) false refused ≡ take_line s us (progress_of cs covers lines closed refused) piece
+    → judge_next s us lines (given_of cs covers) piece ≡ Ok (stand_of (given_of cs covers) Header) → progress_of cs covers (lines + 1) false refused
+        ≡ take_line s us (progress_of cs covers lines closed refused) piece
 takes_header s us cs covers lines closed refused piece none e =
     ap (progress_of cs covers (lines + 1) false) none ∙ sym (taken s us cs covers lines closed refused piece none ∙ ap (judged (progress_of cs covers lines closed refused)) e)
 
 pub takes_derived : (s : SpecValue) (us : List (List ℕ)) (cs new : List Linear) (covers lines : ℕ) (closed now : Bool) (refused : Option Refused) (piece : List ℕ) (c : Linear) → refused ≡ None
-    → judge_next s us lines (given_of cs covers) piece ≡ Ok (stand_of (given_of cs covers) (Derived c)) → new ≡ cs ++ c ∷ [] → now ≡ is_clash c → progress_of new covers (lines + 1) now refused ≡ take_line s us (progress_of cs covers lines closed refused) piece
+    → judge_next s us lines (given_of cs covers) piece ≡ Ok (stand_of (given_of cs covers) (Derived c)) → new ≡ cs ++ c ∷ [] → now ≡ is_clash c
+        → progress_of new covers (lines + 1) now refused ≡ take_line s us (progress_of cs covers lines closed refused) piece
 takes_derived s us cs new covers lines closed now refused piece c none e items clash =
-    ap (progress_of new covers (lines + 1) now) none ∙ (ap (λ (b : Bool). progress_of new covers (lines + 1) b None) clash ∙ (ap (λ (xs : List Linear). progress_of xs covers (lines + 1) (is_clash c) None) items
+    ap (progress_of new covers (lines + 1) now) none ∙ (ap (λ (b : Bool). progress_of new covers (lines + 1) b None) clash
+        ∙ (ap (λ (xs : List Linear). progress_of xs covers (lines + 1) (is_clash c) None) items
     ∙ sym (taken s us cs covers lines closed refused piece none ∙ ap (judged (progress_of cs covers lines closed refused)) e)))
 
-pub takes_block : (s : SpecValue) (us : List (List ℕ)) (cs new : List Linear) (covers lines : ℕ) (closed : Bool) (refused : Option Refused) (piece : List ℕ) (block : Vec Linear Global) → refused ≡ None
-    → judge_next s us lines (given_of cs covers) piece ≡ Ok (stand_of (given_of cs covers) (Block block)) → new ≡ cs ++ block.items → progress_of new (covers + 1) (lines + 1) false refused ≡ take_line s us (progress_of cs covers lines closed refused) piece
+pub takes_block : (s : SpecValue) (us : List (List ℕ)) (cs new : List Linear) (covers lines : ℕ) (closed : Bool) (refused : Option Refused) (piece : List ℕ) (block : Vec Linear Global)
+    → refused ≡ None
+    → judge_next s us lines (given_of cs covers) piece ≡ Ok (stand_of (given_of cs covers) (Block block)) → new ≡ cs ++ block.items
+        → progress_of new (covers + 1) (lines + 1) false refused ≡ take_line s us (progress_of cs covers lines closed refused) piece
 takes_block s us cs new covers lines closed refused piece block none e items =
     ap (progress_of new (covers + 1) (lines + 1) false) none ∙ (ap (λ (xs : List Linear). progress_of xs (covers + 1) (lines + 1) false None) items
     ∙ sym (taken s us cs covers lines closed refused piece none ∙ ap (judged (progress_of cs covers lines closed refused)) e))
 
 pub takes_refusal : (s : SpecValue) (us : List (List ℕ)) (cs : List Linear) (covers lines : ℕ) (closed : Bool) (refused : Option Refused) (piece : List ℕ) (why : ProofWhy) → refused ≡ None
-    → judge_next s us lines (given_of cs covers) piece ≡ Err why → progress_of cs covers lines closed (Some (refusal_at (lines + 1) why)) ≡ take_line s us (progress_of cs covers lines closed refused) piece
+    → judge_next s us lines (given_of cs covers) piece ≡ Err why → progress_of cs covers lines closed (Some (refusal_at (lines + 1) why))
+        ≡ take_line s us (progress_of cs covers lines closed refused) piece
 takes_refusal s us cs covers lines closed refused piece why none e =
     sym (taken s us cs covers lines closed refused piece none ∙ ap (judged (progress_of cs covers lines closed refused)) e)
 

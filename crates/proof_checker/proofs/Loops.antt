@@ -63,17 +63,20 @@ numbers_more [] ns w n e q =
     ap (λ (o : Option ℕ). with_said o (Some [])) q ∙ ap (λ (ms : List ℕ). Some (ms ++ n ∷ [])) none
 numbers_more (v ∷ ws) ns w n e q = go (λ ms b. numbers_more ws ms w n b q) (number_of v) (numbers_of ws) refl e
   where
-    go : ((ms : List ℕ) → numbers_of ws ≡ Some ms → numbers_of (ws ++ w ∷ []) ≡ Some (ms ++ n ∷ [])) → (o : Option ℕ) (p : Option (List ℕ)) → numbers_of ws ≡ p → with_said o p ≡ Some ns → with_said o (numbers_of (ws ++ w ∷ [])) ≡ Some (ns ++ n ∷ [])
+    go : ((ms : List ℕ) → numbers_of ws ≡ Some ms → numbers_of (ws ++ w ∷ []) ≡ Some (ms ++ n ∷ [])) → (o : Option ℕ) (p : Option (List ℕ)) → numbers_of ws ≡ p → with_said o p ≡ Some ns
+        → with_said o (numbers_of (ws ++ w ∷ [])) ≡ Some (ns ++ n ∷ [])
     go ih None p b e = absurd cc
     go ih (Some m) None b e = absurd cc
     go ih (Some m) (Some ms) b e =
         let is : m ∷ ms ≡ ns = cc in
         ap (onto_said m) (ih ms b) ∙ ap (λ (ks : List ℕ). Some (ks ++ n ∷ [])) is
 
-pub number_taken : (ws : List Lent) (i : ℕ) (d : Lent) (ns next : List ℕ) (n : ℕ) → i < length ws → numbers_of (said (take i ws)) ≡ Some ns → number_of (get_or ws i d).now ≡ Some n → next ≡ ns ++ n ∷ []
+pub number_taken : (ws : List Lent) (i : ℕ) (d : Lent) (ns next : List ℕ) (n : ℕ) → i < length ws → numbers_of (said (take i ws)) ≡ Some ns → number_of (get_or ws i d).now ≡ Some n
+    → next ≡ ns ++ n ∷ []
     → numbers_of (said (take (i + 1) ws)) ≡ Some next
 number_taken ws i d ns next n l e q last =
-    ap (λ (vs : List Lent). numbers_of (said vs)) (take_more ws i d l) ∙ ap numbers_of (map_push (λ (v : Lent). v.now) (take i ws) (get_or ws i d)) ∙ (numbers_more (said (take i ws)) ns (get_or ws i d).now n e q ∙ ap (λ (ms : List ℕ). Some ms) (sym last))
+    ap (λ (vs : List Lent). numbers_of (said vs)) (take_more ws i d l) ∙ ap numbers_of (map_push (λ (v : Lent). v.now) (take i ws) (get_or ws i d))
+        ∙ (numbers_more (said (take i ws)) ns (get_or ws i d).now n e q ∙ ap (λ (ms : List ℕ). Some ms) (sym last))
 
 pub number_missing : (ws : List Lent) (i : ℕ) (d : Lent) → i < length ws → number_of (get_or ws i d).now ≡ None → numbers_of (said ws) ≡ None
 number_missing [] i d l q = absurd (omega arith)
@@ -93,20 +96,23 @@ pub item_long : (n : ℕ) (es : List Entry) (i : ℕ) (e : Entry) → AllLong n 
 item_long n es i e h l is =
     let one : i < length (map as_seen es) = omega (arith, l, length-map es as_seen) in
     let two : i < length (vectors_in es) = omega (arith, one, length-map (map as_seen es) vector_in) in
-    let there : get_or (vectors_in es) i [] ≡ e.vector = get_or-map vector_in (map as_seen es) i (as_seen e) [] one ∙ (ap vector_in (get_or-map as_seen es i e (as_seen e) l) ∙ ap (λ (x : Entry). x.vector) (sym is)) in
+    let there : get_or (vectors_in es) i [] ≡ e.vector = get_or-map vector_in (map as_seen es) i (as_seen e) [] one
+        ∙ (ap vector_in (get_or-map as_seen es i e (as_seen e) l) ∙ ap (λ (x : Entry). x.vector) (sym is)) in
     sym (ap length there) ∙ h i [] two
 
 any_entries : (p : List ℕ → Bool) (es : List Entry) → list_any p (vectors_in es) ≡ list_any (λ (e : Entry). p e.vector) es
 any_entries p [] = refl
 any_entries p (e ∷ es) = ap (λ (b : Bool). p e.vector || b) (any_entries p es)
 
-pub entry_below : (es : List Entry) (v : List ℕ) (i : ℕ) (e : Entry) (us : List (List ℕ)) → us ≡ vectors_in es → i < length es → e ≡ get_or es i e → is_at_most v e.vector ≡ true → true ≡ list_any (is_at_most v) us
+pub entry_below : (es : List Entry) (v : List ℕ) (i : ℕ) (e : Entry) (us : List (List ℕ)) → us ≡ vectors_in es → i < length es → e ≡ get_or es i e → is_at_most v e.vector ≡ true
+    → true ≡ list_any (is_at_most v) us
 entry_below es v i e us same l is h =
     let here : is_at_most v (get_or es i e).vector ≡ true = subst (λ (x : Entry). is_at_most v x.vector ≡ true) is h in
     sym (ap (list_any (is_at_most v)) same ∙ (any_entries (is_at_most v) es ∙ list_any_at (λ (x : Entry). is_at_most v x.vector) es i e l here))
 
 -- an entry of a front that is shaped
-pub item_shaped : (s : SpecValue) (entries : List EntryValue) (es : List Entry) (i : ℕ) (e : Entry) → map as_seen es ≡ entries → All (IsShaped s) entries → i < length entries → e ≡ get_or es i e → IsShaped s (as_seen e)
+pub item_shaped : (s : SpecValue) (entries : List EntryValue) (es : List Entry) (i : ℕ) (e : Entry) → map as_seen es ≡ entries → All (IsShaped s) entries → i < length entries → e ≡ get_or es i e
+    → IsShaped s (as_seen e)
 item_shaped s entries es i e same h l is =
     let within : i < length es = omega (arith, l, ap length same, length-map es as_seen) in
     let there : get_or entries i (as_seen e) ≡ as_seen e = ap (λ (xs : List EntryValue). get_or xs i (as_seen e)) (sym same) ∙ (get_or-map as_seen es i e (as_seen e) within ∙ ap as_seen (sym is)) in

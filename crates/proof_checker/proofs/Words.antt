@@ -50,7 +50,8 @@ number_is_text w bad = go (number_of w) refl
     go (Some n) e = (let t = numeral_text w n e in absurd (bad (subst IsUtf8 (sym t.0) (name_text _ (decimal_word n t.1)))))
 
 -- an axiom of a variable that isn't there
-pub far_unknown : (cs st : List Linear) (known x : ℕ) (is_yes : Bool) (w : List ℕ) → op_of w ≡ Some (Axiom (record { var = x; yes = is_yes })) → KnowsBelow cs known → known ≤ x → judge_op (context_over cs) st (op_of w) ≡ Err (unknown x)
+pub far_unknown : (cs st : List Linear) (known x : ℕ) (is_yes : Bool) (w : List ℕ) → op_of w ≡ Some (Axiom (record { var = x; yes = is_yes })) → KnowsBelow cs known → known ≤ x
+    → judge_op (context_over cs) st (op_of w) ≡ Err (unknown x)
 far_unknown cs st known x is_yes w e knows l =
     let l' : Literal = record { var = x; yes = is_yes } in
     let small : x < 2 ^ 63 = (says w (Axiom l') e).writable in

@@ -51,7 +51,8 @@ words_say : (ws : Words) (l : Line) → line_said ws ≡ Some l → SaysLine ws 
 words_say [] l e = absurd cc
 words_say (k ∷ ws) l e = go (bytes_eq k (codes "p")) (bytes_eq k (codes "c")) refl refl e
   where
-    go : (a b : Bool) → bytes_eq k (codes "p") ≡ a → bytes_eq k (codes "c") ≡ b → cond a (option_map derived (each_said op_of ws)) (cond b (option_map cover (each_said number_of ws)) None) ≡ Some l → SaysLine (k ∷ ws) l
+    go : (a b : Bool) → bytes_eq k (codes "p") ≡ a → bytes_eq k (codes "c") ≡ b → cond a (option_map derived (each_said op_of ws)) (cond b (option_map cover (each_said number_of ws)) None)
+        ≡ Some l → SaysLine (k ∷ ws) l
     go true b p q f = derived_said (k ∷ ws) ws l (ap (λ (w : List ℕ). w ∷ ws) (same_word k (codes "p") p)) f
     go false true p q f = cover_said (k ∷ ws) ws l (ap (λ (w : List ℕ). w ∷ ws) (same_word k (codes "c") q)) f
     go false false p q f = absurd cc

@@ -30,11 +30,13 @@ first_said {X} read w ws xs e = go (read w) (each_said read ws) refl refl e
     go (Some x) None a b f = absurd cc
     go (Some x) (Some more) a b f = record { first = x; more = more; said = a; others = b; is = cc }
 
-pub said_cons : {X : Type 0} (read : List ℕ → Option X) (w : List ℕ) (ws : List (List ℕ)) (x : X) (xs : List X) → read w ≡ Some x → each_said read ws ≡ Some xs → each_said read (w ∷ ws) ≡ Some (x ∷ xs)
+pub said_cons : {X : Type 0} (read : List ℕ → Option X) (w : List ℕ) (ws : List (List ℕ)) (x : X) (xs : List X) → read w ≡ Some x → each_said read ws ≡ Some xs
+    → each_said read (w ∷ ws) ≡ Some (x ∷ xs)
 said_cons {X} read w ws x xs a b = ap (λ (o : Option X). with_said o (each_said read ws)) a ∙ ap (onto_said x) b
 
 -- what is written one by one reads back
-pub said_back : {X : Type 0} (write : X → List ℕ) (read : List ℕ → Option X) (P : X → Type 0) → ((x : X) → P x → read (write x) ≡ Some x) → (xs : List X) → All P xs → each_said read (map write xs) ≡ Some xs
+pub said_back : {X : Type 0} (write : X → List ℕ) (read : List ℕ → Option X) (P : X → Type 0) → ((x : X) → P x → read (write x) ≡ Some x) → (xs : List X) → All P xs
+    → each_said read (map write xs) ≡ Some xs
 said_back write read P back [] all = refl
 said_back write read P back (x ∷ xs) all = said_cons read (write x) (map write xs) x xs (back x (All-head P x xs all)) (said_back write read P back xs (All-tail P x xs all))
 
@@ -54,7 +56,8 @@ pub record AreTexts {X : Type 0} (write : X → List ℕ) (P : X → Type 0) (ws
   pub text : ws ≡ map write xs
   pub each : All P xs
 
-pub said_texts : {X : Type 0} (write : X → List ℕ) (read : List ℕ → Option X) (P : X → Type 0) → ((w : List ℕ) (x : X) → read w ≡ Some x → (w ≡ write x) × P x) → (ws : List (List ℕ)) (xs : List X) → each_said read ws ≡ Some xs → AreTexts write P ws xs
+pub said_texts : {X : Type 0} (write : X → List ℕ) (read : List ℕ → Option X) (P : X → Type 0) → ((w : List ℕ) (x : X) → read w ≡ Some x → (w ≡ write x) × P x) → (ws : List (List ℕ)) (xs : List X)
+    → each_said read ws ≡ Some xs → AreTexts write P ws xs
 said_texts {X} write read P one [] xs e = go xs cc
   where
     go : (xs : List X) → [] ≡ xs → AreTexts write P [] xs

@@ -19,7 +19,8 @@ changes-put old new c o p = record {
   others = λ d n. attached_at-slot new d ∙ p.others d.0 (λ z. n (same_id d c z)) ∙ sym (attached_at-slot old d);
 }
 
-pub stays-attached : (held : List Attached) (c : ConId) (k : Linear) (o : Option Linear) → is_some o ≡ true → attached_at held c ≡ o → ((l : Linear) → attached_at held c ≡ Some l → k ≡ l) → ChangesOnly held held c (Some k)
+pub stays-attached : (held : List Attached) (c : ConId) (k : Linear) (o : Option Linear) → is_some o ≡ true → attached_at held c ≡ o → ((l : Linear) → attached_at held c ≡ Some l → k ≡ l)
+    → ChangesOnly held held c (Some k)
 stays-attached held c k None h e f = absurd (cc)
 stays-attached held c k (Some l) h e f = record { here = e ∙ ap (λ (m : Linear). Some m) (sym (f l e)); others = λ d n. refl }
 

@@ -40,7 +40,8 @@ given-all n slots rooms w ls s = record {
 }
 
 -- a constraint that was quiet, once a literal gave back what it took
-quiet-given : (room back : ℕ) (ls off : List Literal) (l : Literal) (c : Linear) → IsQuietBut room (value_of (ls ++ l ∷ [])) off c → back ≡ room + weight_of (number_of (opposite_of l)) c.terms → IsQuietBut back (value_of ls) (l ∷ off) c
+quiet-given : (room back : ℕ) (ls off : List Literal) (l : Literal) (c : Linear) → IsQuietBut room (value_of (ls ++ l ∷ [])) off c → back ≡ room + weight_of (number_of (opposite_of l)) c.terms
+    → IsQuietBut back (value_of ls) (l ∷ off) c
 quiet-given room back ls off l c p is =
     let nc = p.no_conflict in
     record {
@@ -56,7 +57,8 @@ quiet-given room back ls off l c p is =
           ]);
     }
   where
-    opposite : (k : ℕ) (d : Term) → k < length c.terms → l.var ≡ (get_or c.terms k d).lit.var → value_of (l ∷ off) (get_or c.terms k d).lit.var ≢ Some (get_or c.terms k d).lit.yes → (a b : Bool) → l.yes ≡ a → (get_or c.terms k d).lit.yes ≡ b → c.degree + (get_or c.terms k d).coef ≤ back
+    opposite : (k : ℕ) (d : Term) → k < length c.terms → l.var ≡ (get_or c.terms k d).lit.var → value_of (l ∷ off) (get_or c.terms k d).lit.var ≢ Some (get_or c.terms k d).lit.yes → (a b : Bool)
+        → l.yes ≡ a → (get_or c.terms k d).lit.yes ≡ b → c.degree + (get_or c.terms k d).coef ≤ back
     opposite k d lt s g true true a b = (let v = value-own off l (get_or c.terms k d).lit.var s in absurd (g (v ∙ ap (λ (x : Bool). Some x) (a ∙ sym b))))
     opposite k d lt s g false false a b = (let v = value-own off l (get_or c.terms k d).lit.var s in absurd (g (v ∙ ap (λ (x : Bool). Some x) (a ∙ sym b))))
     opposite k d lt s g true false a b = (
@@ -78,7 +80,8 @@ other x y a b p q n e = n (sym p ∙ inside x y e ∙ q)
     inside x y e = cc
 
 -- and once it waits, or can't force the literal
-quiet-woken : (room limit own : ℕ) (ls off : List Literal) (l : Literal) (c : Linear) → IsLimited limit c → IsQuietBut room (value_of ls) (l ∷ off) c → own ≡ weight_of (number_of l) c.terms → (own ≡ 0) ⊎ (limit ≤ room) → IsQuietBut room (value_of ls) off c
+quiet-woken : (room limit own : ℕ) (ls off : List Literal) (l : Literal) (c : Linear) → IsLimited limit c → IsQuietBut room (value_of ls) (l ∷ off) c → own ≡ weight_of (number_of l) c.terms
+    → (own ≡ 0) ⊎ (limit ≤ room) → IsQuietBut room (value_of ls) off c
 quiet-woken room limit own ls off l c limited p own-is w =
     let nc = p.no_conflict in
     elim w [
@@ -94,7 +97,8 @@ quiet-woken room limit own ls off l c limited p own-is w =
       }
     ]
   where
-    own_literal : (k : ℕ) (d : Term) → k < length c.terms → l.var ≡ (get_or c.terms k d).lit.var → value_of ls (get_or c.terms k d).lit.var ≡ None → own ≡ 0 → (a b : Bool) → l.yes ≡ a → (get_or c.terms k d).lit.yes ≡ b → c.degree + (get_or c.terms k d).coef ≤ room
+    own_literal : (k : ℕ) (d : Term) → k < length c.terms → l.var ≡ (get_or c.terms k d).lit.var → value_of ls (get_or c.terms k d).lit.var ≡ None → own ≡ 0 → (a b : Bool) → l.yes ≡ a
+        → (get_or c.terms k d).lit.yes ≡ b → c.degree + (get_or c.terms k d).coef ≤ room
     own_literal k d lt s f z true true a b = (
         let e : number_of (get_or c.terms k d).lit ≡ number_of l = rw (a, b) (omega arith) in
         let h = weight_of-term (number_of l) c.terms k d lt e in
@@ -109,7 +113,9 @@ quiet-woken room limit own ls off l c limited p own-is w =
     own_literal k d lt s f z false true a b = p.none_forced k d lt f (λ e. other l.yes (get_or c.terms k d).lit.yes false true a b (λ x. cc) (sym (value-own off l (get_or c.terms k d).lit.var s) ∙ e))
 
 -- what the literal that is taken off gives back
-pub given-fits : (n : ℕ) (slots : List (Option Linear)) (limits rooms : List ℕ) (lists : List (List Occurrence)) (ls : List Literal) (l : Literal) → IsBuilt n slots limits lists → ((i : ℕ) → get_or rooms i 0 ≡ open_weight (value_of (ls ++ l ∷ [])) (linear_at slots i).terms) → AreDistinct (ls ++ l ∷ []) → (i : ℕ) → get_or rooms i 0 + weight_at i (occurrences_of lists (number_of (opposite_of l))) < 2 ^ 63
+pub given-fits : (n : ℕ) (slots : List (Option Linear)) (limits rooms : List ℕ) (lists : List (List Occurrence)) (ls : List Literal) (l : Literal) → IsBuilt n slots limits lists
+    → ((i : ℕ) → get_or rooms i 0 ≡ open_weight (value_of (ls ++ l ∷ [])) (linear_at slots i).terms) → AreDistinct (ls ++ l ∷ []) → (i : ℕ)
+    → get_or rooms i 0 + weight_at i (occurrences_of lists (number_of (opposite_of l))) < 2 ^ 63
 given-fits n slots limits rooms lists ls l b sums distinct i =
     let ts = (linear_at slots i).terms in
     let free = distinct-last ls l distinct in
@@ -121,7 +127,9 @@ given-fits n slots limits rooms lists ls l b sums distinct i =
     omega (arith, a, r, m, c, d)
 
 -- the last counted literal gave back what it took
-pub given-more : (n : ℕ) (slots : List (Option Linear)) (limits rooms rooms' : List ℕ) (lists : List (List Occurrence)) (w : List Bool) (ls off : List Literal) (l : Literal) → IsBuilt n slots limits lists → IsGivenBack n slots rooms w (ls ++ l ∷ []) off → GaveRooms (occurrences_of lists (number_of (opposite_of l))) rooms rooms' → IsGivenBack n slots rooms' w ls (l ∷ off)
+pub given-more : (n : ℕ) (slots : List (Option Linear)) (limits rooms rooms' : List ℕ) (lists : List (List Occurrence)) (w : List Bool) (ls off : List Literal) (l : Literal)
+    → IsBuilt n slots limits lists → IsGivenBack n slots rooms w (ls ++ l ∷ []) off → GaveRooms (occurrences_of lists (number_of (opposite_of l))) rooms rooms'
+    → IsGivenBack n slots rooms' w ls (l ∷ off)
 given-more n slots limits rooms rooms' lists w ls off l b s g =
     let free = distinct-last ls l s.distinct in
     let len = length_push ls l in
@@ -146,7 +154,8 @@ given-more n slots limits rooms rooms' lists w ls off l b s g =
     }
 
 -- those that may force one of the literals wait
-pub given-woken : (n : ℕ) (slots : List (Option Linear)) (limits rooms : List ℕ) (lists : List (List Occurrence)) (w w' : List Bool) (ls off : List Literal) (l : Literal) → IsBuilt n slots limits lists → IsGivenBack n slots rooms w ls (l ∷ off) → Woke (occurrences_of lists (number_of l)) limits rooms w w' → IsGivenBack n slots rooms w' ls off
+pub given-woken : (n : ℕ) (slots : List (Option Linear)) (limits rooms : List ℕ) (lists : List (List Occurrence)) (w w' : List Bool) (ls off : List Literal) (l : Literal)
+    → IsBuilt n slots limits lists → IsGivenBack n slots rooms w ls (l ∷ off) → Woke (occurrences_of lists (number_of l)) limits rooms w w' → IsGivenBack n slots rooms w' ls off
 given-woken n slots limits rooms lists w w' ls off l b s k =
     let B : Literal → Type 0 = λ m. m.var < n in
     record {
@@ -154,7 +163,9 @@ given-woken n slots limits rooms lists w w' ls off l b s k =
       distinct = s.distinct;
       below = s.below;
       off_below = All-tail B l off s.off_below;
-      quiet = λ i z. quiet-woken (get_or rooms i 0) (get_or limits i 0) (weight_at i (occurrences_of lists (number_of l))) ls off l (linear_at slots i) (b.limited i) (s.quiet i (k.waits i z)) (b.weights i (number_of l)) (k.quiet i z);
+      quiet =
+          λ i z. quiet-woken (get_or rooms i 0) (get_or limits i 0) (weight_at i (occurrences_of lists (number_of l))) ls off l (linear_at slots i) (b.limited i) (s.quiet i (k.waits i z))
+          (b.weights i (number_of l)) (k.quiet i z);
     }
 
 -- the literals from a place on

@@ -30,7 +30,8 @@ stays_gone mid new c d h p = elim (cases_eq d.0 c.0) [
   | inr n ↦ (h.others d (λ z. n (ap (λ (x : ConId). x.0) z)) ∙ p)
 ]
 
-pub drops-more : (ids : List ConId) (i : ℕ) (c : ConId) (old mid new : List Attached) → i < length ids → c ≡ get_or ids i c → Drops (take i ids) old mid → ChangesOnly mid new c None → Drops (take (i + 1) ids) old new
+pub drops-more : (ids : List ConId) (i : ℕ) (c : ConId) (old mid new : List Attached) → i < length ids → c ≡ get_or ids i c → Drops (take i ids) old mid → ChangesOnly mid new c None
+    → Drops (take (i + 1) ids) old new
 drops-more ids i c old mid new h is p e =
     let P : List ConId → Type 0 = λ cs. Drops cs old new in
     let N : ConId → Type 0 = λ x. attached_at new x ≡ None in

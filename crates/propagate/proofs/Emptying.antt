@@ -28,7 +28,8 @@ abbrev as_linear : Option Linear → Linear
 as_linear o = unwrap_or o nothing
 
 -- what holds of a slot's constraint and of nothing
-at-cleared : (slots slots' : List (Option Linear)) (rooms rooms' : List ℕ) (P : Linear → Type 0) → AreCleared slots slots' rooms rooms' → P nothing → (i : ℕ) → P (linear_at slots i) → P (linear_at slots' i)
+at-cleared : (slots slots' : List (Option Linear)) (rooms rooms' : List ℕ) (P : Linear → Type 0) → AreCleared slots slots' rooms rooms' → P nothing → (i : ℕ) → P (linear_at slots i)
+    → P (linear_at slots' i)
 at-cleared slots slots' rooms rooms' P a none i here = elim (a.each i) [
   | inl w ↦ subst P (sym (ap as_linear w.0)) here
   | inr w ↦ subst P (sym (ap as_linear w.0)) none
@@ -38,13 +39,15 @@ occurrences-filtered : (p : Occurrence → Bool) (lists : List (List Occurrence)
 occurrences-filtered p lists k = get_or-map (filter p) lists k []
 
 -- one more of the lists is through
-pub through-more : {V : Type 0} → (vs : List V) (f : V → List Occurrence) (g : List Occurrence → List Occurrence) (old : List (List Occurrence)) (i : ℕ) (v w : V) → i < length vs → length vs ≡ length old → v ≡ get_or vs i v → f w ≡ g (f (get_or vs i v)) → map f vs ≡ map g (take i old) ++ drop i old → map f (set vs i w) ≡ map g (take (i + 1) old) ++ drop (i + 1) old
+pub through-more : {V : Type 0} → (vs : List V) (f : V → List Occurrence) (g : List Occurrence → List Occurrence) (old : List (List Occurrence)) (i : ℕ) (v w : V) → i < length vs
+    → length vs ≡ length old → v ≡ get_or vs i v → f w ≡ g (f (get_or vs i v)) → map f vs ≡ map g (take i old) ++ drop i old → map f (set vs i w) ≡ map g (take (i + 1) old) ++ drop (i + 1) old
 through-more vs f g old i v w h same is e so =
     let at : f v ≡ get_or (map f vs) i (f v) = ap f is ∙ sym (get_or-map-within f vs i v (f v) h) in
     map-set f vs i w ∙ ap (set (map f vs) i) (e ∙ ap (λ u. g (f u)) (sym is)) ∙ map_over_more g old (map f vs) i (f v) (omega arith) so at
 
 -- each slot has the occurrences of what stands in it now
-weights-cleared : (n : ℕ) (slots slots' : List (Option Linear)) (limits rooms rooms' : List ℕ) (lists : List (List Occurrence)) → IsBuilt n slots limits lists → AreCleared slots slots' rooms rooms' → (i k : ℕ) → weight_at i (filter (is_filled slots') (occurrences_of lists k)) ≡ weight_of k (linear_at slots' i).terms
+weights-cleared : (n : ℕ) (slots slots' : List (Option Linear)) (limits rooms rooms' : List ℕ) (lists : List (List Occurrence)) → IsBuilt n slots limits lists
+    → AreCleared slots slots' rooms rooms' → (i k : ℕ) → weight_at i (filter (is_filled slots') (occurrences_of lists k)) ≡ weight_of k (linear_at slots' i).terms
 weights-cleared n slots slots' limits rooms rooms' lists b a i k = go (get_or slots' i empty) refl
   where
     os : List Occurrence
@@ -63,7 +66,8 @@ weights-cleared n slots slots' limits rooms rooms' lists b a i k = go (get_or sl
     go None s = weight_at-gone (is_filled slots') i os (λ o e. own o e ∙ ap (λ (u : Option Linear). is_some u) s) ∙ sym (ap (λ (u : Option Linear). weight_of k (as_linear u).terms) s)
     go (Some c) s = weight_at-kept (is_filled slots') i os (λ o e. own o e ∙ ap (λ (u : Option Linear). is_some u) s) ∙ b.weights i k ∙ ap (λ (d : Linear). weight_of k d.terms) (stays c s)
 
-pub built-cleared : (n : ℕ) (slots slots' : List (Option Linear)) (limits rooms rooms' : List ℕ) (lists lists' : List (List Occurrence)) → IsBuilt n slots limits lists → AreCleared slots slots' rooms rooms' → lists' ≡ map (filter (is_filled slots')) lists → IsBuilt n slots' limits lists'
+pub built-cleared : (n : ℕ) (slots slots' : List (Option Linear)) (limits rooms rooms' : List ℕ) (lists lists' : List (List Occurrence)) → IsBuilt n slots limits lists
+    → AreCleared slots slots' rooms rooms' → lists' ≡ map (filter (is_filled slots')) lists → IsBuilt n slots' limits lists'
 built-cleared n slots slots' limits rooms rooms' lists lists' b a e =
     let P : List (List Occurrence) → Type 0 = λ us. IsBuilt n slots' limits us in
     let B : Occurrence → Type 0 = λ o. o.slot < length slots' in

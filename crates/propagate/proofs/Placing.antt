@@ -47,7 +47,8 @@ miss a b n = grind (arith, nat_tests)
 pub Added-none : (slot : ℕ) (ts : List Term) (lists : List (List Occurrence)) → ((k : ℕ) → weight_at slot (occurrences_of lists k) ≡ 0) → Added slot (take 0 ts) lists lists
 Added-none slot ts lists h = record { same_length = refl; own = λ k. h k; others = λ i k n. refl; inside = λ n k l p. p }
 
-pub Added-more : (slot : ℕ) (ts : List Term) (i : ℕ) (t : Term) (lists mid new : List (List Occurrence)) → Added slot (take i ts) lists mid → i < length ts → t ≡ get_or ts i t → number_of t.lit < length lists → new ≡ set mid (number_of t.lit) (occurrences_of mid (number_of t.lit) ++ record { slot = slot; coef = t.coef } ∷ []) → Added slot (take (i + 1) ts) lists new
+pub Added-more : (slot : ℕ) (ts : List Term) (i : ℕ) (t : Term) (lists mid new : List (List Occurrence)) → Added slot (take i ts) lists mid → i < length ts → t ≡ get_or ts i t
+    → number_of t.lit < length lists → new ≡ set mid (number_of t.lit) (occurrences_of mid (number_of t.lit) ++ record { slot = slot; coef = t.coef } ∷ []) → Added slot (take (i + 1) ts) lists new
 Added-more slot ts i t lists mid new p h is lt e =
     let k0 = number_of t.lit in
     let one : Occurrence = record { slot = slot; coef = t.coef } in
@@ -137,7 +138,8 @@ is_other-else slot i n o e = ap not (miss o.slot slot (λ z. n (sym e ∙ z)))
 pub Removed-none : (slot : ℕ) (ts : List Term) (lists : List (List Occurrence)) → ((k : ℕ) → weight_at slot (occurrences_of lists k) ≤ weight_of k ts) → Removed slot (drop 0 ts) lists lists
 Removed-none slot ts lists h = record { same_length = refl; own = λ k. h k; others = λ i k n. refl; inside = λ n k p. p }
 
-pub Removed-more : (slot : ℕ) (ts : List Term) (i : ℕ) (t : Term) (lists mid new : List (List Occurrence)) → Removed slot (drop i ts) lists mid → i < length ts → t ≡ get_or ts i t → number_of t.lit < length lists → new ≡ set mid (number_of t.lit) (filter (is_other slot) (occurrences_of mid (number_of t.lit))) → Removed slot (drop (i + 1) ts) lists new
+pub Removed-more : (slot : ℕ) (ts : List Term) (i : ℕ) (t : Term) (lists mid new : List (List Occurrence)) → Removed slot (drop i ts) lists mid → i < length ts → t ≡ get_or ts i t
+    → number_of t.lit < length lists → new ≡ set mid (number_of t.lit) (filter (is_other slot) (occurrences_of mid (number_of t.lit))) → Removed slot (drop (i + 1) ts) lists new
 Removed-more slot ts i t lists mid new p h is lt e =
     let k0 = number_of t.lit in
     let os = filter (is_other slot) (occurrences_of mid k0) in
@@ -179,7 +181,8 @@ Removed-more slot ts i t lists mid new p h is lt e =
     })
 
 -- the occurrences of the first terms are taken out again
-pub Added-undone : (slot : ℕ) (ts : List Term) (i : ℕ) (lists mid new : List (List Occurrence)) → ((k : ℕ) → weight_at slot (occurrences_of lists k) ≡ 0) → Added slot (take i ts) lists mid → Removed slot [] mid new → Added slot [] lists new
+pub Added-undone : (slot : ℕ) (ts : List Term) (i : ℕ) (lists mid new : List (List Occurrence)) → ((k : ℕ) → weight_at slot (occurrences_of lists k) ≡ 0) → Added slot (take i ts) lists mid
+    → Removed slot [] mid new → Added slot [] lists new
 Added-undone slot ts i lists mid new none p r = record {
   same_length = r.same_length ∙ p.same_length;
   own = λ k. (let a = r.own k in omega (arith, a));
@@ -216,7 +219,8 @@ on-ok (Ok x) a b h k = k
 on-ok (Err e) a b h k = absurd (cc)
 
 -- what room for slots leaves
-pub built-grown : (n : ℕ) (slots slots' : List (Option Linear)) (limits limits' : List ℕ) (lists : List (List Occurrence)) → IsBuilt n slots limits lists → ((i : ℕ) → get_or slots' i empty ≡ get_or slots i empty) → length slots ≤ length slots' → ((i : ℕ) → get_or limits' i 0 ≡ get_or limits i 0) → IsBuilt n slots' limits' lists
+pub built-grown : (n : ℕ) (slots slots' : List (Option Linear)) (limits limits' : List ℕ) (lists : List (List Occurrence)) → IsBuilt n slots limits lists
+    → ((i : ℕ) → get_or slots' i empty ≡ get_or slots i empty) → length slots ≤ length slots' → ((i : ℕ) → get_or limits' i 0 ≡ get_or limits i 0) → IsBuilt n slots' limits' lists
 built-grown n slots slots' limits limits' lists b s l m =
     let V : Linear → Type 0 = λ k. VarsBelow n k.terms in
     let T : Linear → Type 0 = λ k. total k.terms < 2 ^ 63 in
@@ -234,7 +238,8 @@ built-grown n slots slots' limits limits' lists b s l m =
           subst Q (sym (is i)) (subst P (sym (m i)) (b.limited i)));
     }
 
-pub step-grown : (n : ℕ) (slots slots' : List (Option Linear)) (rooms rooms' : List ℕ) (w w' : List Bool) (ls : List Literal) (q : ℕ → Option Bool) → IsInStep n slots rooms w ls q → ((i : ℕ) → get_or slots' i empty ≡ get_or slots i empty) → ((i : ℕ) → get_or rooms' i 0 ≡ get_or rooms i 0) → ((i : ℕ) → is_waiting w' i ≡ is_waiting w i) → IsInStep n slots' rooms' w' ls q
+pub step-grown : (n : ℕ) (slots slots' : List (Option Linear)) (rooms rooms' : List ℕ) (w w' : List Bool) (ls : List Literal) (q : ℕ → Option Bool) → IsInStep n slots rooms w ls q
+    → ((i : ℕ) → get_or slots' i empty ≡ get_or slots i empty) → ((i : ℕ) → get_or rooms' i 0 ≡ get_or rooms i 0) → ((i : ℕ) → is_waiting w' i ≡ is_waiting w i) → IsInStep n slots' rooms' w' ls q
 step-grown n slots slots' rooms rooms' w w' ls q h s r e =
     let is : (i : ℕ) → linear_at slots' i ≡ linear_at slots i = λ i. ap (λ (o : Option Linear). unwrap_or o nothing) (s i) in
     record {
@@ -260,7 +265,8 @@ pub linear-other : (slots : List (Option Linear)) (i j : ℕ) (o : Option Linear
 linear-other slots i j o n = ap (λ (u : Option Linear). unwrap_or u nothing) (slot-other slots i j o n)
 
 -- what holds of the new constraint and of the others
-pub at-each : (slots : List (Option Linear)) (i : ℕ) (o : Option Linear) (P : ℕ → Linear → Type 0) → i < length slots → P i (unwrap_or o nothing) → ((j : ℕ) → j ≢ i → P j (linear_at slots j)) → (j : ℕ) → P j (linear_at (set slots i o) j)
+pub at-each : (slots : List (Option Linear)) (i : ℕ) (o : Option Linear) (P : ℕ → Linear → Type 0) → i < length slots → P i (unwrap_or o nothing) → ((j : ℕ) → j ≢ i → P j (linear_at slots j))
+    → (j : ℕ) → P j (linear_at (set slots i o) j)
 at-each slots i o P h here others j = elim (cases_eq j i) [
   | inl e ↦ (
       let Q : ℕ → Type 0 = λ m. P m (linear_at (set slots i o) m) in
@@ -270,7 +276,10 @@ at-each slots i o P h here others j = elim (cases_eq j i) [
 ]
 
 -- a slot that is filled, or emptied: what is given of its constraint, and the lists and limits of the others as before
-pub built-set : (n i limit : ℕ) (o : Option Linear) (slots : List (Option Linear)) (limits : List ℕ) (lists lists' : List (List Occurrence)) → IsBuilt n slots limits lists → i < length slots → i < length limits → VarsBelow n (unwrap_or o nothing).terms → total (unwrap_or o nothing).terms < 2 ^ 63 → IsLimited limit (unwrap_or o nothing) → length lists' ≡ length lists → ((k : ℕ) → SlotsBelow (length slots) (occurrences_of lists' k)) → ((k : ℕ) → weight_at i (occurrences_of lists' k) ≡ weight_of k (unwrap_or o nothing).terms) → ((j k : ℕ) → j ≢ i → weight_at j (occurrences_of lists' k) ≡ weight_at j (occurrences_of lists k)) → IsBuilt n (set slots i o) (set limits i limit) lists'
+pub built-set : (n i limit : ℕ) (o : Option Linear) (slots : List (Option Linear)) (limits : List ℕ) (lists lists' : List (List Occurrence)) → IsBuilt n slots limits lists → i < length slots
+    → i < length limits → VarsBelow n (unwrap_or o nothing).terms → total (unwrap_or o nothing).terms < 2 ^ 63 → IsLimited limit (unwrap_or o nothing) → length lists' ≡ length lists
+    → ((k : ℕ) → SlotsBelow (length slots) (occurrences_of lists' k)) → ((k : ℕ) → weight_at i (occurrences_of lists' k) ≡ weight_of k (unwrap_or o nothing).terms)
+    → ((j k : ℕ) → j ≢ i → weight_at j (occurrences_of lists' k) ≡ weight_at j (occurrences_of lists k)) → IsBuilt n (set slots i o) (set limits i limit) lists'
 built-set n i limit o slots limits lists lists' b h h' range small limited len inside own others =
     let wide = b.wide in
     let V : ℕ → Linear → Type 0 = λ j c. VarsBelow n c.terms in
@@ -289,7 +298,8 @@ built-set n i limit o slots limits lists lists' b h h' range small limited len i
           (λ j z. (let P : ℕ → Type 0 = λ x. IsLimited x (linear_at slots j) in subst P (sym (get_or-set_other limits i j limit 0 z)) (b.limited j)));
     }
 
-pub step-filled : (n i room : ℕ) (c : Linear) (slots : List (Option Linear)) (rooms : List ℕ) (w w' : List Bool) (ls : List Literal) (q : ℕ → Option Bool) → IsInStep n slots rooms w ls q → i < length slots → i < length rooms → room ≡ open_weight (value_of ls) c.terms → Awaits i w w' → IsInStep n (set slots i (Some c)) (set rooms i room) w' ls q
+pub step-filled : (n i room : ℕ) (c : Linear) (slots : List (Option Linear)) (rooms : List ℕ) (w w' : List Bool) (ls : List Literal) (q : ℕ → Option Bool) → IsInStep n slots rooms w ls q
+    → i < length slots → i < length rooms → room ≡ open_weight (value_of ls) c.terms → Awaits i w w' → IsInStep n (set slots i (Some c)) (set rooms i room) w' ls q
 step-filled n i room c slots rooms w w' ls q s h h' is a =
     let S : ℕ → Linear → Type 0 = λ j k. get_or (set rooms i room) j 0 ≡ open_weight (value_of ls) k.terms in
     let Q : ℕ → Linear → Type 0 = λ j k. is_waiting w' j ≡ false → IsQuiet (get_or (set rooms i room) j 0) q k in
@@ -297,13 +307,16 @@ step-filled n i room c slots rooms w w' ls q s h h' is a =
       sums = at-each slots i (Some c) S h (get_or-set_same rooms i room 0 h' ∙ is) (λ j z. get_or-set_other rooms i j room 0 z ∙ s.sums j);
       distinct = s.distinct;
       below = s.below;
-      quiet = at-each slots i (Some c) Q h (λ z. absurd (a.here z)) (λ j n z. (let P : ℕ → Type 0 = λ x. IsQuiet x q (linear_at slots j) in subst P (sym (get_or-set_other rooms i j room 0 n)) (s.quiet j (a.others j z))));
+      quiet =
+          at-each slots i (Some c) Q h (λ z. absurd (a.here z)) (λ j n z. (let P : ℕ → Type 0 = λ x. IsQuiet x q (linear_at slots j) in
+          subst P (sym (get_or-set_other rooms i j room 0 n)) (s.quiet j (a.others j z))));
     }
 
 pub limited-nothing : (limit : ℕ) → IsLimited limit nothing
 limited-nothing limit = record { degree = omega arith; terms = λ k d h. absurd (omega arith) }
 
-pub step-emptied : (n i : ℕ) (slots : List (Option Linear)) (rooms : List ℕ) (w : List Bool) (ls : List Literal) (q : ℕ → Option Bool) → IsInStep n slots rooms w ls q → i < length slots → i < length rooms → IsInStep n (set slots i empty) (set rooms i 0) w ls q
+pub step-emptied : (n i : ℕ) (slots : List (Option Linear)) (rooms : List ℕ) (w : List Bool) (ls : List Literal) (q : ℕ → Option Bool) → IsInStep n slots rooms w ls q → i < length slots
+    → i < length rooms → IsInStep n (set slots i empty) (set rooms i 0) w ls q
 step-emptied n i slots rooms w ls q s h h' =
     let S : ℕ → Linear → Type 0 = λ j k. get_or (set rooms i 0) j 0 ≡ open_weight (value_of ls) k.terms in
     let Q : ℕ → Linear → Type 0 = λ j k. is_waiting w j ≡ false → IsQuiet (get_or (set rooms i 0) j 0) q k in
@@ -311,5 +324,6 @@ step-emptied n i slots rooms w ls q s h h' =
       sums = at-each slots i empty S h (get_or-set_same rooms i 0 0 h') (λ j z. get_or-set_other rooms i j 0 0 z ∙ s.sums j);
       distinct = s.distinct;
       below = s.below;
-      quiet = at-each slots i empty Q h (λ z. record { no_conflict = omega arith; none_forced = λ k d g. absurd (omega arith) }) (λ j n z. (let P : ℕ → Type 0 = λ x. IsQuiet x q (linear_at slots j) in subst P (sym (get_or-set_other rooms i j 0 0 n)) (s.quiet j z)));
+      quiet = at-each slots i empty Q h (λ z. record { no_conflict = omega arith; none_forced = λ k d g. absurd (omega arith) })
+          (λ j n z. (let P : ℕ → Type 0 = λ x. IsQuiet x q (linear_at slots j) in subst P (sym (get_or-set_other rooms i j 0 0 n)) (s.quiet j z)));
     }

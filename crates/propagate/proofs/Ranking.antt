@@ -23,7 +23,8 @@ falling-from ts small up i j d le lt =
     omega (arith, a, b, c)
 
 -- one more coefficient that isn't greater
-pub falling-more : (ts : List Term) (k last : ℕ) (t : Term) → k < length ts → t ≡ get_or ts k t → IsFalling (take k ts) → All (λ (u : Term). last ≤ u.coef) (take k ts) → t.coef ≤ last → IsFalling (take (k + 1) ts)
+pub falling-more : (ts : List Term) (k last : ℕ) (t : Term) → k < length ts → t ≡ get_or ts k t → IsFalling (take k ts) → All (λ (u : Term). last ≤ u.coef) (take k ts) → t.coef ≤ last
+    → IsFalling (take (k + 1) ts)
 falling-more ts k last t h at falling bound le i j d ij lt =
     let coef : Term → ℕ = λ u. u.coef in
     let len : length (take (k + 1) ts) ≡ k + 1 = length-take-le (k + 1) ts (omega arith) in
@@ -53,7 +54,8 @@ falling-more ts k last t h at falling bound le i j d ij lt =
     ]
 
 -- and none that was there is less
-pub bound-more : (ts : List Term) (k last : ℕ) (t : Term) → k < length ts → t ≡ get_or ts k t → All (λ (u : Term). last ≤ u.coef) (take k ts) → t.coef ≤ last → All (λ (u : Term). t.coef ≤ u.coef) (take (k + 1) ts)
+pub bound-more : (ts : List Term) (k last : ℕ) (t : Term) → k < length ts → t ≡ get_or ts k t → All (λ (u : Term). last ≤ u.coef) (take k ts) → t.coef ≤ last
+    → All (λ (u : Term). t.coef ≤ u.coef) (take (k + 1) ts)
 bound-more ts k last t h at bound le =
     let P : Term → Type 0 = λ u. t.coef ≤ u.coef in
     All-more P ts k t h (λ j d l. (let b = bound j d l in omega arith)) (subst P at (omega arith))

@@ -24,7 +24,8 @@ pub ready-new : (store : List Live) (t : TrailView) → IsReady (record { variab
 ready-new store t = record { variables = refl; live = λ c k h. absurd (cc); stored = λ c k h. absurd (cc); counted = refl }
 
 -- after attaching a constraint of the store
-pub ready-attach : (p q : PropagatorView) (store : List Live) (t : TrailView) (c : ConId) → IsReady p store t → IsTrue (is_live store c) → ChangesOnly p.attached q.attached c (Some (constraint_of store c)) → q.variables ≡ p.variables → IsCounted q t → IsReady q store t
+pub ready-attach : (p q : PropagatorView) (store : List Live) (t : TrailView) (c : ConId) → IsReady p store t → IsTrue (is_live store c)
+    → ChangesOnly p.attached q.attached c (Some (constraint_of store c)) → q.variables ≡ p.variables → IsCounted q t → IsReady q store t
 ready-attach p q store t c r live change variables counted = record {
   variables = variables ∙ r.variables;
   live = λ d k h. elim (cases_eq d.0 c.0) [
@@ -40,7 +41,8 @@ ready-attach p q store t c r live change variables counted = record {
 }
 
 -- over another trail of as many variables that goes on from the counted literals, as after `run` or `back`
-pub ready-trail : (p q : PropagatorView) (store : List Live) (t u : TrailView) → IsReady p store t → q.attached ≡ p.attached → q.variables ≡ p.variables → u.variables ≡ t.variables → IsCounted q u → IsReady q store u
+pub ready-trail : (p q : PropagatorView) (store : List Live) (t u : TrailView) → IsReady p store t → q.attached ≡ p.attached → q.variables ≡ p.variables → u.variables ≡ t.variables → IsCounted q u
+    → IsReady q store u
 ready-trail p q store t u r attached variables same counted = record {
   variables = variables ∙ r.variables ∙ sym same;
   live = λ c k h. r.live c k (ap (λ (held : List Attached). attached_at held c) (sym attached) ∙ h);
@@ -77,7 +79,8 @@ ready-add p store t e r = record {
 }
 
 -- after a constraint was detached and then removed from the store
-pub ready-remove : (p q : PropagatorView) (store : List Live) (t : TrailView) (c : ConId) → IsReady p store t → ChangesOnly p.attached q.attached c None → q.variables ≡ p.variables → IsCounted q t → IsReady q (without c store) t
+pub ready-remove : (p q : PropagatorView) (store : List Live) (t : TrailView) (c : ConId) → IsReady p store t → ChangesOnly p.attached q.attached c None → q.variables ≡ p.variables → IsCounted q t
+    → IsReady q (without c store) t
 ready-remove p q store t c r change variables counted = record {
   variables = variables ∙ r.variables;
   live = λ d k h. elim (cases_eq d.0 c.0) [
@@ -102,7 +105,8 @@ pub ready-free : (p : PropagatorView) (store : List Live) (t : TrailView) (c : C
 ready-free p store t c r h = ready-remove p p store t c r (record { here = h; others = λ d n. refl }) refl r.counted
 
 -- after constraints were detached
-pub ready-drop : (p q : PropagatorView) (store : List Live) (t : TrailView) (ids : List ConId) → IsReady p store t → Drops ids p.attached q.attached → q.variables ≡ p.variables → IsCounted q t → IsReady q store t
+pub ready-drop : (p q : PropagatorView) (store : List Live) (t : TrailView) (ids : List ConId) → IsReady p store t → Drops ids p.attached q.attached → q.variables ≡ p.variables → IsCounted q t
+    → IsReady q store t
 ready-drop p q store t ids r drops variables counted = record {
   variables = variables ∙ r.variables;
   live = λ d k h. r.live d k (before d k h);
@@ -142,12 +146,14 @@ reached (Some e ∷ ids) d = elim (cases_eq e.0 d.0) [
     none q r zero = λ h. q (ap (λ (c : ConId). c.0) (same e d h))
     none q r (suc n) = r n
 
-    later : e.0 ≢ d.0 → ((n : ℕ) × (get_or ids n None ≡ Some d)) ⊎ ((n : ℕ) → get_or ids n None ≢ Some d) → ((n : ℕ) × (get_or (Some e ∷ ids) n None ≡ Some d)) ⊎ ((n : ℕ) → get_or (Some e ∷ ids) n None ≢ Some d)
+    later : e.0 ≢ d.0 → ((n : ℕ) × (get_or ids n None ≡ Some d)) ⊎ ((n : ℕ) → get_or ids n None ≢ Some d) → ((n : ℕ) × (get_or (Some e ∷ ids) n None ≡ Some d))
+        ⊎ ((n : ℕ) → get_or (Some e ∷ ids) n None ≢ Some d)
     later q (inl r) = inl (suc r.0, r.1)
     later q (inr r) = inr (none q r)
 
 -- after the store gave other ids and the propagator took them
-pub ready-remap : (p q : PropagatorView) (old new : List Live) (ids : List (Option ConId)) (t : TrailView) → IsReady p old t → IsRenaming old new ids → IsOneToOne ids → IsMoved (new_id ids) p.attached q.attached → q.variables ≡ p.variables → IsCounted q t → IsReady q new t
+pub ready-remap : (p q : PropagatorView) (old new : List Live) (ids : List (Option ConId)) (t : TrailView) → IsReady p old t → IsRenaming old new ids → IsOneToOne ids
+    → IsMoved (new_id ids) p.attached q.attached → q.variables ≡ p.variables → IsCounted q t → IsReady q new t
 ready-remap p q old new ids t r renaming one moved variables counted = record {
   variables = variables ∙ r.variables;
   live = λ d k h. (let w = from d k h in (live_at_renamed old new ids w.0 d renaming one w.1).0);

@@ -21,7 +21,8 @@ use Rattle.propagate.proofs.Weights.{value_of-entries}
 abbrev pub lits_of : List Entry → List Literal
 lits_of es = map (λ (e : Entry). e.lit) es
 
-pub took-by : (os os' : List Occurrence) (limits limits' rooms rooms' done : List ℕ) (w w' : List Bool) → os ≡ os' → limits ≡ limits' → rooms ≡ rooms' → TookRooms os limits rooms done w w' → TookRooms os' limits' rooms' done w w'
+pub took-by : (os os' : List Occurrence) (limits limits' rooms rooms' done : List ℕ) (w w' : List Bool) → os ≡ os' → limits ≡ limits' → rooms ≡ rooms' → TookRooms os limits rooms done w w'
+    → TookRooms os' limits' rooms' done w w'
 took-by os os' limits limits' rooms rooms' done w w' a b c t =
     let P : List Occurrence → Type 0 = λ us. TookRooms us limits rooms done w w' in
     let Q : List ℕ → Type 0 = λ us. TookRooms os' us rooms done w w' in
@@ -34,7 +35,8 @@ gave-by os os' rooms rooms' done a c t =
     let R : List ℕ → Type 0 = λ us. GaveRooms os' us done in
     subst R c (subst P a t)
 
-pub woke-by : (os os' : List Occurrence) (limits limits' rooms rooms' : List ℕ) (w w' : List Bool) → os ≡ os' → limits ≡ limits' → rooms ≡ rooms' → Woke os limits rooms w w' → Woke os' limits' rooms' w w'
+pub woke-by : (os os' : List Occurrence) (limits limits' rooms rooms' : List ℕ) (w w' : List Bool) → os ≡ os' → limits ≡ limits' → rooms ≡ rooms' → Woke os limits rooms w w'
+    → Woke os' limits' rooms' w w'
 woke-by os os' limits limits' rooms rooms' w w' a b c t =
     let P : List Occurrence → Type 0 = λ us. Woke us limits rooms w w' in
     let Q : List ℕ → Type 0 = λ us. Woke os' us rooms w w' in
@@ -58,7 +60,8 @@ next-below es n k l below h at =
     subst P (sym a) (below k e h)
 
 -- one more of a trail's literals is counted
-pub next-counted : (ms ls : List Literal) (used : ℕ) (l : Literal) → take used ms ≡ take used ls → used < length ms → used < length ls → l ≡ get_or ls used l → take (used + 1) (set ms used l) ≡ take (used + 1) ls
+pub next-counted : (ms ls : List Literal) (used : ℕ) (l : Literal) → take used ms ≡ take used ls → used < length ms → used < length ls → l ≡ get_or ls used l
+    → take (used + 1) (set ms used l) ≡ take (used + 1) ls
 next-counted ms ls used l same h k at =
     take_more_set ms used l h ∙ ap (λ (us : List Literal). us ++ l ∷ []) same ∙ ap (λ (m : Literal). take used ls ++ m ∷ []) at ∙ sym (take_more ls used l k)
 
@@ -69,7 +72,8 @@ last-counted ls used l h k at =
     ap (λ (n : ℕ). take n ls) e ∙ take_more ls (used - 1) l lt ∙ ap (λ (m : Literal). take (used - 1) ls ++ m ∷ []) (sym at)
 
 -- the list of one literal, where the lists stand in vectors
-pub lists-at : {V : Type 0} → (vs : List V) (f : V → List Occurrence) (lists : List (List Occurrence)) (k k' : ℕ) (v : V) → map f vs ≡ lists → k ≡ k' → k' < length lists → v ≡ get_or vs k v → f v ≡ occurrences_of lists k'
+pub lists-at : {V : Type 0} → (vs : List V) (f : V → List Occurrence) (lists : List (List Occurrence)) (k k' : ℕ) (v : V) → map f vs ≡ lists → k ≡ k' → k' < length lists → v ≡ get_or vs k v
+    → f v ≡ occurrences_of lists k'
 lists-at vs f lists k k' v e q h at =
     let none : List Occurrence = [] in
     let len : length (map f vs) ≡ length vs = length-map vs f in
@@ -77,7 +81,8 @@ lists-at vs f lists k k' v e q h at =
     let lt : k < length vs = omega arith in
     ap f at ∙ sym (get_or-map f vs k v none lt) ∙ ap (λ (us : List (List Occurrence)). get_or us k none) e ∙ ap (λ (n : ℕ). get_or lists n none) q
 
-pub lists-set : {V : Type 0} → (vs : List V) (f : V → List Occurrence) (lists : List (List Occurrence)) (k k' : ℕ) (w : V) (os : List Occurrence) → map f vs ≡ lists → k ≡ k' → f w ≡ os → map f (set vs k w) ≡ set lists k' os
+pub lists-set : {V : Type 0} → (vs : List V) (f : V → List Occurrence) (lists : List (List Occurrence)) (k k' : ℕ) (w : V) (os : List Occurrence) → map f vs ≡ lists → k ≡ k' → f w ≡ os
+    → map f (set vs k w) ≡ set lists k' os
 lists-set vs f lists k k' w os e q is =
     map-set f vs k w ∙ ap (λ (us : List (List Occurrence)). set us k (f w)) e ∙ ap (λ (n : ℕ). set lists n (f w)) q ∙ ap (λ (us : List Occurrence). set lists k' us) is
 
@@ -95,7 +100,8 @@ slot-is slots i o c h at is = get_or_default slots i empty o h ∙ sym at ∙ is
 pub linear-is : (slots : List (Option Linear)) (i : ℕ) (c : Linear) → get_or slots i empty ≡ Some c → linear_at slots i ≡ c
 linear-is slots i c h = rw h refl
 
-pub appends-slot : (slots : List (Option Linear)) (i : ℕ) (c : Linear) (es fs : List Entry) → get_or slots i empty ≡ Some c → Appends (record { id = record { 0 = i }; constraint = c } ∷ []) es fs → Appends (attached_from 0 slots) es fs
+pub appends-slot : (slots : List (Option Linear)) (i : ℕ) (c : Linear) (es fs : List Entry) → get_or slots i empty ≡ Some c → Appends (record { id = record { 0 = i }; constraint = c } ∷ []) es fs
+    → Appends (attached_from 0 slots) es fs
 appends-slot slots i c es fs h a =
     let one : Attached = record { id = record { 0 = i }; constraint = c } in
     Appends-wider (one ∷ []) (attached_from 0 slots) es fs
@@ -125,7 +131,9 @@ weight-same p q (t ∷ ts) h =
     sum_by-cons (f p) t ts ∙ ap (λ (b : Bool). cond b 0 t.coef + open_weight p ts) here ∙ ap (λ (m : ℕ). cond (is_false q t.lit) 0 t.coef + m) ih ∙ sym (sum_by-cons (f q) t ts)
 
 -- the room that is read is that under the trail
-pub room-is : (slots : List (Option Linear)) (rooms : List ℕ) (ls : List Literal) (es : List Entry) (i room : ℕ) (c : Linear) → ls ≡ lits_of es → get_or slots i empty ≡ Some c → i < length rooms → room ≡ get_or rooms i room → get_or rooms i 0 ≡ open_weight (value_of ls) (linear_at slots i).terms → room ≡ open_weight (value_in es) c.terms
+pub room-is : (slots : List (Option Linear)) (rooms : List ℕ) (ls : List Literal) (es : List Entry) (i room : ℕ) (c : Linear) → ls ≡ lits_of es → get_or slots i empty ≡ Some c → i < length rooms
+    → room ≡ get_or rooms i room → get_or rooms i 0 ≡ open_weight (value_of ls) (linear_at slots i).terms → room ≡ open_weight (value_in es) c.terms
 room-is slots rooms ls es i room c counted here lt at sum =
     let d : get_or rooms i 0 ≡ get_or rooms i room = get_or_default rooms i 0 room lt in
-    at ∙ sym d ∙ sum ∙ ap (λ (us : List Literal). open_weight (value_of us) (linear_at slots i).terms) counted ∙ weight-same (value_of (lits_of es)) (value_in es) (linear_at slots i).terms (value_of-entries es) ∙ ap (λ (k : Linear). open_weight (value_in es) k.terms) (linear-is slots i c here)
+    at ∙ sym d ∙ sum ∙ ap (λ (us : List Literal). open_weight (value_of us) (linear_at slots i).terms) counted
+        ∙ weight-same (value_of (lits_of es)) (value_in es) (linear_at slots i).terms (value_of-entries es) ∙ ap (λ (k : Linear). open_weight (value_in es) k.terms) (linear-is slots i c here)

@@ -170,7 +170,8 @@ pub record IsPut (slot : ℕ) (o : Option Linear) (old new : List (Option Linear
 pub record AreCleared (slots slots' : List (Option Linear)) (rooms rooms' : List ℕ) : Type 0 where
   pub same_slots : length slots' ≡ length slots
   pub same_rooms : length rooms' ≡ length rooms
-  pub each : (i : ℕ) → ((slice_index_or slots' i None ≡ slice_index_or slots i None) × (slice_index_or rooms' i 0 ≡ slice_index_or rooms i 0)) ⊎ ((slice_index_or slots' i None ≡ None) × (slice_index_or rooms' i 0 ≡ 0))
+  pub each : (i : ℕ) → ((slice_index_or slots' i None ≡ slice_index_or slots i None) × (slice_index_or rooms' i 0 ≡ slice_index_or rooms i 0))
+      ⊎ ((slice_index_or slots' i None ≡ None) × (slice_index_or rooms' i 0 ≡ 0))
 
 -- an occurrence of one slot in another
 abbrev pub moved_to : ℕ → ℕ → Occurrence → Occurrence

@@ -100,7 +100,8 @@ is_none_of None e = refl
 is_none_of (Some v) e = absurd (let c : true ≡ false = e in cc)
 
 -- the words of a vector's line
-vector_line : (s : SpecValue) (ws : Words) → is_vector ws ≡ true → first_broken (vector_tests s (later_words ws)) ≡ None → (ws ≡ vector_words (vector_numbers ws)) × IsVectorIn s (Some (vector_numbers ws))
+vector_line : (s : SpecValue) (ws : Words) → is_vector ws ≡ true → first_broken (vector_tests s (later_words ws)) ≡ None → (ws ≡ vector_words (vector_numbers ws))
+    × IsVectorIn s (Some (vector_numbers ws))
 vector_line s [] t e = absurd (let c : false ≡ true = t in cc)
 vector_line s (k ∷ ws) t e =
     let b = vector_back s ws e in
@@ -115,7 +116,8 @@ spelt_more s w stated text piece h fine spell =
     let rest : List Test = if is_vector ws then vector_tests s (later_words ws) else (item_tests s ws ++ (NotInOrder, ltb (item_variable s ws) stated.least) ∷ []) in
     let head = none_of (BadStatement, is_some stated.vector || list_any is_empty ws) rest words_fine in
     let no_vector : stated.vector ≡ None = is_none_of stated.vector (neither (is_some stated.vector) (list_any is_empty ws) head.0).0 in
-    let now : text ≡ items_text s (bits_of stated.design) stated.least = h.is ∙ ap (λ (v : Option (List ℕ)). items_text s (bits_of stated.design) stated.least ++ vector_text v) no_vector ∙ append-nil (items_text s (bits_of stated.design) stated.least) in
+    let now : text ≡ items_text s (bits_of stated.design) stated.least = h.is ∙ ap (λ (v : Option (List ℕ)). items_text s (bits_of stated.design) stated.least ++ vector_text v) no_vector
+        ∙ append-nil (items_text s (bits_of stated.design) stated.least) in
     elim (cases_Bool (is_vector ws)) [
       | inl t ↦
           let tests : rest ≡ vector_tests s (later_words ws) = rw t refl in
@@ -154,7 +156,8 @@ spelt_kept : (s : SpecValue) → IsWellFormed s → IsKept (result_rules s) (λ 
 spelt_kept s w = record {
   start = start s;
   more = λ done text piece number h fine ended.
-      subst (λ (x : Stated). IsSpelt s x (text ++ piece)) (sym (with_lines-push s (nothing s) done (line_at number piece))) (spelt_more s w (after s done) text piece h fine (ended_spelled piece ended));
+      subst (λ (x : Stated). IsSpelt s x (text ++ piece)) (sym (with_lines-push s (nothing s) done (line_at number piece)))
+          (spelt_more s w (after s done) text piece h fine (ended_spelled piece ended));
   ended = λ done piece lacks fine. absurd (let c : true ≡ false = sym lacks ∙ (fine_alone piece (words_tests s (after s done) (words_of piece)) fine).ended in cc);
 }
 

@@ -98,7 +98,8 @@ between_back next (k ∷ w ∷ x ∷ more) e = absurd (misshapen_not e)
 abbrev Adds : SpecValue → FrontStated → List ℕ → List ℕ → Place → Type 0
 Adds s stated text piece place = IsFrontSpelt s (next_in s stated (words_of piece) place) (text ++ piece)
 
-header_adds : (s : SpecValue) (stated : FrontStated) (text piece : List ℕ) → All (IsShaped s) stated.entries → TextIn s stated text Header → first_broken (header_tests piece) ≡ None → piece ≡ body_of piece ++ 10 ∷ []
+header_adds : (s : SpecValue) (stated : FrontStated) (text piece : List ℕ) → All (IsShaped s) stated.entries → TextIn s stated text Header → first_broken (header_tests piece) ≡ None
+    → piece ≡ body_of piece ++ 10 ∷ []
     → Adds s stated text piece Header
 header_adds s stated text piece shaped h e ended =
     let a = none_of (NoHeader, not (bytes_eq (body_of piece) (codes "front 1"))) ((BadStatement, lacks_lf piece) ∷ []) e in
@@ -116,7 +117,8 @@ objectives_adds s stated text piece shaped h e =
     let written : text ++ piece ≡ head_text s = ap (λ (t : List ℕ). t ++ piece) h.0 ∙ ap (λ (t : List ℕ). spelled header_words ++ t) line in
     record { shaped = shaped; is = (written ∙ sym (append-nil (head_text s)) ∙ ap (λ (t : List ℕ). head_text s ++ t) (sym no_entries), h.2) }
 
-between_adds : (s : SpecValue) (stated : FrontStated) (text piece : List ℕ) → All (IsShaped s) stated.entries → TextIn s stated text Between → first_broken (tests_in s stated piece Between) ≡ None → piece ≡ body_of piece ++ 10 ∷ []
+between_adds : (s : SpecValue) (stated : FrontStated) (text piece : List ℕ) → All (IsShaped s) stated.entries → TextIn s stated text Between → first_broken (tests_in s stated piece Between) ≡ None
+    → piece ≡ body_of piece ++ 10 ∷ []
     → Adds s stated text piece Between
 between_adds s stated text piece shaped h e ended =
     let ws = words_of piece in

@@ -68,7 +68,8 @@ arc_passes l p q arc t =
     record { link = eqb-true arc.link l two.0; tail = eqb-true arc.tail p two.1; head = eqb-true arc.head q first.1 }
 
 -- the place of the arc at a place
-pub place_of_arc : (arcs : List Arc) (a : ℕ) (d : Arc) → AreArcsDistinct arcs → a < length arcs → position_or_len (is_arc_of (get_or arcs a d).link (get_or arcs a d).tail (get_or arcs a d).head) arcs ≡ a
+pub place_of_arc : (arcs : List Arc) (a : ℕ) (d : Arc) → AreArcsDistinct arcs → a < length arcs → position_or_len (is_arc_of (get_or arcs a d).link (get_or arcs a d).tail (get_or arcs a d).head)
+    arcs ≡ a
 place_of_arc arcs a d distinct lt =
     position_or_len_is (is_arc_of arc.link arc.tail arc.head) arcs a d (omega (arith, lt)) earlier (λ _. is_arc_self arc)
   where

@@ -37,7 +37,8 @@ fit_made tools t a p r s c v few h e =
     let q : explored t a p r s c ≡ v = cc in
     subst (HasFitTools tools) q (record { few = few; within = h.within; rising = h.rising })
 
-fit_named : (tools : ℕ) (t a : Text) (p : Option Text) (n : Option (ℕ × ℕ)) (c : Option (List ℕ)) (v : ExploringValue) → IfSome n (λ k. k.0 ≤ most_rounds) → ((x : List ℕ) → c ≡ Some x → AreFitPlaces tools x) → explore_named t a p n c ≡ Some v → HasFitTools tools v
+fit_named : (tools : ℕ) (t a : Text) (p : Option Text) (n : Option (ℕ × ℕ)) (c : Option (List ℕ)) (v : ExploringValue) → IfSome n (λ k. k.0 ≤ most_rounds)
+    → ((x : List ℕ) → c ≡ Some x → AreFitPlaces tools x) → explore_named t a p n c ≡ Some v → HasFitTools tools v
 fit_named tools t a p None c v few h e = absurd (cc)
 fit_named tools t a p (Some (r, s)) None v few h e = absurd (cc)
 fit_named tools t a p (Some (r, s)) (Some c) v few h e = go (are_explored t a p) e
@@ -60,4 +61,6 @@ fit_explore tags words v e = go (line (form_of explore_table) words) e
   where
     go : (us : Option (List Use)) → option_and_then (explore_of tags) us ≡ Some v → HasFitTools (length tags) v
     go None e = absurd (cc)
-    go (Some us) e = fit_with tags (value_of (codes "tgff") us) (value_of (codes "arch") us) (value_of (codes "rounds") us) (value_of (codes "seed") us) (value_of (codes "measure") us) (value_of (codes "proof") us) v e
+    go (Some us) e =
+        fit_with tags (value_of (codes "tgff") us) (value_of (codes "arch") us) (value_of (codes "rounds") us) (value_of (codes "seed") us) (value_of (codes "measure") us)
+        (value_of (codes "proof") us) v e

@@ -100,7 +100,8 @@ right_of true y e = e
 right_of false y e = absurd (cc)
 
 written_apart : (t a f p : Text) → are_written t a f p ≡ true → f ≢ p
-written_apart t a f p h = last_apart t a f p (right_of (is_file p) (is_apart (Some p) (t ∷ a ∷ f ∷ [])) (right_of (is_file f && is_apart (Some f) (t ∷ a ∷ [])) (is_file p && is_apart (Some p) (t ∷ a ∷ f ∷ [])) h))
+written_apart t a f p h =
+    last_apart t a f p (right_of (is_file p) (is_apart (Some p) (t ∷ a ∷ f ∷ [])) (right_of (is_file f && is_apart (Some f) (t ∷ a ∷ [])) (is_file p && is_apart (Some p) (t ∷ a ∷ f ∷ [])) h))
 
 abbrev fronted : Text → Text → Text → Text → Option ℕ → FrontingValue
 fronted t a f p n = record { tgff = t; arch = a; front = f; proof = p; budget = n }
@@ -145,7 +146,8 @@ requests_fit tags (name ∷ words) asked e = go (bytes_eq name (codes "decode"))
     n : ℕ
     n = length tags
 
-    go : (d x f c : Bool) → cond d (option_map decode (decode_request words)) (cond x (option_map explore (explore_request tags words)) (cond f (option_map front (front_request words)) (cond c (option_map check (check_request words)) None))) ≡ Some asked → IsFit n asked
+    go : (d x f c : Bool) → cond d (option_map decode (decode_request words)) (cond x (option_map explore (explore_request tags words))
+        (cond f (option_map front (front_request words)) (cond c (option_map check (check_request words)) None))) ≡ Some asked → IsFit n asked
     go true x f c e = fit_of n decode (decode_request words) asked (fit_decode words) e
     go false true f c e = fit_of n explore (explore_request tags words) asked (fit_explore tags words) e
     go false false true c e = fit_of n front (front_request words) asked (fit_front words) e

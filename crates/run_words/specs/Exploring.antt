@@ -50,7 +50,9 @@ explore_with tags _ _ _ _ measure proof = None
 
 -- the request of the values of a line
 abbrev pub explore_of : List Text → List Use → Option ExploringValue
-explore_of tags us = explore_with tags (value_of (codes "tgff") us) (value_of (codes "arch") us) (value_of (codes "rounds") us) (value_of (codes "seed") us) (value_of (codes "measure") us) (value_of (codes "proof") us)
+explore_of tags us =
+    explore_with tags (value_of (codes "tgff") us) (value_of (codes "arch") us) (value_of (codes "rounds") us) (value_of (codes "seed") us) (value_of (codes "measure") us)
+    (value_of (codes "proof") us)
 
 -- the request of the words, of tools with these tags
 unfoldable pub explore_request : List Text → List Text → Option ExploringValue

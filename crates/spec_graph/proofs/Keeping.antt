@@ -39,7 +39,8 @@ pub keeping_yes : (p : ℕ → Bool) (old now next : List Message) (kept m : ℕ
 keeping_yes p old now next kept m e l s h = record {
   long = ap length now_set ∙ (length-set (set now kept x) m y ∙ (length-set now kept x ∙ h.long));
   few = omega (arith, h.few);
-  done = front ∙ (ap (λ (xs : List Message). xs ++ x ∷ []) h.done ∙ (ap (λ (z : Message). messages_at old (those p m) ++ z ∷ []) moved ∙ (sym (map-append (message_in old) (those p m) (m ∷ [])) ∙ ap (messages_at old) (sym (those_yes p m e)))));
+  done = front ∙ (ap (λ (xs : List Message). xs ++ x ∷ []) h.done ∙ (ap (λ (z : Message). messages_at old (those p m) ++ z ∷ []) moved
+      ∙ (sym (map-append (message_in old) (those p m) (m ∷ [])) ∙ ap (messages_at old) (sym (those_yes p m e)))));
   rest = λ k d lk. s.2 k d (λ t. absurd (omega (arith, t, lk, h.few))) (λ t. absurd (omega (arith, t, lk))) ∙ h.rest k d (omega (arith, lk));
 }
   where
@@ -100,7 +101,8 @@ name_free names name listed free h =
     })
 
 -- the names that pass, with one more, and without
-pub names_yes : (names : List Name) (p : ℕ → Bool) (m : ℕ) (after next : List Name) (x : Name) → p m ≡ true → x ≡ name_at names m → after ≡ map (name_at names) (those p m) → next ≡ after ++ x ∷ [] → next ≡ map (name_at names) (those p (m + 1))
+pub names_yes : (names : List Name) (p : ℕ → Bool) (m : ℕ) (after next : List Name) (x : Name) → p m ≡ true → x ≡ name_at names m → after ≡ map (name_at names) (those p m) → next ≡ after ++ x ∷ []
+    → next ≡ map (name_at names) (those p (m + 1))
 names_yes names p m after next x e ex en h =
     h ∙ (ap (λ (xs : List Name). xs ++ x ∷ []) en
     ∙ (ap (λ (y : Name). map (name_at names) (those p m) ++ y ∷ []) ex

@@ -44,7 +44,9 @@ tells xs ps t r b e eb =
     (λ h. found xs t r (sym at ∙ h), λ h. at ∙ stands xs t r h)
 
 -- one option more, of a pair that isn't among them
-pub pairs_after : (xs ys : List Choice) (c : Choice) (ps qs : List (ℕ × ℕ)) → ps ≡ map choice_pair xs → (Any (IsOfPair c.task.0 c.resource.0) (map choice_value xs) → ⊥) → qs ≡ (if list_any (is_pair c.task.0 c.resource.0) ps then ps else ps ++ choice_pair c ∷ []) → ys ≡ xs ++ c ∷ [] → qs ≡ map choice_pair ys
+pub pairs_after : (xs ys : List Choice) (c : Choice) (ps qs : List (ℕ × ℕ)) → ps ≡ map choice_pair xs → (Any (IsOfPair c.task.0 c.resource.0) (map choice_value xs) → ⊥)
+    → qs ≡ (if list_any (is_pair c.task.0 c.resource.0) ps then ps else ps ++ choice_pair c ∷ []) → ys ≡ xs ++ c ∷ [] → qs ≡ map choice_pair ys
 pairs_after xs ys c ps qs e new eq ey =
     let none : list_any (is_pair c.task.0 c.resource.0) ps ≡ false = false_from_ne_true _ (λ h. new (found xs c.task.0 c.resource.0 (sym (ap (list_any (is_pair c.task.0 c.resource.0)) e) ∙ h))) in
-    eq ∙ ap (λ (b : Bool). if b then ps else ps ++ choice_pair c ∷ []) none ∙ ap (λ (zs : List (ℕ × ℕ)). zs ++ choice_pair c ∷ []) e ∙ sym (map-append choice_pair xs (c ∷ [])) ∙ sym (ap (map choice_pair) ey)
+    eq ∙ ap (λ (b : Bool). if b then ps else ps ++ choice_pair c ∷ []) none ∙ ap (λ (zs : List (ℕ × ℕ)). zs ++ choice_pair c ∷ []) e ∙ sym (map-append choice_pair xs (c ∷ []))
+        ∙ sym (ap (map choice_pair) ey)

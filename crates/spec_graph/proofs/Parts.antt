@@ -16,14 +16,17 @@ use Rattle.spec_graph.specs.declared.numbers.TaskNo.{TaskNo}
 use Rattle.spec_graph.proofs.Walking.{Seeing, seeing_more, seen_once}
 
 -- the message listed at a place
-pub part_at : (ms : List Message) (listed : List MsgNo) (i : ℕ) (d : MsgNo) (message : Message) → i < length listed → (get_or listed i d).0 < length ms → message ≡ get_or ms (get_or listed i d).0 message → get_or (messages_at ms (map message_number listed)) i message ≡ message
+pub part_at : (ms : List Message) (listed : List MsgNo) (i : ℕ) (d : MsgNo) (message : Message) → i < length listed → (get_or listed i d).0 < length ms
+    → message ≡ get_or ms (get_or listed i d).0 message → get_or (messages_at ms (map message_number listed)) i message ≡ message
 part_at ms listed i d message l lm e =
     get_or-map (message_in ms) (map message_number listed) i 0 message (omega (arith, l, length-map listed message_number))
     ∙ (ap (message_in ms) (get_or-map message_number listed i d 0 l)
     ∙ (get_or_default ms (get_or listed i d).0 _ message lm ∙ sym e))
 
 -- one message more of those listed
-pub fold_part : {Y : Type 0} (f : Y → Message → Y) (a : Y) (ms : List Message) (listed : List MsgNo) (i : ℕ) (d : MsgNo) (message : Message) (now next : Y) → i < length listed → (get_or listed i d).0 < length ms → message ≡ get_or ms (get_or listed i d).0 message → now ≡ fold f a (take i (messages_at ms (map message_number listed))) → next ≡ f now message → next ≡ fold f a (take (i + 1) (messages_at ms (map message_number listed)))
+pub fold_part : {Y : Type 0} (f : Y → Message → Y) (a : Y) (ms : List Message) (listed : List MsgNo) (i : ℕ) (d : MsgNo) (message : Message) (now next : Y) → i < length listed
+    → (get_or listed i d).0 < length ms → message ≡ get_or ms (get_or listed i d).0 message → now ≡ fold f a (take i (messages_at ms (map message_number listed))) → next ≡ f now message
+    → next ≡ fold f a (take (i + 1) (messages_at ms (map message_number listed)))
 fold_part f a ms listed i d message now next l lm e en ex =
     let parts = messages_at ms (map message_number listed) in
     let within : i < length parts = omega (arith, l, length-map listed message_number, length-map (map message_number listed) (message_in ms)) in
@@ -35,7 +38,8 @@ all_parts ms listed n l = take_all n (messages_at ms (map message_number listed)
 
 -- ---- marks
 
-pub seeing_message : (ns : List MsgNo) (i : ℕ) (d : MsgNo) (seen next : List Bool) → i < length ns → is_in seen (get_or ns i d).0 ≡ false → ((t : ℕ) → is_in next t ≡ (is_in seen t || (t == (get_or ns i d).0))) → Seeing (map message_number ns) i seen → Seeing (map message_number ns) (i + 1) next
+pub seeing_message : (ns : List MsgNo) (i : ℕ) (d : MsgNo) (seen next : List Bool) → i < length ns → is_in seen (get_or ns i d).0 ≡ false
+    → ((t : ℕ) → is_in next t ≡ (is_in seen t || (t == (get_or ns i d).0))) → Seeing (map message_number ns) i seen → Seeing (map message_number ns) (i + 1) next
 seeing_message ns i d seen next l new en s = seeing_more (map message_number ns) i (get_or ns i d).0 seen next (sym (get_or-map message_number ns i d 0 l)) new en s
 
 -- a number is in a list exactly where a test finds it
@@ -65,7 +69,8 @@ marks_done xs n seen l s = record { marked = λ m. at m (is_in seen m) refl (lis
 -- ---- tasks that are gathered
 
 -- one task more
-pub fold_task : (xs : List ℕ) (ts : List TaskNo) (i : ℕ) (d : TaskNo) (now next : List ℕ) → i < length ts → now ≡ with_all_once xs (take i (map task_number ts)) → next ≡ with_once now (get_or ts i d).0 → next ≡ with_all_once xs (take (i + 1) (map task_number ts))
+pub fold_task : (xs : List ℕ) (ts : List TaskNo) (i : ℕ) (d : TaskNo) (now next : List ℕ) → i < length ts → now ≡ with_all_once xs (take i (map task_number ts))
+    → next ≡ with_once now (get_or ts i d).0 → next ≡ with_all_once xs (take (i + 1) (map task_number ts))
 fold_task xs ts i d now next l en ex =
     ex ∙ (ap (λ (ys : List ℕ). with_once ys (get_or ts i d).0) en
     ∙ (ap (with_once (with_all_once xs (take i (map task_number ts)))) (sym (get_or-map task_number ts i d 0 l))

@@ -130,7 +130,8 @@ fits before s (QuantityTable name index column rows) t p = tt
 fits before s (Hops message limit) t p = tt
 
 -- a name that no objective has
-apart_by : (o : Declared) (os : List Declared) (name : Name) → (is_none (objective_called os name) ≡ true → Contains (map objective_name os) name → ⊥) → (b : Bool) → bytes_eq o.name name ≡ b → is_none (objective_called (o ∷ os) name) ≡ true → Contains (map objective_name (o ∷ os)) name → ⊥
+apart_by : (o : Declared) (os : List Declared) (name : Name) → (is_none (objective_called os name) ≡ true → Contains (map objective_name os) name → ⊥) → (b : Bool) → bytes_eq o.name name ≡ b
+    → is_none (objective_called (o ∷ os) name) ≡ true → Contains (map objective_name (o ∷ os)) name → ⊥
 apart_by o os name ih true e h c = false≢true (ap (λ (b : Bool). is_none (cond b (Some o) (objective_called os name))) (sym e) ∙ h)
 apart_by o os name ih false e h (zero, l, x) = false≢true (sym e ∙ (bytes_eq-Decides o.name name).1 x)
 apart_by o os name ih false e h (suc k, l, x) = ih (ap (λ (b : Bool). is_none (cond b (Some o) (objective_called os name))) (sym e) ∙ h) (k, omega (arith, l), x)
@@ -165,7 +166,8 @@ declarable before (Delay message amount) p = tt
 declarable before (Deadline task at) p = tt
 
 -- the statement at a place fits what those before it made
-pub fits_at : (tgff : TgffValue) (ls : List ArchLine) (k : ℕ) (l : ArchLine) (s : Joining) → AllPass [] ls → k < length ls → l ≡ get_or ls k l → s ≡ after tgff (statements_in ls) k → IsFit s l.statement
+pub fits_at : (tgff : TgffValue) (ls : List ArchLine) (k : ℕ) (l : ArchLine) (s : Joining) → AllPass [] ls → k < length ls → l ≡ get_or ls k l → s ≡ after tgff (statements_in ls) k
+    → IsFit s l.statement
 fits_at tgff ls k l s a lt e es =
     let sts = statements_in ls in
     let before = before_place ls k in
@@ -174,7 +176,8 @@ fits_at tgff ls k l s a lt e es =
     subst (λ (x : Joining). IsFit x l.statement) (sym es) (fits before (after tgff sts k) l.statement t p)
 
 -- the statement at a place declares an objective where those before it are declared
-pub declarable_at : (ls : List ArchLine) (k : ℕ) (l : ArchLine) (s : SettingsValue) → AllPass [] ls → k < length ls → l ≡ get_or ls k l → s ≡ settings_of (seen (before_place ls k)) → IsDeclarable s l.statement
+pub declarable_at : (ls : List ArchLine) (k : ℕ) (l : ArchLine) (s : SettingsValue) → AllPass [] ls → k < length ls → l ≡ get_or ls k l → s ≡ settings_of (seen (before_place ls k))
+    → IsDeclarable s l.statement
 declarable_at ls k l s a lt e es =
     let before = before_place ls k in
     let p : Passes before l.statement = subst (λ (x : ArchLine). Passes before x.statement) (sym e) (passes_at ls k l a lt) in
@@ -193,7 +196,8 @@ more_declared s st =
     ∙ ap (λ (cs : List ℕ). set_with (map objective_name (os ++ new)) cs (map objective_floor os ++ map objective_floor new) clock) (sym (map-append objective_scale os new))
     ∙ ap (λ (fs : List Bool). set_with (map objective_name (os ++ new)) (map objective_scale (os ++ new)) fs clock) (sym (map-append objective_floor os new))
 
-pub declared_at : (ls : List ArchLine) (k : ℕ) (l : ArchLine) (old new : SettingsValue) → k < length ls → l ≡ get_or ls k l → old ≡ settings_of (seen (before_place ls k)) → new ≡ with_declared old l.statement → new ≡ settings_of (seen (before_place ls (k + 1)))
+pub declared_at : (ls : List ArchLine) (k : ℕ) (l : ArchLine) (old new : SettingsValue) → k < length ls → l ≡ get_or ls k l → old ≡ settings_of (seen (before_place ls k))
+    → new ≡ with_declared old l.statement → new ≡ settings_of (seen (before_place ls (k + 1)))
 declared_at ls k l old new lt e eo en =
     let s = seen (before_place ls k) in
     en

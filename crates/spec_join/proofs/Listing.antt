@@ -67,7 +67,8 @@ pub none_missing : (names listed : List Name) → All (Contains names) listed �
 none_missing names listed known h = h.4 (subst (Contains names) h.3 (known h.0 h.1 h.2))
 
 -- one more name, and its number behind the others
-pub numbers_more : {X : Type 0} (number : X → ℕ) (names listed : List Name) (i : ℕ) (items new : List X) (item : X) (name said : Name) → i < length listed → new ≡ items ++ item ∷ [] → name ≡ get_or listed i name → said ≡ name → number item ≡ number_of names said
+pub numbers_more : {X : Type 0} (number : X → ℕ) (names listed : List Name) (i : ℕ) (items new : List X) (item : X) (name said : Name) → i < length listed → new ≡ items ++ item ∷ []
+    → name ≡ get_or listed i name → said ≡ name → number item ≡ number_of names said
     → map number items ≡ map (number_of names) (take i listed) → map number new ≡ map (number_of names) (take (i + 1) listed)
 numbers_more number names listed i items new item name said l e en es n h =
     let last : number item ≡ number_of names (get_or listed i name) = n ∙ ap (number_of names) (es ∙ en) in
@@ -81,7 +82,8 @@ numbers_more number names listed i items new item name said l e en es n h =
 pub there_more : {X : Type 0} (P : X → Type 0) (items new : List X) (item : X) → new ≡ items ++ item ∷ [] → All P items → P item → All P new
 there_more P items new item e h p = subst (All P) (sym e) (All-push P items item h p)
 
-pub known_more : (names listed : List Name) (i : ℕ) (name said : Name) → i < length listed → name ≡ get_or listed i name → said ≡ name → Contains names said → All (Contains names) (take i listed) → All (Contains names) (take (i + 1) listed)
+pub known_more : (names listed : List Name) (i : ℕ) (name said : Name) → i < length listed → name ≡ get_or listed i name → said ≡ name → Contains names said → All (Contains names) (take i listed)
+    → All (Contains names) (take (i + 1) listed)
 known_more names listed i name said l en es c h =
     subst (All (Contains names)) (sym (take_more listed i name l)) (All-push (Contains names) (take i listed) (get_or listed i name) h (subst (Contains names) (es ∙ en) c))
 

@@ -23,7 +23,8 @@ pub record IsGathered (p : SpecValue) (names : List Name) (listed : List ℕ) : 
   pub known : All (Contains p.message_names) names
   pub is : listed ≡ map (number_of p.message_names) names
 
-same_sender : (p : SpecValue) (names : List Name) (a b : Name) → (DifferInSender p names → ⊥) → Contains names a → Contains names b → Contains p.message_names a → Contains p.message_names b → sender_of p a ≡ sender_of p b
+same_sender : (p : SpecValue) (names : List Name) (a b : Name) → (DifferInSender p names → ⊥) → Contains names a → Contains names b → Contains p.message_names a → Contains p.message_names b
+    → sender_of p a ≡ sender_of p b
 same_sender p names a b agree x y u v = go (cases_lt (sender_of p a) (sender_of p b)) (cases_lt (sender_of p b) (sender_of p a))
   where
     apart : sender_of p a ≢ sender_of p b → ⊥
@@ -69,12 +70,15 @@ other_of p name names distinct h =
       there = there;
       unlisted = λ c.
           let w : c.0 < length (map (number_of p.message_names) names) = omega (arith, c.1, length-map names (number_of p.message_names)) in
-          let e : get_or (map (number_of p.message_names) names) c.0 h.message ≡ number_of p.message_names (get_or names c.0 name) = get_or-map (number_of p.message_names) names c.0 name h.message c.1 in
-          let m : h.message ≡ number_of p.message_names name = one_number p.message_names name h.message (number_of p.message_names name) distinct (number_there p.message_names name there) h.within h.same in
+          let e : get_or (map (number_of p.message_names) names) c.0 h.message ≡ number_of p.message_names (get_or names c.0 name) =
+              get_or-map (number_of p.message_names) names c.0 name h.message c.1 in
+          let m : h.message ≡ number_of p.message_names name = one_number p.message_names name h.message (number_of p.message_names name) distinct (number_there p.message_names name there)
+              h.within h.same in
           unlisted_apart (map (number_of p.message_names) names) h.message h.other (c.0, w, e ∙ ap (number_of p.message_names) c.2 ∙ sym m);
     }
 
-other_by : (p : SpecValue) (name : Name) (names : List Name) → All (Contains p.message_names) names → IsOfOther p name names → IsNameOfOther p.message_names name (map (number_of p.message_names) names)
+other_by : (p : SpecValue) (name : Name) (names : List Name) → All (Contains p.message_names) names → IsOfOther p name names
+    → IsNameOfOther p.message_names name (map (number_of p.message_names) names)
 other_by p name names known h =
     let n = number_there p.message_names name h.there in
     record {
@@ -82,20 +86,24 @@ other_by p name names known h =
       within = n.within;
       other = unlisted_by (map (number_of p.message_names) names) (number_of p.message_names name) (λ c.
           let w : c.0 < length names = omega (arith, c.1, length-map names (number_of p.message_names)) in
-          let e : number_of p.message_names (get_or names c.0 name) ≡ number_of p.message_names name = sym (get_or-map (number_of p.message_names) names c.0 name (number_of p.message_names name) w) ∙ c.2 in
+          let e : number_of p.message_names (get_or names c.0 name) ≡ number_of p.message_names name =
+              sym (get_or-map (number_of p.message_names) names c.0 name (number_of p.message_names name) w) ∙ c.2 in
           h.unlisted (c.0, w, same_name p.message_names (get_or names c.0 name) name (known c.0 name w) h.there e));
       same = n.same;
     }
 
-repeated_of : (s : Joining) (name : Name) (names : List Name) → AreDistinct s.plan.message_names → All (Contains s.plan.message_names) names → IsMergeRepeated s.plan name (map (number_of s.plan.message_names) names) → IsRepeated s (Merge name names)
+repeated_of : (s : Joining) (name : Name) (names : List Name) → AreDistinct s.plan.message_names → All (Contains s.plan.message_names) names
+    → IsMergeRepeated s.plan name (map (number_of s.plan.message_names) names) → IsRepeated s (Merge name names)
 repeated_of s name names distinct known (inl h) = inl (twice_of s.plan.message_names names known h)
 repeated_of s name names distinct known (inr h) = inr (other_of s.plan name names distinct h)
 
-repeated_by : (s : Joining) (name : Name) (names : List Name) → All (Contains s.plan.message_names) names → IsRepeated s (Merge name names) → IsMergeRepeated s.plan name (map (number_of s.plan.message_names) names)
+repeated_by : (s : Joining) (name : Name) (names : List Name) → All (Contains s.plan.message_names) names → IsRepeated s (Merge name names)
+    → IsMergeRepeated s.plan name (map (number_of s.plan.message_names) names)
 repeated_by s name names known (inl h) = inl (twice_by s.plan.message_names names h)
 repeated_by s name names known (inr h) = inr (other_by s.plan name names known h)
 
-pub merge_refused : (s : Joining) (name : Name) (names : List Name) (listed : List ℕ) (fault : BuildFault) → AreDistinct s.plan.message_names → IsGathered s.plan names listed → IsMergeRefused s.plan name listed fault → Refuses s (Merge name names) (stop_for fault)
+pub merge_refused : (s : Joining) (name : Name) (names : List Name) (listed : List ℕ) (fault : BuildFault) → AreDistinct s.plan.message_names → IsGathered s.plan names listed
+    → IsMergeRefused s.plan name listed fault → Refuses s (Merge name names) (stop_for fault)
 merge_refused s name names listed Repeated d g h =
     (g.agree, none_missing s.plan.message_names names g.known, repeated_of s name names d g.known (subst (IsMergeRepeated s.plan name) g.is h))
 merge_refused s name names listed NoMemory d g h = tt

@@ -9,7 +9,8 @@ abbrev Types : Type 0
 Types = List (Option ℕ)
 
 -- one message more that isn't listed
-pub kinds_yes : (kinds : Types) (p : ℕ → Bool) (m : ℕ) (old new : Types) (kind d : Option ℕ) → p m ≡ true → m < length kinds → kind ≡ get_or kinds m d → old ≡ map (message_kind_at kinds) (those p m) → new ≡ old ++ kind ∷ [] → new ≡ map (message_kind_at kinds) (those p (m + 1))
+pub kinds_yes : (kinds : Types) (p : ℕ → Bool) (m : ℕ) (old new : Types) (kind d : Option ℕ) → p m ≡ true → m < length kinds → kind ≡ get_or kinds m d
+    → old ≡ map (message_kind_at kinds) (those p m) → new ≡ old ++ kind ∷ [] → new ≡ map (message_kind_at kinds) (those p (m + 1))
 kinds_yes kinds p m old new kind d e l k o n =
     n
     ∙ ap (λ (xs : Types). xs ++ kind ∷ []) o

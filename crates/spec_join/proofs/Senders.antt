@@ -41,7 +41,8 @@ abbrev HasIt : SpecValue → List Name → ℕ → ℕ → Type 0
 HasIt p names sender k = Contains p.message_names (name_at names k) → sender_of p (name_at names k) ≡ sender
 
 -- a name that isn't a message's changes nothing
-pub sender_skips : (p : SpecValue) (names : List Name) (i : ℕ) (sender : Option TaskNo) (name said : Name) → i < length names → name ≡ get_or names i name → said ≡ name → (Contains p.message_names said → ⊥) → IsSenderOf p names i sender → IsSenderOf p names (i + 1) sender
+pub sender_skips : (p : SpecValue) (names : List Name) (i : ℕ) (sender : Option TaskNo) (name said : Name) → i < length names → name ≡ get_or names i name → said ≡ name
+    → (Contains p.message_names said → ⊥) → IsSenderOf p names i sender → IsSenderOf p names (i + 1) sender
 sender_skips p names i None name said l en es none h =
     one_more (IsAway p names) i h (subst (λ (x : Name). Contains p.message_names x → ⊥) (place_is names i name said l en es) none)
 sender_skips p names i (Some t) name said l en es none h =
@@ -55,7 +56,8 @@ sender_skips p names i (Some t) name said l en es none h =
     }
 
 -- the first message that is there
-pub sender_first : (p : SpecValue) (names : List Name) (i : ℕ) (from : TaskNo) (name said : Name) → i < length names → name ≡ get_or names i name → said ≡ name → Contains p.message_names said → from.0 ≡ sender_of p said → IsSenderOf p names i None → IsSenderOf p names (i + 1) (Some from)
+pub sender_first : (p : SpecValue) (names : List Name) (i : ℕ) (from : TaskNo) (name said : Name) → i < length names → name ≡ get_or names i name → said ≡ name → Contains p.message_names said
+    → from.0 ≡ sender_of p said → IsSenderOf p names i None → IsSenderOf p names (i + 1) (Some from)
 sender_first p names i from name said l en es c e h =
     let at = place_is names i name said l en es in
     let sends : sender_of p (name_at names i) ≡ from.0 = ap (sender_of p) (sym at) ∙ sym e in
@@ -68,7 +70,8 @@ sender_first p names i from name said l en es c e h =
     }
 
 -- another message of the same sender
-pub sender_again : (p : SpecValue) (names : List Name) (i : ℕ) (first from : TaskNo) (name said : Name) → i < length names → name ≡ get_or names i name → said ≡ name → from.0 ≡ sender_of p said → first.0 ≡ from.0 → IsSenderOf p names i (Some first) → IsSenderOf p names (i + 1) (Some first)
+pub sender_again : (p : SpecValue) (names : List Name) (i : ℕ) (first from : TaskNo) (name said : Name) → i < length names → name ≡ get_or names i name → said ≡ name → from.0 ≡ sender_of p said
+    → first.0 ≡ from.0 → IsSenderOf p names i (Some first) → IsSenderOf p names (i + 1) (Some first)
 sender_again p names i first from name said l en es e same h =
     let at = place_is names i name said l en es in
     let sends : sender_of p (name_at names i) ≡ first.0 = ap (sender_of p) (sym at) ∙ sym e ∙ sym same in

@@ -63,5 +63,6 @@ states : (after no_graphs file 20).plan ≡ plan
 states = refl
 
 -- each hop limit is cut to one less than the number of resources
-cut : (finished (after no_graphs file 20).plan).messages ≡ record { sender = 1; receivers = 2 ∷ []; limit = 1; delay = 0; quantity = 1 } ∷ record { sender = 0; receivers = 1 ∷ 2 ∷ []; limit = 1; delay = 6; quantity = 5 } ∷ []
+cut : (finished (after no_graphs file 20).plan).messages ≡ record { sender = 1; receivers = 2 ∷ []; limit = 1; delay = 0; quantity = 1 }
+    ∷ record { sender = 0; receivers = 1 ∷ 2 ∷ []; limit = 1; delay = 6; quantity = 5 } ∷ []
 cut = refl

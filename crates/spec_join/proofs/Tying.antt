@@ -49,11 +49,13 @@ silent s t st o c r l k er el ek = record {
 }
 
 -- a table line declares nothing
-table_keeps : (s : Joining) (t : Option TgffTable) (name : Name) (index : ℕ) (resource : Name) (keys places : List KeyColumn) → Keeps s (with_plan s (with_table s t resource keys places)) (Table name index resource keys places)
+table_keeps : (s : Joining) (t : Option TgffTable) (name : Name) (index : ℕ) (resource : Name) (keys places : List KeyColumn)
+    → Keeps s (with_plan s (with_table s t resource keys places)) (Table name index resource keys places)
 table_keeps s None name index resource keys places = silent s _ (Table name index resource keys places) refl refl refl refl refl refl refl refl
 table_keeps s (Some t) name index resource keys places = silent s _ (Table name index resource keys places) refl refl refl refl refl refl refl refl
 
-quantities_keep : (s : Joining) (t : Option TgffTable) (name : Name) (index column : ℕ) (rows : Option ℕ) → Keeps s (with_plan s (with_quantity_table s t column rows)) (QuantityTable name index column rows)
+quantities_keep : (s : Joining) (t : Option TgffTable) (name : Name) (index column : ℕ) (rows : Option ℕ)
+    → Keeps s (with_plan s (with_quantity_table s t column rows)) (QuantityTable name index column rows)
 quantities_keep s None name index column rows = silent s _ (QuantityTable name index column rows) refl refl refl refl refl refl refl refl
 quantities_keep s (Some t) name index column rows = silent s _ (QuantityTable name index column rows) refl refl refl refl refl refl refl refl
 

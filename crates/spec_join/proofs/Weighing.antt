@@ -69,7 +69,8 @@ further o os key amount e f =
 abbrev called : List Declared → Name → ℤ → Bool
 called os key amount = option_map_or (is_above_for amount) (objective_called os key) false
 
-found_by : (o : Declared) (os later : List Declared) (key : Name) (amount : ℤ) → (is_none (objective_called os key) ≡ false → called os key amount ≡ false → IsFound (os ++ later) key amount) → (b : Bool) → bytes_eq o.name key ≡ b
+found_by : (o : Declared) (os later : List Declared) (key : Name) (amount : ℤ) → (is_none (objective_called os key) ≡ false → called os key amount ≡ false → IsFound (os ++ later) key amount)
+    → (b : Bool) → bytes_eq o.name key ≡ b
     → is_none (objective_called (o ∷ os) key) ≡ false → called (o ∷ os) key amount ≡ false → IsFound (o ∷ (os ++ later)) key amount
 found_by o os later key amount ih true e u a = here o (os ++ later) key amount e (ap (λ (b : Bool). option_map_or (is_above_for amount) (cond b (Some o) (objective_called os key)) false) (sym e) ∙ a)
 found_by o os later key amount ih false e u a = further o (os ++ later) key amount e (ih
@@ -80,13 +81,15 @@ found : (os later : List Declared) (key : Name) (amount : ℤ) → is_none (obje
 found [] later key amount u a = absurd (false≢true (sym u))
 found (o ∷ os) later key amount u a = found_by o os later key amount (found os later key amount) (bytes_eq o.name key) refl u a
 
-pub weighable : (os later : List Declared) (names : List Name) (scales : List ℕ) (ws : List KeyAmount) → names ≡ map objective_name (os ++ later) → scales ≡ map objective_scale (os ++ later) → list_any (is_unknown_weight os) ws ≡ false → list_any (is_big_weight os) ws ≡ false → All (IsWeighable names scales) ws
+pub weighable : (os later : List Declared) (names : List Name) (scales : List ℕ) (ws : List KeyAmount) → names ≡ map objective_name (os ++ later) → scales ≡ map objective_scale (os ++ later)
+    → list_any (is_unknown_weight os) ws ≡ false → list_any (is_big_weight os) ws ≡ false → All (IsWeighable names scales) ws
 weighable os later names scales ws en es u b = λ k d l. one (get_or ws k d) (any_false (is_unknown_weight os) ws u k d l) (any_false (is_big_weight os) ws b k d l)
   where
     one : (w : KeyAmount) → is_unknown_weight os w ≡ false → is_big_weight os w ≡ false → IsWeighable names scales w
     one w x y =
         let f = found os later w.key w.amount x y in
-        subst (λ (ns : List Name). IsWeighable ns scales w) (sym en) (subst (λ (cs : List ℕ). IsWeighable (map objective_name (os ++ later)) cs w) (sym es) (record { known = f.known; small = f.small }))
+        subst (λ (ns : List Name). IsWeighable ns scales w) (sym en) (subst (λ (cs : List ℕ). IsWeighable (map objective_name (os ++ later)) cs w) (sym es)
+            (record { known = f.known; small = f.small }))
 
 -- ---- the keys of a table line
 
@@ -94,7 +97,8 @@ known_in : (os : List Declared) (key : Name) → is_unknown os key ≡ false →
 known_in [] key h = absurd (false≢true (sym h))
 known_in (o ∷ os) key h = known_by o os key (known_in os key) (bytes_eq o.name key) refl h
   where
-    known_by : (o : Declared) (os : List Declared) (key : Name) → (is_unknown os key ≡ false → Contains (map objective_name os) key) → (b : Bool) → bytes_eq o.name key ≡ b → is_unknown (o ∷ os) key ≡ false → Contains (map objective_name (o ∷ os)) key
+    known_by : (o : Declared) (os : List Declared) (key : Name) → (is_unknown os key ≡ false → Contains (map objective_name os) key) → (b : Bool) → bytes_eq o.name key ≡ b
+        → is_unknown (o ∷ os) key ≡ false → Contains (map objective_name (o ∷ os)) key
     known_by o os key ih true e u = (0, omega arith, (bytes_eq-Decides o.name key).0 e)
     known_by o os key ih false e u =
         let c = ih (ap (λ (b : Bool). is_none (cond b (Some o) (objective_called os key))) (sym e) ∙ u) in
@@ -110,8 +114,11 @@ not_both : (a b : Bool) → (not a && b) ≡ false → a ≡ false → b ≡ fal
 not_both true b h e = absurd (false≢true (sym e))
 not_both false b h e = h
 
-pub known_keys : (os later : List Declared) (names : List Name) (keys : List KeyColumn) → names ≡ map objective_name (os ++ later) → list_any (is_unknown_key os) keys ≡ false → All (IsKnownKey names) keys
-known_keys os later names keys e h = λ k d l t. known_later os later names (get_or keys k d).key e (not_both (is_table_key (get_or keys k d).key) (is_unknown os (get_or keys k d).key) (any_false (is_unknown_key os) keys h k d l) t)
+pub known_keys : (os later : List Declared) (names : List Name) (keys : List KeyColumn) → names ≡ map objective_name (os ++ later) → list_any (is_unknown_key os) keys ≡ false
+    → All (IsKnownKey names) keys
+known_keys os later names keys e h =
+    λ k d l t. known_later os later names (get_or keys k d).key e (not_both (is_table_key (get_or keys k d).key) (is_unknown os (get_or keys k d).key) (any_false (is_unknown_key os) keys h k d l) t)
 
-pub known_places : (os later : List Declared) (names : List Name) (places : List KeyColumn) → names ≡ map objective_name (os ++ later) → list_any (is_unknown_place os) places ≡ false → All (IsKnownPlace names) places
+pub known_places : (os later : List Declared) (names : List Name) (places : List KeyColumn) → names ≡ map objective_name (os ++ later) → list_any (is_unknown_place os) places ≡ false
+    → All (IsKnownPlace names) places
 known_places os later names places e h = λ k d l. known_later os later names (get_or places k d).key e (any_false (is_unknown_place os) places h k d l)

@@ -61,7 +61,8 @@ module _ (s : SpecValue) (f g : Bits) (h : IsSameDesign s f g) where
   pub into_sender-along : (m a : ℕ) → m < length s.messages → (Uses s f m a → ¬ IsOn s f (sender_of s m) (arc_at s a).head) → Uses s g m a → ¬ IsOn s g (sender_of s m) (arc_at s a).head
   into_sender-along m a hm x u on = x (Uses-along s g f (same_back s f g h) m a hm u) (IsOn-along s g f (same_back s f g h) (sender_of s m) (arc_at s a).head on)
 
-  pub has_walk-along : (m a : ℕ) → m < length s.messages → (Uses s f m a → WalkBelow s f m (arc_at s a).tail (message_at s m).limit) → Uses s g m a → WalkBelow s g m (arc_at s a).tail (message_at s m).limit
+  pub has_walk-along : (m a : ℕ) → m < length s.messages → (Uses s f m a → WalkBelow s f m (arc_at s a).tail (message_at s m).limit) → Uses s g m a
+      → WalkBelow s g m (arc_at s a).tail (message_at s m).limit
   has_walk-along m a hm x u = WalkBelow-along s f g h m (arc_at s a).tail (message_at s m).limit hm (x (Uses-along s g f (same_back s f g h) m a hm u))
 
   pub no_dangling-along : (m a : ℕ) → m < length s.messages → (Uses s f m a → GoesOnFrom s f m (arc_at s a).head) → Uses s g m a → GoesOnFrom s g m (arc_at s a).head

@@ -30,7 +30,8 @@ pub chain_cases : (ms : List Message) (m : Message) (n a c : ℕ) → Chain (ms 
 chain_cases ms m zero a c e = inl e
 chain_cases ms m (suc n) a c p = split (sends_cases ms m a p.0 p.1) (chain_cases ms m n p.0 c p.2)
   where
-    split : ((Sends ms a p.0) ⊎ ((m.sender ≡ a) × Contains m.receivers p.0)) → ((Chain ms n p.0 c) ⊎ (Reaches ms p.0 m.sender × Leads ms m.receivers c)) → (Chain ms (suc n) a c) ⊎ (Reaches ms a m.sender × Leads ms m.receivers c)
+    split : ((Sends ms a p.0) ⊎ ((m.sender ≡ a) × Contains m.receivers p.0)) → ((Chain ms n p.0 c) ⊎ (Reaches ms p.0 m.sender × Leads ms m.receivers c)) → (Chain ms (suc n) a c)
+        ⊎ (Reaches ms a m.sender × Leads ms m.receivers c)
     split (inl x) (inl q) = inl (p.0, x, q)
     split (inl x) (inr q) = inr (record { hops = suc q.0.hops; chain = (p.0, x, q.0.chain) }, q.1)
     split (inr x) (inl q) = inr (record { hops = 0; chain = sym x.0 }, record { start = p.0; among = x.1; reaches = record { hops = n; chain = q } })
@@ -45,7 +46,8 @@ pub still_none : (ms : List Message) (m : Message) → ¬ HasCycle ms → ¬ Lea
 still_none ms m none shut x =
     elim (chain_cases ms m (suc x.more) x.task x.task x.chain) [
       | inl p ↦ none (record { task = x.task; more = x.more; chain = p })
-      | inr q ↦ shut (record { start = q.1.start; among = q.1.among; reaches = record { hops = q.1.reaches.hops + q.0.hops; chain = chain_join ms q.1.reaches.hops q.0.hops q.1.start x.task m.sender q.1.reaches.chain q.0.chain } })
+      | inr q ↦ shut (record { start = q.1.start; among = q.1.among; reaches = record { hops = q.1.reaches.hops + q.0.hops; chain =
+          chain_join ms q.1.reaches.hops q.0.hops q.1.start x.task m.sender q.1.reaches.chain q.0.chain } })
     ]
 
 -- a message closes a cycle where a chain leads from one of its receivers to its sender
@@ -120,7 +122,8 @@ follows_before ms m a c f = record { more = f.more; chain = chain_before ms m (s
 
 pub follows_by : (ms : List Message) (m : Message) (a c : ℕ) → Reaches ms a m.sender → Leads ms m.receivers c → Follows (ms ++ m ∷ []) a c
 follows_by ms m a c r l =
-    let by : Chain (ms ++ m ∷ []) (suc l.reaches.hops) m.sender c = (l.start, record { message = m; there = Contains-push ms m; from = refl; to = l.among }, chain_before ms m l.reaches.hops l.start c l.reaches.chain) in
+    let by : Chain (ms ++ m ∷ []) (suc l.reaches.hops) m.sender c = (l.start, record { message = m; there = Contains-push ms m; from = refl; to = l.among },
+        chain_before ms m l.reaches.hops l.start c l.reaches.chain) in
     let long : r.hops + suc l.reaches.hops ≡ suc (r.hops + l.reaches.hops) = omega arith in
     record {
       more = r.hops + l.reaches.hops;

@@ -23,14 +23,16 @@ count-append f xs ys = sum_by-append (λ y. cond (f y) 1 0) xs ys
 -- at suc n, on which `below` computes
 pub count-below_suc : (f : ℕ → Bool) (n : ℕ) → count_by f (below (suc n)) ≡ count_by f (below n) + cond (f n) 1 0
 count-below_suc f n =
-    let at : count_by f (below (n + 1)) ≡ count_by f (below n) + cond (f n) 1 0 = ap (count_by f) (below-more n) ∙ (count-append f (below n) (n ∷ []) ∙ ap (λ k. count_by f (below n) + k) (count-cons f n [] ∙ omega arith)) in
+    let at : count_by f (below (n + 1)) ≡ count_by f (below n) + cond (f n) 1 0 = ap (count_by f) (below-more n)
+        ∙ (count-append f (below n) (n ∷ []) ∙ ap (λ k. count_by f (below n) + k) (count-cons f n [] ∙ omega arith)) in
     subst (λ (k : ℕ). count_by f (below k) ≡ count_by f (below n) + cond (f n) 1 0) (add-one n) at
 
 pub count-map : {X : Type 0} (f : ℕ → Bool) (g : X → ℕ) (xs : List X) → count_by f (map g xs) ≡ count_by (λ x. f (g x)) xs
 count-map f g [] = refl
 count-map f g (x ∷ xs) = count-cons f (g x) (map g xs) ∙ (ap (λ k. cond (f (g x)) 1 0 + k) (count-map f g xs) ∙ sym (count-cons (λ y. f (g y)) x xs))
 
-count-filter-step : (f p : ℕ → Bool) (x : ℕ) (xs : List ℕ) (b : Bool) → count_by f (filter p xs) ≡ count_by (λ y. p y && f y) xs → count_by f (cond b (x ∷ filter p xs) (filter p xs)) ≡ bit (b && f x) + count_by (λ y. p y && f y) xs
+count-filter-step : (f p : ℕ → Bool) (x : ℕ) (xs : List ℕ) (b : Bool) → count_by f (filter p xs) ≡ count_by (λ y. p y && f y) xs
+    → count_by f (cond b (x ∷ filter p xs) (filter p xs)) ≡ bit (b && f x) + count_by (λ y. p y && f y) xs
 count-filter-step f p x xs true e = count-cons f x (filter p xs) ∙ ap (λ k. bit (f x) + k) e
 count-filter-step f p x xs false e = e ∙ omega arith
 

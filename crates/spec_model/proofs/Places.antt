@@ -37,7 +37,8 @@ agree_at s f g design steps covers v l =
       | inr x ↦ at x (cases_lt x.place (length s.resources * ((message_at s x.message).limit + 1)))
     ]
   where
-    at : (x : IsWithin s v (length s.messages)) → ((x.place < length s.resources * ((message_at s x.message).limit + 1)) ⊎ (length s.resources * ((message_at s x.message).limit + 1) ≤ x.place)) → f v ≡ g v
+    at : (x : IsWithin s v (length s.messages)) → ((x.place < length s.resources * ((message_at s x.message).limit + 1)) ⊎ (length s.resources * ((message_at s x.message).limit + 1) ≤ x.place))
+        → f v ≡ g v
     at x (inl k) =
         let w = (message_at s x.message).limit + 1 in
         let r = x.place / w in

@@ -33,10 +33,12 @@ long_arcs : (s : SpecValue) (j : ℕ) → length (option_part s j ++ arc_part s 
 long_arcs s j = length-append (option_part s j) (arc_part s j) ∙ omega (arith, long_options s j, width (arc_weights s j) (length s.arcs) (length s.messages) (long_row s j))
 
 long_resources : (s : SpecValue) (j : ℕ) → length (option_part s j ++ arc_part s j ++ resource_part s j) ≡ length s.options + length s.messages * length s.arcs + length s.resources
-long_resources s j = length-append (option_part s j ++ arc_part s j) (resource_part s j) ∙ omega (arith, long_arcs s j, length-map-range_with_len (weight_in s.resource_weights j) 0 (length s.resources))
+long_resources s j =
+    length-append (option_part s j ++ arc_part s j) (resource_part s j) ∙ omega (arith, long_arcs s j, length-map-range_with_len (weight_in s.resource_weights j) 0 (length s.resources))
 
 -- what stands before the links, the resources and the arcs is read there
-first_three : (s : SpecValue) (j v : ℕ) → v < length s.options + length s.messages * length s.arcs + length s.resources → weight s j v ≡ get_or (option_part s j ++ arc_part s j ++ resource_part s j) v 0
+first_three : (s : SpecValue) (j v : ℕ) → v < length s.options + length s.messages * length s.arcs + length s.resources
+    → weight s j v ≡ get_or (option_part s j ++ arc_part s j ++ resource_part s j) v 0
 unfolding weights_of
 first_three s j v h = get_or_append_left (option_part s j ++ arc_part s j ++ resource_part s j) (link_part s j) 0 v (omega (arith, h, long_resources s j))
 

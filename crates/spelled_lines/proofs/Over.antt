@@ -57,7 +57,8 @@ pub is_read : (rules : Rules) (lines : List (List ℕ)) (all : List Statement) �
 is_read rules lines all order e = subst (Outcome rules lines) e (run_is rules lines order)
 
 -- what holds wherever reading gives statements holds of what a text without fault states
-pub accepted : (rules : Rules) (lines : List (List ℕ)) (P : List Statement → Type 0) → AreInOrder rules → ((all : List Statement) → run rules 1 [] lines ≡ Ok all → P all) → HasNoFault rules lines → P (statements rules lines)
+pub accepted : (rules : Rules) (lines : List (List ℕ)) (P : List Statement → Type 0) → AreInOrder rules → ((all : List Statement) → run rules 1 [] lines ≡ Ok all → P all) → HasNoFault rules lines
+    → P (statements rules lines)
 accepted rules lines P order each fine = go (run rules 1 [] lines) refl (run_is rules lines order)
   where
     go : (r : Reading) → run rules 1 [] lines ≡ r → Outcome rules lines r → P (statements rules lines)
@@ -101,5 +102,6 @@ whole_from rules Kept k (suc fuel) (b ∷ bs) number done text all le h e =
           absurd (k.ended done bytes lacks step.0)
     ]
 
-pub whole : (rules : Rules) (Kept : List Statement → List ℕ → Type 0) → IsKept rules Kept → (bytes : List ℕ) (all : List Statement) → run rules 1 [] (pieces bytes) ≡ Ok all → IsWhole rules Kept all bytes
+pub whole : (rules : Rules) (Kept : List Statement → List ℕ → Type 0) → IsKept rules Kept → (bytes : List ℕ) (all : List Statement) → run rules 1 [] (pieces bytes) ≡ Ok all
+    → IsWhole rules Kept all bytes
 whole rules Kept k bytes all e = whole_from rules Kept k (length bytes) bytes 1 [] [] all (omega arith) k.start e

@@ -25,7 +25,8 @@ pub led_none : (set : List Bool) (ms : List Message) → ((b : ℕ) → is_in se
 led_none set ms none b = (λ h. absurd (false≢true (sym (none b) ∙ h)), λ l. absurd (omega (arith, l.among.1)))
 
 -- one task more from which chains lead
-led_push : (rows : List (List Bool)) (set next : List Bool) (ms : List Message) (ws : List ℕ) (w : ℕ) → IsOrderOf rows ms → IsLed set ms ws → ((b : ℕ) → is_in next b ≡ is_gathered rows set w b) → IsLed next ms (ws ++ w ∷ [])
+led_push : (rows : List (List Bool)) (set next : List Bool) (ms : List Message) (ws : List ℕ) (w : ℕ) → IsOrderOf rows ms → IsLed set ms ws → ((b : ℕ) → is_in next b ≡ is_gathered rows set w b)
+    → IsLed next ms (ws ++ w ∷ [])
 led_push rows set next ms ws w o s e b = (to, from)
   where
     by_task : ((b == w) ≡ true) ⊎ (comes_after rows w b ≡ true) → Reaches ms w b
@@ -50,13 +51,15 @@ led_push rows set next ms ws w o s e b = (to, from)
     from : Leads ms (ws ++ w ∷ []) b → is_in next b ≡ true
     from l = e b ∙ from_cases l.start (Contains-push_cases ws w l.start l.among) l.reaches
 
-pub led_more : (rows : List (List Bool)) (set next : List Bool) (ms : List Message) (ws : List ℕ) (i w : ℕ) → i < length ws → w ≡ get_or ws i w → IsOrderOf rows ms → IsLed set ms (take i ws) → ((b : ℕ) → is_in next b ≡ is_gathered rows set w b) → IsLed next ms (take (i + 1) ws)
+pub led_more : (rows : List (List Bool)) (set next : List Bool) (ms : List Message) (ws : List ℕ) (i w : ℕ) → i < length ws → w ≡ get_or ws i w → IsOrderOf rows ms → IsLed set ms (take i ws)
+    → ((b : ℕ) → is_in next b ≡ is_gathered rows set w b) → IsLed next ms (take (i + 1) ws)
 led_more rows set next ms ws i w l ew o s e =
     let more : take (i + 1) ws ≡ take i ws ++ w ∷ [] = take_more ws i w l ∙ ap (λ (x : ℕ). take i ws ++ x ∷ []) (sym ew) in
     subst (IsLed next ms) (sym more) (led_push rows set next ms (take i ws) w o s e)
 
 -- one message more
-pub order_more : (rows next : List (List Bool)) (after : List Bool) (ms : List Message) (m : Message) → IsOrderOf rows ms → IsLed after ms m.receivers → ((a b : ℕ) → comes_after next a b ≡ is_joined rows m.sender after a b) → IsOrderOf next (ms ++ m ∷ [])
+pub order_more : (rows next : List (List Bool)) (after : List Bool) (ms : List Message) (m : Message) → IsOrderOf rows ms → IsLed after ms m.receivers
+    → ((a b : ℕ) → comes_after next a b ≡ is_joined rows m.sender after a b) → IsOrderOf next (ms ++ m ∷ [])
 order_more rows next after ms m o s e a b = (to, from)
   where
     before : ((a == m.sender) ≡ true) ⊎ (comes_after rows a m.sender ≡ true) → Reaches ms a m.sender
@@ -78,7 +81,8 @@ order_more rows next after ms m o s e a b = (to, from)
 
     from_cases : (Follows ms a b) ⊎ (Reaches ms a m.sender × Leads ms m.receivers b) → is_joined rows m.sender after a b ≡ true
     from_cases (inl y) = or_left (comes_after rows a b) (((a == m.sender) || comes_after rows a m.sender) && is_in after b) ((o a b).1 y)
-    from_cases (inr y) = or_right (comes_after rows a b) (((a == m.sender) || comes_after rows a m.sender) && is_in after b) (and_from ((a == m.sender) || comes_after rows a m.sender) (is_in after b) (sender_of (reaches_cases ms a m.sender y.0)) ((s b).1 y.1))
+    from_cases (inr y) = or_right (comes_after rows a b) (((a == m.sender) || comes_after rows a m.sender) && is_in after b)
+        (and_from ((a == m.sender) || comes_after rows a m.sender) (is_in after b) (sender_of (reaches_cases ms a m.sender y.0)) ((s b).1 y.1))
 
     from : Follows (ms ++ m ∷ []) a b → comes_after next a b ≡ true
     from f = e a b ∙ from_cases (follows_cases ms m a b f)

@@ -93,7 +93,9 @@ pub record Joining (old : List (List Bool)) (sender : ℕ) (after : List Bool) (
 pub joining_start : (old : List (List Bool)) (sender : ℕ) (after : List Bool) → Joining old sender after old 0
 joining_start old sender after = record { long = refl; done = λ a b l. absurd (omega (arith, l)); rest = λ a l. refl }
 
-pub joining_next : (old : List (List Bool)) (sender : ℕ) (after : List Bool) (now next : List (List Bool)) (i : ℕ) (before row : List Bool) → i < length old → before ≡ get_or now i before → next ≡ set now i row → ((b : ℕ) → is_in row b ≡ (is_in before b || (((i == sender) || is_in before sender) && is_in after b))) → Joining old sender after now i → Joining old sender after next (i + 1)
+pub joining_next : (old : List (List Bool)) (sender : ℕ) (after : List Bool) (now next : List (List Bool)) (i : ℕ) (before row : List Bool) → i < length old → before ≡ get_or now i before
+    → next ≡ set now i row → ((b : ℕ) → is_in row b ≡ (is_in before b || (((i == sender) || is_in before sender) && is_in after b))) → Joining old sender after now i
+    → Joining old sender after next (i + 1)
 joining_next old sender after now next i before row l eb en er j = record {
   long = ap length en ∙ (length-set now i row ∙ j.long);
   done = λ a b la. elim (cases_lt a i) [
@@ -119,7 +121,8 @@ joining_next old sender after now next i before row l eb en er j = record {
         ∙ (er b ∙ ap (λ (r : List Bool). is_in r b || (((i == sender) || is_in r sender) && is_in after b)) old_row))
 
 -- there is no row past the end
-pub joining_done : (old : List (List Bool)) (sender : ℕ) (after : List Bool) (now : List (List Bool)) (i : ℕ) → sender < length old → length old ≤ i → Joining old sender after now i → (a b : ℕ) → comes_after now a b ≡ is_joined old sender after a b
+pub joining_done : (old : List (List Bool)) (sender : ℕ) (after : List Bool) (now : List (List Bool)) (i : ℕ) → sender < length old → length old ≤ i → Joining old sender after now i → (a b : ℕ)
+    → comes_after now a b ≡ is_joined old sender after a b
 joining_done old sender after now i ls l j a b =
     elim (cases_lt a i) [
       | inl y ↦ j.done a b y
@@ -127,7 +130,8 @@ joining_done old sender after now i ls l j a b =
           let past : get_or old a [] ≡ [] = get_or_past old a [] (omega (arith, l, y)) in
           let other : (a == sender) ≡ false = differs a sender (λ h. absurd (omega (arith, h, ls, l, y))) in
           ap (λ (r : List Bool). is_in r b) (j.rest a y)
-          ∙ sym (ap (λ (r : List Bool). is_in r b || (((a == sender) || is_in r sender) && is_in after b)) past ∙ ap (λ (t : Bool). false || ((t || false) && is_in after b)) other ∙ sym (ap (λ (r : List Bool). is_in r b) past))
+          ∙ sym (ap (λ (r : List Bool). is_in r b || (((a == sender) || is_in r sender) && is_in after b)) past ∙ ap (λ (t : Bool). false || ((t || false) && is_in after b)) other
+              ∙ sym (ap (λ (r : List Bool). is_in r b) past))
     ]
   where
     differs : (x y : ℕ) → ¬ (x ≡ y) → (x == y) ≡ false

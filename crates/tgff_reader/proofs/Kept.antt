@@ -66,7 +66,8 @@ not_among key p xs x sound none c =
     let same : key (get_or xs c.0 x) ≡ key x = sym (get_or-map key xs c.0 x (key x) li) ∙ c.2 in
     false≢true (sym none ∙ list_any_at p xs c.0 x li (sound (get_or xs c.0 x) same))
 
-distinct_more : {X K : Type 0} (key : X → K) (p : X → Bool) (xs : List X) (x : X) → AreDistinct (map key xs) → ((y : X) → key y ≡ key x → p y ≡ true) → list_any p xs ≡ false → AreDistinct (map key (xs ++ x ∷ []))
+distinct_more : {X K : Type 0} (key : X → K) (p : X → Bool) (xs : List X) (x : X) → AreDistinct (map key xs) → ((y : X) → key y ≡ key x → p y ≡ true) → list_any p xs ≡ false
+    → AreDistinct (map key (xs ++ x ∷ []))
 distinct_more {K = K} key p xs x old sound none =
     subst (λ (ks : List K). AreDistinct ks) (sym (map_push key xs x)) (distinct_push (map key xs) (key x) old (not_among key p xs x sound none))
 
@@ -156,7 +157,8 @@ both_same name i t e =
     let x : (t.index == i) ≡ true = eq-eqb t.index i (ap (λ (k : List ℕ × ℕ). k.1) e) in
     and_from (bytes_eq t.name name) (t.index == i) n x
 
-opens_table : (gs : List Graph) (ts : List Table) (name : List ℕ) (i : ℕ) → IsTgff (made gs ts) → IsWord name → i < 2 ^ 63 → list_any (is_table name i) ts ≡ false → IsTgff (made gs (ts ++ states.new_table name i ∷ []))
+opens_table : (gs : List Graph) (ts : List Table) (name : List ℕ) (i : ℕ) → IsTgff (made gs ts) → IsWord name → i < 2 ^ 63 → list_any (is_table name i) ts ≡ false
+    → IsTgff (made gs (ts ++ states.new_table name i ∷ []))
 opens_table gs ts name i f w l none = record {
   graphs_in = f.graphs_in;
   graphs_distinct = f.graphs_distinct;
@@ -217,7 +219,8 @@ outside_more b ws s h some e =
           = ap first_broken (sym (chosen (is_opening ws) (faults.opening_tests b name index) ((StrayClose, is_closing ws) ∷ []) t)) ∙ e in
           let tests = faults.opening_tests b name index in
           let word : IsWord name = word_rest (first ws) (h 0 [] some) (fine_for BadStatement tests tried) in
-          let next : IsState (standing now b) = opens b name (read_or 0 index) s word (index_small ws) (number_new b name index (fine_for BadNumber tests tried) (fine_for TooBig tests tried) (fine_for RepeatedName tests tried)) in
+          let next : IsState (standing now b) = opens b name (read_or 0 index) s word (index_small ws)
+              (number_new b name index (fine_for BadNumber tests tried) (fine_for TooBig tests tried) (fine_for RepeatedName tests tried)) in
           subst (λ (c : Open). IsState (standing c b)) (sym (chosen (is_opening ws) now Outside t)) next
     ]
 
@@ -272,7 +275,8 @@ few_arcs : (c : Open) (b : Blocks) → IsState (standing c b) → b.arcs ≤ mos
 few_arcs c b s = omega (arith, s.arcs_are, s.file.few_arcs)
 
 -- a change that keeps the tasks and the arcs
-same_counts : (b : Blocks) (g h : Graph) → IsState (standing (InGraph g) b) → IsGraph h → h.index ≡ g.index → length h.tasks ≡ length g.tasks → length h.arcs ≡ length g.arcs → IsState (standing (InGraph h) b)
+same_counts : (b : Blocks) (g h : Graph) → IsState (standing (InGraph g) b) → IsGraph h → h.index ≡ g.index → length h.tasks ≡ length g.tasks → length h.arcs ≡ length g.arcs
+    → IsState (standing (InGraph h) b)
 same_counts b g h s k same et ea = graph_line b b g h s refl refl k same (omega (arith, et)) (omega (arith, ea)) (few_tasks (InGraph g) b s) (few_arcs (InGraph g) b s)
 
 name_at : (ws : Words) (i : ℕ) → All IsWord ws → i < length ws → faults.is_long (word_at ws i) ≡ false → IsName (word_at ws i)
@@ -282,7 +286,9 @@ known_place : (tasks : List TgffTask) (name : List ℕ) → faults.is_unknown ta
 known_place tasks name e = leb-false (length tasks) (faults.place_of tasks name) e
 
 period_more : (g : Graph) (ws : Words) → IsGraph g → IsGraph (states.with_period g ws)
-period_more g ws f = record { index = f.index; period = decimal_small (word_at ws 1); tasks_in = f.tasks_in; tasks_distinct = f.tasks_distinct; arcs_in = f.arcs_in; arcs_distinct = f.arcs_distinct; no_cycle = f.no_cycle; deadlines_in = f.deadlines_in }
+period_more g ws f =
+    record { index = f.index; period = decimal_small (word_at ws 1); tasks_in = f.tasks_in; tasks_distinct = f.tasks_distinct; arcs_in = f.arcs_in; arcs_distinct = f.arcs_distinct; no_cycle =
+    f.no_cycle; deadlines_in = f.deadlines_in }
 
 task_more : (b : Blocks) (g : Graph) (ws : Words) → IsGraph g → All IsWord ws → first_broken (faults.task_tests b g ws) ≡ None → IsGraph (states.with_task g ws)
 task_more b g ws f h e =
@@ -299,7 +305,9 @@ task_more b g ws f h e =
       period = f.period;
       tasks_in = All-push IsTask g.tasks t f.tasks_in (record { named = name_at ws 1 h (omega (arith, long)) short; kind = whole_small (word_at ws 3) });
       tasks_distinct = distinct_more task_name (faults.is_task (word_at ws 1)) g.tasks t f.tasks_distinct (λ y e. same_bytes y.name (word_at ws 1) e) new;
-      arcs_in = All-weaker (IsArc (length g.tasks)) (IsArc (length (g.tasks ++ t ∷ []))) (λ arc k. record { named = k.named; from = omega (arith, k.from, more); to = omega (arith, k.to, more); kind = k.kind }) g.arcs f.arcs_in;
+      arcs_in =
+          All-weaker (IsArc (length g.tasks)) (IsArc (length (g.tasks ++ t ∷ []))) (λ arc k. record { named = k.named; from = omega (arith, k.from, more); to = omega (arith, k.to, more); kind =
+          k.kind }) g.arcs f.arcs_in;
       arcs_distinct = f.arcs_distinct;
       no_cycle = f.no_cycle;
       deadlines_in = All-weaker (IsDeadline (length g.tasks)) (IsDeadline (length (g.tasks ++ t ∷ []))) (λ d k. record { task = omega (arith, k.task, more); at = k.at }) g.deadlines f.deadlines_in;
@@ -342,7 +350,8 @@ deadline_more g hard ws f e = record {
   arcs_in = f.arcs_in;
   arcs_distinct = f.arcs_distinct;
   no_cycle = f.no_cycle;
-  deadlines_in = All-push (IsDeadline (length g.tasks)) g.deadlines (states.deadline_of g.tasks hard ws) f.deadlines_in (record { task = known_place g.tasks (word_at ws 3) (fine_for UnknownName (faults.deadline_tests g ws) e); at = decimal_small (word_at ws 5) });
+  deadlines_in = All-push (IsDeadline (length g.tasks)) g.deadlines (states.deadline_of g.tasks hard ws) f.deadlines_in
+      (record { task = known_place g.tasks (word_at ws 3) (fine_for UnknownName (faults.deadline_tests g ws) e); at = decimal_small (word_at ws 5) });
 }
 
 known_more : (b : Blocks) (g : Graph) (ws : Words) (keyword : Option Keyword) → IsState (standing (InGraph g) b) → All IsWord ws → first_broken (faults.known_tests b g ws keyword) ≡ None

@@ -58,7 +58,8 @@ number_stays : (names : List Name) (x name : Name) → Contains names name → n
 number_stays names x name h =
     let n = number_of names name in
     position_or_len_push (bytes_eq name) names x
-    ∙ ap (λ (b : Bool). cond b (length names + cond (bytes_eq name x) 0 1) n) (false_from_ne_true _ (λ t. let e : n ≡ length names = eqb-true n (length names) t in omega (arith, e, number_within names name h)))
+    ∙ ap (λ (b : Bool). cond b (length names + cond (bytes_eq name x) 0 1) n) (false_from_ne_true _ (λ t. let e : n ≡ length names = eqb-true n (length names) t in
+        omega (arith, e, number_within names name h)))
 
 -- a name whose number is below their count is there
 there_by : (names : List Name) (name : Name) → number_of names name < length names → Contains names name
@@ -168,7 +169,8 @@ found_with_table names old new tables t n f h u = record {
           false≢true (sym e ∙ same_pair name index c (sym (ap (λ (z : Table). z.name) k) ∙ y.name_is) (sym (ap (λ (z : Table). z.index) k) ∙ y.index_is))
     ]
 
-    at : (name : Name) (index : ℕ) → Contains names name → (is_pair (n, t.index) (number_of names name, index) ≡ true) ⊎ (is_pair (n, t.index) (number_of names name, index) ≡ false) → Found name index (new (number_of names name, index))
+    at : (name : Name) (index : ℕ) → Contains names name → (is_pair (n, t.index) (number_of names name, index) ≡ true) ⊎ (is_pair (n, t.index) (number_of names name, index) ≡ false)
+        → Found name index (new (number_of names name, index))
     at name index c (inl y) =
         let both = and_both (n == number_of names name) (t.index == index) y in
         let e : t.name ≡ name = one_name names t.name name there c (sym h.first ∙ eqb-true n (number_of names name) both.0) in
@@ -180,7 +182,8 @@ found_with_table names old new tables t n f h u = record {
           index_is = ap (λ (z : Table). z.index) (at_end tables t) ∙ k;
         })
     at name index c (inr e) =
-        let is : new (number_of names name, index) ≡ old (number_of names name, index) = u (number_of names name, index) ∙ ap (λ (b : Bool). cond b (Some (length tables)) (old (number_of names name, index))) e in
+        let is : new (number_of names name, index) ≡ old (number_of names name, index) = u (number_of names name, index)
+            ∙ ap (λ (b : Bool). cond b (Some (length tables)) (old (number_of names name, index))) e in
         subst (Found name index) (sym is) (older name index c e (old (number_of names name, index)) (f.found name index c))
 
 -- a name without a number is no table's
@@ -188,28 +191,36 @@ pub no_such : (names : List Name) (place : ℕ × ℕ → Option ℕ) (tables : 
 no_such names place tables name index f away i t = away (subst (Contains names) t.name_is (f.named i _ t.there))
 
 -- what is found by the number of a name is found by the name
-pub found_by : (names : List Name) (place : ℕ × ℕ → Option ℕ) (tables : List Table) (name : Name) (index n : ℕ) (o : Option ℕ) → AreFound names place tables → IsNumberOf names name n → o ≡ place (n, index)
+pub found_by : (names : List Name) (place : ℕ × ℕ → Option ℕ) (tables : List Table) (name : Name) (index n : ℕ) (o : Option ℕ) → AreFound names place tables → IsNumberOf names name n
+    → o ≡ place (n, index)
     → MatchOption o (HasNoTable tables name index) (IsTableAt tables name index)
 found_by names place tables name index n o f h e =
-    subst (λ (x : Option ℕ). MatchOption x (HasNoTable tables name index) (IsTableAt tables name index)) (sym (e ∙ ap (λ (k : ℕ). place (k, index)) h.first)) (f.found name index (is_there names name n h))
+    subst (λ (x : Option ℕ). MatchOption x (HasNoTable tables name index) (IsTableAt tables name index)) (sym (e ∙ ap (λ (k : ℕ). place (k, index)) h.first))
+        (f.found name index (is_there names name n h))
 
 -- entries that stay find what they found
-pub found_unchanged : {S : Type 0} (names : List Name) (old new : HashMap (ℕ × ℕ) ℕ S) (tables : List Table) → new.entries ≡ old.entries → AreFound names (place_in old) tables → AreFound names (place_in new) tables
+pub found_unchanged : {S : Type 0} (names : List Name) (old new : HashMap (ℕ × ℕ) ℕ S) (tables : List Table) → new.entries ≡ old.entries → AreFound names (place_in old) tables
+    → AreFound names (place_in new) tables
 found_unchanged names old new tables e f = subst (λ (es : List ((ℕ × ℕ) × ℕ)). AreFound names (λ p. lookup (is_pair p) es) tables) (sym e) f
 
 -- a search by name and index tells whether a table passes the test
-pub tells : (tables : List Table) (name : Name) (index : ℕ) (o : Option ℕ) → MatchOption o (HasNoTable tables name index) (IsTableAt tables name index) → is_some o ≡ list_any (is_table name index) tables
-tells tables name index (Some i) h = sym (list_any_at (is_table name index) tables i _ h.there (and_from _ _ ((bytes_eq-Decides (table_at tables i).name name).1 h.name_is) (eq-eqb (table_at tables i).index index h.index_is)))
+pub tells : (tables : List Table) (name : Name) (index : ℕ) (o : Option ℕ) → MatchOption o (HasNoTable tables name index) (IsTableAt tables name index)
+    → is_some o ≡ list_any (is_table name index) tables
+tells tables name index (Some i) h =
+    sym (list_any_at (is_table name index) tables i _ h.there (and_from _ _ ((bytes_eq-Decides (table_at tables i).name name).1 h.name_is) (eq-eqb (table_at tables i).index index h.index_is)))
 tells tables name index None h = sym (list_any_none (is_table name index) tables (λ i d l. false_from_ne_true _ (λ y.
     let e : get_or tables i d ≡ table_at tables i = get_or_default tables i d (record { name = []; index = 0; rows = [] }) l in
     let both = and_both (bytes_eq (get_or tables i d).name name) ((get_or tables i d).index == index) y in
-    h i (record { there = l; name_is = sym (ap (λ (z : Table). z.name) e) ∙ same (get_or tables i d).name name both.0; index_is = sym (ap (λ (z : Table). z.index) e) ∙ eqb-true (get_or tables i d).index index both.1 }))))
+    h i (record { there = l; name_is = sym (ap (λ (z : Table). z.name) e) ∙ same (get_or tables i d).name name both.0; index_is = sym (ap (λ (z : Table). z.index) e)
+        ∙ eqb-true (get_or tables i d).index index both.1 }))))
 
 -- ---- graphs
 
 -- a graph more brings its index
-pub indices_with : (old new : List ℕ) (graphs : List Graph) (g : Graph) → AreIndices old graphs → ((q : ℕ) → list_any (λ k. q == k) new ≡ cond (g.index == q) true (list_any (λ k. q == k) old)) → AreIndices new (graphs ++ g ∷ [])
-indices_with old new graphs g h u i = u i ∙ go (g.index == i) (list_any (λ k. i == k) old) ∙ ap (λ (b : Bool). b || ((g.index == i) || false)) (h i) ∙ sym (list_any-append (is_graph i) graphs (g ∷ []))
+pub indices_with : (old new : List ℕ) (graphs : List Graph) (g : Graph) → AreIndices old graphs → ((q : ℕ) → list_any (λ k. q == k) new ≡ cond (g.index == q) true (list_any (λ k. q == k) old))
+    → AreIndices new (graphs ++ g ∷ [])
+indices_with old new graphs g h u i =
+    u i ∙ go (g.index == i) (list_any (λ k. i == k) old) ∙ ap (λ (b : Bool). b || ((g.index == i) || false)) (h i) ∙ sym (list_any-append (is_graph i) graphs (g ∷ []))
   where
     go : (b c : Bool) → cond b true c ≡ (c || (b || false))
     go true true = refl

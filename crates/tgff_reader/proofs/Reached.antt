@@ -84,7 +84,8 @@ tells_more r ms arc t a b = (to, from)
 
 tells_all : (r : Way) (ms : List Message) (arcs : List TgffArc) → Tells r ms → Tells (with_arcs r arcs) (ms ++ map message_of arcs)
 tells_all r ms [] t = subst (Tells r) (sym (append-nil ms)) t
-tells_all r ms (x ∷ arcs) t = subst (Tells (with_arcs (with_arc r x) arcs)) (append_assoc ms (message_of x ∷ []) (map message_of arcs)) (tells_all (with_arc r x) (ms ++ message_of x ∷ []) arcs (tells_more r ms x t))
+tells_all r ms (x ∷ arcs) t =
+    subst (Tells (with_arcs (with_arc r x) arcs)) (append_assoc ms (message_of x ∷ []) (map message_of arcs)) (tells_all (with_arc r x) (ms ++ message_of x ∷ []) arcs (tells_more r ms x t))
 
 -- A task is reached exactly where a chain of messages leads to it.
 pub reaches_tells : (arcs : List TgffArc) → Tells (reaches arcs) (messages_of arcs)

@@ -15,7 +15,8 @@ value_in-none (e ∷ es) x h =
     grind (arith, nat_tests)
 
 -- a variable that one entry has, has the value and the reason there
-pub value_in-at : (es : List Entry) (x k : ℕ) (d : Entry) → k < length es → (get_or es k d).lit.var ≡ x → ((j : ℕ) (f : Entry) → j < length es → (get_or es j f).lit.var ≡ x → j ≡ k) → (value_in es x ≡ Some (get_or es k d).lit.yes) × (reason_in es x ≡ (get_or es k d).reason)
+pub value_in-at : (es : List Entry) (x k : ℕ) (d : Entry) → k < length es → (get_or es k d).lit.var ≡ x → ((j : ℕ) (f : Entry) → j < length es → (get_or es j f).lit.var ≡ x → j ≡ k)
+    → (value_in es x ≡ Some (get_or es k d).lit.yes) × (reason_in es x ≡ (get_or es k d).reason)
 value_in-at [] x k d h e u = absurd (omega arith)
 value_in-at (f ∷ es) x zero d h e u = (grind (arith, nat_tests), grind (arith, nat_tests))
 value_in-at (f ∷ es) x (suc k) d h e u =

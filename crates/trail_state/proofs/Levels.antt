@@ -61,7 +61,8 @@ before-level [] x (suc p) b h = absurd (cc)
 before-level (f ∷ es) x zero b h = absurd (cc)
 before-level (f ∷ es) x (suc p) b h = go (eqb f.lit.var x) refl (before-level es x p b)
   where
-    go : (o : Bool) → eqb f.lit.var x ≡ o → (value_in (take p es) x ≡ Some b → (level_in es x ≤ level_of (take p es)) × (value_in es x ≡ Some b)) → (level_in (f ∷ es) x ≤ level_of (f ∷ take p es)) × (value_in (f ∷ es) x ≡ Some b)
+    go : (o : Bool) → eqb f.lit.var x ≡ o → (value_in (take p es) x ≡ Some b → (level_in es x ≤ level_of (take p es)) × (value_in es x ≡ Some b)) → (level_in (f ∷ es) x ≤ level_of (f ∷ take p es))
+        × (value_in (f ∷ es) x ≡ Some b)
     go true q ih =
         let v : value_in (f ∷ take p es) x ≡ Some f.lit.yes = rw q refl in
         let c = level-cons f (take p es) in
@@ -102,16 +103,19 @@ level_in-push es e h =
     at.level ∙ ap (λ (us : List Entry). level_of us + cond (is_decision (get_or fs (length es) e)) 1 0) t ∙ ap (λ (f : Entry). level_of es + cond (is_decision f) 1 0) g ∙ sym (level-push es e)
 
 -- another reason leaves the levels, where no entry of the variable is a decision
-pub level_in-with_reason : (x : ℕ) (reason : ConId) (es : List Entry) (y : ℕ) → ((k : ℕ) (d : Entry) → k < length es → (get_or es k d).lit.var ≡ x → is_decision (get_or es k d) ≡ false) → level_in (with_reason x reason es) y ≡ level_in es y
+pub level_in-with_reason : (x : ℕ) (reason : ConId) (es : List Entry) (y : ℕ) → ((k : ℕ) (d : Entry) → k < length es → (get_or es k d).lit.var ≡ x → is_decision (get_or es k d) ≡ false)
+    → level_in (with_reason x reason es) y ≡ level_in es y
 level_in-with_reason x reason [] y h = refl
 level_in-with_reason x reason (e ∷ es) y h = go (eqb e.lit.var x) refl (h 0 e (omega arith)) (level_in-with_reason x reason es y (λ k d l. h (suc k) d (omega arith)))
   where
-    go : (b : Bool) → eqb e.lit.var x ≡ b → (e.lit.var ≡ x → is_decision e ≡ false) → level_in (with_reason x reason es) y ≡ level_in es y → level_in (with_reason x reason (e ∷ es)) y ≡ level_in (e ∷ es) y
+    go : (b : Bool) → eqb e.lit.var x ≡ b → (e.lit.var ≡ x → is_decision e ≡ false) → level_in (with_reason x reason es) y ≡ level_in es y
+        → level_in (with_reason x reason (e ∷ es)) y ≡ level_in (e ∷ es) y
     go true q n ih = (let hit : e.lit.var ≡ x = grind (arith, nat_tests) in rw (q, n hit, ih) refl)
     go false q n ih = rw (q, ih) refl
 
 -- another reason leaves the level, where no entry of the variable is a decision
-pub level_of-with_reason : (x : ℕ) (reason : ConId) (es : List Entry) → ((k : ℕ) (d : Entry) → k < length es → (get_or es k d).lit.var ≡ x → is_decision (get_or es k d) ≡ false) → level_of (with_reason x reason es) ≡ level_of es
+pub level_of-with_reason : (x : ℕ) (reason : ConId) (es : List Entry) → ((k : ℕ) (d : Entry) → k < length es → (get_or es k d).lit.var ≡ x → is_decision (get_or es k d) ≡ false)
+    → level_of (with_reason x reason es) ≡ level_of es
 level_of-with_reason x reason [] h = refl
 level_of-with_reason x reason (e ∷ es) h =
     let ih = level_of-with_reason x reason es (λ k d l. h (suc k) d (omega arith)) in
@@ -185,7 +189,8 @@ upto_level-take zero (e ∷ es) = go (is_decision e) refl (upto_level-take zero 
     go false q ih = rw q (ap (λ (us : List Entry). e ∷ us) ih)
 upto_level-take (suc n) (e ∷ es) = go (is_decision e) refl (upto_level-take n es) (upto_level-take (suc n) es)
   where
-    go : (o : Bool) → is_decision e ≡ o → take (length (upto_level n es)) es ≡ upto_level n es → take (length (upto_level (suc n) es)) es ≡ upto_level (suc n) es → take (length (upto_level (suc n) (e ∷ es))) (e ∷ es) ≡ upto_level (suc n) (e ∷ es)
+    go : (o : Bool) → is_decision e ≡ o → take (length (upto_level n es)) es ≡ upto_level n es → take (length (upto_level (suc n) es)) es ≡ upto_level (suc n) es
+        → take (length (upto_level (suc n) (e ∷ es))) (e ∷ es) ≡ upto_level (suc n) (e ∷ es)
     go true q ih ih' = rw q (ap (λ (us : List Entry). e ∷ us) ih)
     go false q ih ih' = rw q (ap (λ (us : List Entry). e ∷ us) ih')
 
@@ -234,7 +239,8 @@ level_of-upto_level zero (e ∷ es) h = go (is_decision e) refl (level_of-upto_l
     go false q ih = (let c = level-cons e (upto_level 0 es) in let c' = rw q at c in rw q (omega arith))
 level_of-upto_level (suc n) (e ∷ es) h = go (is_decision e) refl (level_of-upto_level n es) (level_of-upto_level (suc n) es)
   where
-    go : (b : Bool) → is_decision e ≡ b → (n ≤ level_of es → level_of (upto_level n es) ≡ n) → (suc n ≤ level_of es → level_of (upto_level (suc n) es) ≡ suc n) → level_of (upto_level (suc n) (e ∷ es)) ≡ suc n
+    go : (b : Bool) → is_decision e ≡ b → (n ≤ level_of es → level_of (upto_level n es) ≡ n) → (suc n ≤ level_of es → level_of (upto_level (suc n) es) ≡ suc n)
+        → level_of (upto_level (suc n) (e ∷ es)) ≡ suc n
     go true q ih ih' =
         let c = level-cons e (upto_level n es) in
         let c' = rw q at c in
@@ -266,7 +272,8 @@ upto_level-twice zero (suc n) (e ∷ es) h = go (is_decision e) refl (upto_level
 upto_level-twice (suc m) zero (e ∷ es) h = absurd (omega arith)
 upto_level-twice (suc m) (suc n) (e ∷ es) h = go (is_decision e) refl (upto_level-twice m n es (omega arith)) (upto_level-twice (suc m) (suc n) es h)
   where
-    go : (b : Bool) → is_decision e ≡ b → upto_level m (upto_level n es) ≡ upto_level m es → upto_level (suc m) (upto_level (suc n) es) ≡ upto_level (suc m) es → upto_level (suc m) (upto_level (suc n) (e ∷ es)) ≡ upto_level (suc m) (e ∷ es)
+    go : (b : Bool) → is_decision e ≡ b → upto_level m (upto_level n es) ≡ upto_level m es → upto_level (suc m) (upto_level (suc n) es) ≡ upto_level (suc m) es
+        → upto_level (suc m) (upto_level (suc n) (e ∷ es)) ≡ upto_level (suc m) (e ∷ es)
     go true q ih ih' = rw (q, q) (ap (λ (us : List Entry). e ∷ us) ih)
     go false q ih ih' = rw (q, q) (ap (λ (us : List Entry). e ∷ us) ih')
 
@@ -281,7 +288,8 @@ value_in-upto_level zero (e ∷ es) x h = go (is_decision e) (eqb e.lit.var x) r
     go false false q r ih = (let h' = rw (q, r) at h in rw (q, r) (ih (omega arith)))
 value_in-upto_level (suc n) (e ∷ es) x h = go (is_decision e) (eqb e.lit.var x) refl refl (λ m. value_in-upto_level m es x)
   where
-    go : (b o : Bool) → is_decision e ≡ b → eqb e.lit.var x ≡ o → ((m : ℕ) → level_in es x ≤ m → value_in (upto_level m es) x ≡ value_in es x) → value_in (upto_level (suc n) (e ∷ es)) x ≡ value_in (e ∷ es) x
+    go : (b o : Bool) → is_decision e ≡ b → eqb e.lit.var x ≡ o → ((m : ℕ) → level_in es x ≤ m → value_in (upto_level m es) x ≡ value_in es x)
+        → value_in (upto_level (suc n) (e ∷ es)) x ≡ value_in (e ∷ es) x
     go true true q r ih = rw (q, r) refl
     go true false q r ih = (let h' = rw (q, r) at h in rw (q, r) (ih n (omega arith)))
     go false true q r ih = rw (q, r) refl

@@ -9,8 +9,11 @@ pub loop-x-preserved : goal.loop-x-preserved
 loop-x-preserved c =
     let s = c.args.spec.now in
     elim c.if-weight-gt0.branch [
-      | then-weight-gt0+in_ok-push w ↦ unused-more_some s c.args.j c.loop-x.x c.weight-weight.result (record { coef = c.weight-weight.result; lit = w.no.result }) c.loop-x.terms.items c.if-weight-gt0.terms.items c.loop-x.invariant c.weight-weight.ensures.weight w.if-weight-gt0.true (ap (λ (l : Literal). make c.weight-weight.result l) w.no.ensures) (items w.terms-is ∙ w.in_ok-push.ensures.items)
-      | else-weight-gt0 w ↦ unused-more_none s c.args.j c.loop-x.x c.weight-weight.result c.loop-x.terms.items c.if-weight-gt0.terms.items c.loop-x.invariant c.weight-weight.ensures.weight w.if-weight-gt0.false (items w.terms-is)
+      | then-weight-gt0+in_ok-push w ↦ unused-more_some s c.args.j c.loop-x.x c.weight-weight.result (record { coef = c.weight-weight.result; lit = w.no.result }) c.loop-x.terms.items
+          c.if-weight-gt0.terms.items c.loop-x.invariant c.weight-weight.ensures.weight w.if-weight-gt0.true (ap (λ (l : Literal). make c.weight-weight.result l) w.no.ensures)
+          (items w.terms-is ∙ w.in_ok-push.ensures.items)
+      | else-weight-gt0 w ↦ unused-more_none s c.args.j c.loop-x.x c.weight-weight.result c.loop-x.terms.items c.if-weight-gt0.terms.items c.loop-x.invariant c.weight-weight.ensures.weight
+          w.if-weight-gt0.false (items w.terms-is)
     ]
   where
     make : ℕ → Literal → Term

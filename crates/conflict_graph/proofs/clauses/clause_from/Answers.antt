@@ -18,7 +18,8 @@ loop-x-preserved c =
     let inv : c.loop-x.terms.items ≡ clause_row x 0 f = c.loop-x.invariant in
     let R : Option Bool → List Term = λ o. clause_row x 0 f ++ with_literal x o [] in
     elim c.match-clause-x.branch [
-      | in-Some+in_ok-push w ↦ (rw w.terms-is (w.in_ok-push.ensures.items ∙ ap (λ (l : Literal). let t : Term = record { coef = 1; lit = l } in c.loop-x.terms.items ++ t ∷ []) w.literal.ensures ∙ ap (λ (ts : List Term). ts ++ with_literal x (Some w.in-Some.yes) []) inv ∙ ap R (sym w.in-Some.is) ∙ sym more))
+      | in-Some+in_ok-push w ↦ (rw w.terms-is (w.in_ok-push.ensures.items ∙ ap (λ (l : Literal). let t : Term = record { coef = 1; lit = l } in c.loop-x.terms.items ++ t ∷ []) w.literal.ensures
+          ∙ ap (λ (ts : List Term). ts ++ with_literal x (Some w.in-Some.yes) []) inv ∙ ap R (sym w.in-Some.is) ∙ sym more))
       | in_default w ↦ (rw w.terms-is (inv ∙ sym (append-nil (clause_row x 0 f)) ∙ ap R (sym w.in_default.is) ∙ sym more))
     ]
 

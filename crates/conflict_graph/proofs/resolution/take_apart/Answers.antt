@@ -45,7 +45,8 @@ loop-place-init c =
     ∙ ap (λ (a : ℕ → Option Bool). clause_ops pid a con) all in
     record {
       place = omega arith;
-      learning = start-same live es n (length c.literals-place.result.now) c.mark-count.result f (false_signs (value_in es) con.terms) (clause_ops pid (value_in es) con) c.explain.new.ops.items len f-is count ops (learning-start live es n c.args.conflict c.requires.few c.requires.usable c.in_ok-explain.ensures.normal c.requires.conflict c.requires.current);
+      learning = start-same live es n (length c.literals-place.result.now) c.mark-count.result f (false_signs (value_in es) con.terms) (clause_ops pid (value_in es) con) c.explain.new.ops.items
+          len f-is count ops (learning-start live es n c.args.conflict c.requires.few c.requires.usable c.in_ok-explain.ensures.normal c.requires.conflict c.requires.current);
     }
 
 pub returns-then-not-goes_on : goal.returns-then-not-goes_on
@@ -53,10 +54,12 @@ returns-then-not-goes_on c =
     let off = c.goes_on.ensures.off c.if-not-goes_on.true in
     let pos = off.0 in
     let level = c.level-level.ensures in
-    learnt-one c.args.store.now c.args.trail.now.entries c.args.trail.now.variables c.loop-place.place (signs c.loop-place.clause) c.loop-place.count c.loop-place.ops.items (omega arith) off.1 c.loop-place.invariant.learning
+    learnt-one c.args.store.now c.args.trail.now.entries c.args.trail.now.variables c.loop-place.place (signs c.loop-place.clause) c.loop-place.count c.loop-place.ops.items (omega arith) off.1
+        c.loop-place.invariant.learning
 
 pub returns : goal.returns
 returns c =
     let zero : c.loop-place.place ≡ 0 = omega arith in
     let P : ℕ → Type 0 = λ p. Learning c.args.store.now c.args.trail.now.entries c.args.trail.now.variables p (signs c.loop-place.clause) c.loop-place.count c.loop-place.ops.items in
-    learnt-none c.args.store.now c.args.trail.now.entries c.args.trail.now.variables (signs c.loop-place.clause) c.loop-place.count c.loop-place.ops.items (subst P zero c.loop-place.invariant.learning)
+    learnt-none c.args.store.now c.args.trail.now.entries c.args.trail.now.variables (signs c.loop-place.clause) c.loop-place.count c.loop-place.ops.items
+        (subst P zero c.loop-place.invariant.learning)

@@ -15,6 +15,7 @@ loop-t-preserved c =
     let more = cut-more d c.args.terms.now i t c.loop-t-test.true c.t-item.is in
     let inv : c.loop-t.out.items ≡ done = c.loop-t.invariant in
     elim c.if-coef-gt0.branch [
-      | then-coef-gt0+in_ok-push w ↦ (rw w.out-is (w.in_ok-push.ensures.items ∙ ap (λ (os : List Term). let r : Term = record { coef = c.min-coef.result; lit = t.lit } in os ++ r ∷ []) inv ∙ ap (λ (us : List Term). done ++ us) (sym (cut-hit d t c.min-coef.result c.min-coef.ensures w.if-coef-gt0.true)) ∙ sym more))
+      | then-coef-gt0+in_ok-push w ↦ (rw w.out-is (w.in_ok-push.ensures.items ∙ ap (λ (os : List Term). let r : Term = record { coef = c.min-coef.result; lit = t.lit } in os ++ r ∷ []) inv
+          ∙ ap (λ (us : List Term). done ++ us) (sym (cut-hit d t c.min-coef.result c.min-coef.ensures w.if-coef-gt0.true)) ∙ sym more))
       | else-coef-gt0 w ↦ (rw w.out-is (inv ∙ sym (append-nil done) ∙ ap (λ (us : List Term). done ++ us) (sym (cut-miss d t c.min-coef.result c.min-coef.ensures w.if-coef-gt0.false)) ∙ sym more))
     ]

@@ -13,7 +13,8 @@ use Rattle.run_base.specs.Reading.{file_of, ReadsArch}
 use Rattle.run_base.proofs.reading.read_joined.Goals as goal
 
 -- what joining answers to a file that isn't too long and breaks no rule of its own
-joins_as : (tgff : TgffValue) (bytes : List ℕ) (reading : Result SpecValue ReadFault) → length bytes ≤ most_file_bytes → HasNoFault arch_rules (lines bytes) → JoinReads tgff (file_of bytes) reading → ReadsArch bytes tgff reading
+joins_as : (tgff : TgffValue) (bytes : List ℕ) (reading : Result SpecValue ReadFault) → length bytes ≤ most_file_bytes → HasNoFault arch_rules (lines bytes)
+    → JoinReads tgff (file_of bytes) reading → ReadsArch bytes tgff reading
 joins_as tgff bytes (Ok spec) short none h = record { file = record { short = short; unbroken = none }; joined = h }
 joins_as tgff bytes (Err (faults.Refused r)) short none h = inr (inr (record { file = record { short = short; unbroken = none }; refused = h }))
 joins_as tgff bytes (Err faults.NoMemory) short none h = tt

@@ -48,9 +48,11 @@ decided l = record { lit = l; reason = None } ∷ []
 abbrev implied : ConId → Literal → List Entry
 implied a l = record { lit = l; reason = Some a } ∷ []
 
-built : (t0 t1 t2 : List Entry) (l m : Literal) (a : ConId) → t0 ≡ [] → t1 ≡ t0 ++ decided l → t2 ≡ t1 ++ implied a m → l ≡ record { var = 0; yes = false } → m ≡ record { var = 1; yes = true } → t2 ≡ entries a
+built : (t0 t1 t2 : List Entry) (l m : Literal) (a : ConId) → t0 ≡ [] → t1 ≡ t0 ++ decided l → t2 ≡ t1 ++ implied a m → l ≡ record { var = 0; yes = false } → m ≡ record { var = 1; yes = true }
+    → t2 ≡ entries a
 built t0 t1 t2 l m a e f g h k =
-    g ∙ ap (λ (es : List Entry). es ++ implied a m) f ∙ ap (λ (es : List Entry). (es ++ decided l) ++ implied a m) e ∙ ap (λ (l : Literal). decided l ++ implied a m) h ∙ ap (λ (m : Literal). decided (record { var = 0; yes = false }) ++ implied a m) k
+    g ∙ ap (λ (es : List Entry). es ++ implied a m) f ∙ ap (λ (es : List Entry). (es ++ decided l) ++ implied a m) e ∙ ap (λ (l : Literal). decided l ++ implied a m) h
+        ∙ ap (λ (m : Literal). decided (record { var = 0; yes = false }) ++ implied a m) k
 
 usable : (live : List Live) (a : ConId) (b : Bool) → is_live live a ≡ true → constraint_of live a ≡ either b → IsUsable live 2 a
 usable live a b l e =
@@ -64,7 +66,8 @@ record Meets (live : List Live) (n : ℕ) (es : List Entry) (b : ConId) : Type 0
   pub current : HasCurrent es (constraint_of live b).terms
   pub forced : AllForced live n es
 
-meets : (live : List Live) (n : ℕ) (es : List Entry) (a b : ConId) → n ≡ 2 → es ≡ entries a → is_live live a ≡ true → is_live live b ≡ true → constraint_of live a ≡ either true → constraint_of live b ≡ either false → Meets live n es b
+meets : (live : List Live) (n : ℕ) (es : List Entry) (a b : ConId) → n ≡ 2 → es ≡ entries a → is_live live a ≡ true → is_live live b ≡ true → constraint_of live a ≡ either true
+    → constraint_of live b ≡ either false → Meets live n es b
 meets live n es a b en ee la lb ca cb =
     let P : ℕ → Type 0 = λ n. Meets live n es b in
     let Q : List Entry → Type 0 = λ es. Meets live 2 es b in
@@ -78,13 +81,25 @@ meets live n es a b en ee la lb ca cb =
     }))
 
 pub analyse-requires-clause-usable : goal.analyse-requires-clause-usable
-analyse-requires-clause-usable c = (meets c.args.store.now c.push.new.self.variables c.push.new.self.entries c.args.forcing c.args.conflict (c.push.ensures.variables ∙ c.decide.ensures.variables ∙ ap (λ (t : TrailView). t.variables) c.in_ok-trail.ensures) (built c.in_ok-trail.trail.entries c.decide.new.self.entries c.push.new.self.entries c.no.result c.yes.result c.args.forcing (ap (λ (t : TrailView). t.entries) c.in_ok-trail.ensures) c.decide.ensures.entries c.push.ensures.entries c.no.ensures c.yes.ensures) c.requires.forcing_live c.requires.conflict_live c.requires.forcing c.requires.conflict).usable
+analyse-requires-clause-usable c = (meets c.args.store.now c.push.new.self.variables c.push.new.self.entries c.args.forcing c.args.conflict
+    (c.push.ensures.variables ∙ c.decide.ensures.variables ∙ ap (λ (t : TrailView). t.variables) c.in_ok-trail.ensures)
+    (built c.in_ok-trail.trail.entries c.decide.new.self.entries c.push.new.self.entries c.no.result c.yes.result c.args.forcing (ap (λ (t : TrailView). t.entries) c.in_ok-trail.ensures)
+    c.decide.ensures.entries c.push.ensures.entries c.no.ensures c.yes.ensures) c.requires.forcing_live c.requires.conflict_live c.requires.forcing c.requires.conflict).usable
 
 pub analyse-requires-clause-conflict : goal.analyse-requires-clause-conflict
-analyse-requires-clause-conflict c = (meets c.args.store.now c.push.new.self.variables c.push.new.self.entries c.args.forcing c.args.conflict (c.push.ensures.variables ∙ c.decide.ensures.variables ∙ ap (λ (t : TrailView). t.variables) c.in_ok-trail.ensures) (built c.in_ok-trail.trail.entries c.decide.new.self.entries c.push.new.self.entries c.no.result c.yes.result c.args.forcing (ap (λ (t : TrailView). t.entries) c.in_ok-trail.ensures) c.decide.ensures.entries c.push.ensures.entries c.no.ensures c.yes.ensures) c.requires.forcing_live c.requires.conflict_live c.requires.forcing c.requires.conflict).conflict
+analyse-requires-clause-conflict c = (meets c.args.store.now c.push.new.self.variables c.push.new.self.entries c.args.forcing c.args.conflict
+    (c.push.ensures.variables ∙ c.decide.ensures.variables ∙ ap (λ (t : TrailView). t.variables) c.in_ok-trail.ensures)
+    (built c.in_ok-trail.trail.entries c.decide.new.self.entries c.push.new.self.entries c.no.result c.yes.result c.args.forcing (ap (λ (t : TrailView). t.entries) c.in_ok-trail.ensures)
+    c.decide.ensures.entries c.push.ensures.entries c.no.ensures c.yes.ensures) c.requires.forcing_live c.requires.conflict_live c.requires.forcing c.requires.conflict).conflict
 
 pub analyse-requires-clause-current : goal.analyse-requires-clause-current
-analyse-requires-clause-current c = λ _. (meets c.args.store.now c.push.new.self.variables c.push.new.self.entries c.args.forcing c.args.conflict (c.push.ensures.variables ∙ c.decide.ensures.variables ∙ ap (λ (t : TrailView). t.variables) c.in_ok-trail.ensures) (built c.in_ok-trail.trail.entries c.decide.new.self.entries c.push.new.self.entries c.no.result c.yes.result c.args.forcing (ap (λ (t : TrailView). t.entries) c.in_ok-trail.ensures) c.decide.ensures.entries c.push.ensures.entries c.no.ensures c.yes.ensures) c.requires.forcing_live c.requires.conflict_live c.requires.forcing c.requires.conflict).current
+analyse-requires-clause-current c = λ _. (meets c.args.store.now c.push.new.self.variables c.push.new.self.entries c.args.forcing c.args.conflict
+    (c.push.ensures.variables ∙ c.decide.ensures.variables ∙ ap (λ (t : TrailView). t.variables) c.in_ok-trail.ensures)
+    (built c.in_ok-trail.trail.entries c.decide.new.self.entries c.push.new.self.entries c.no.result c.yes.result c.args.forcing (ap (λ (t : TrailView). t.entries) c.in_ok-trail.ensures)
+    c.decide.ensures.entries c.push.ensures.entries c.no.ensures c.yes.ensures) c.requires.forcing_live c.requires.conflict_live c.requires.forcing c.requires.conflict).current
 
 pub analyse-requires-clause-forced : goal.analyse-requires-clause-forced
-analyse-requires-clause-forced c = (meets c.args.store.now c.push.new.self.variables c.push.new.self.entries c.args.forcing c.args.conflict (c.push.ensures.variables ∙ c.decide.ensures.variables ∙ ap (λ (t : TrailView). t.variables) c.in_ok-trail.ensures) (built c.in_ok-trail.trail.entries c.decide.new.self.entries c.push.new.self.entries c.no.result c.yes.result c.args.forcing (ap (λ (t : TrailView). t.entries) c.in_ok-trail.ensures) c.decide.ensures.entries c.push.ensures.entries c.no.ensures c.yes.ensures) c.requires.forcing_live c.requires.conflict_live c.requires.forcing c.requires.conflict).forced
+analyse-requires-clause-forced c = (meets c.args.store.now c.push.new.self.variables c.push.new.self.entries c.args.forcing c.args.conflict
+    (c.push.ensures.variables ∙ c.decide.ensures.variables ∙ ap (λ (t : TrailView). t.variables) c.in_ok-trail.ensures)
+    (built c.in_ok-trail.trail.entries c.decide.new.self.entries c.push.new.self.entries c.no.result c.yes.result c.args.forcing (ap (λ (t : TrailView). t.entries) c.in_ok-trail.ensures)
+    c.decide.ensures.entries c.push.ensures.entries c.no.ensures c.yes.ensures) c.requires.forcing_live c.requires.conflict_live c.requires.forcing c.requires.conflict).forced

@@ -61,7 +61,8 @@ implied a l = record { lit = l; reason = Some a } ∷ []
 
 built : (t0 t1 t2 : List Entry) (l m : Literal) (a b : ConId) → t0 ≡ [] → t1 ≡ t0 ++ implied a l → t2 ≡ t1 ++ implied b m → l ≡ x0 → m ≡ x1 → t2 ≡ entries a b
 built t0 t1 t2 l m a b e f g h k =
-    g ∙ ap (λ (es : List Entry). es ++ implied b m) f ∙ ap (λ (es : List Entry). (es ++ implied a l) ++ implied b m) e ∙ ap (λ (l : Literal). implied a l ++ implied b m) h ∙ ap (λ (m : Literal). implied a x0 ++ implied b m) k
+    g ∙ ap (λ (es : List Entry). es ++ implied b m) f ∙ ap (λ (es : List Entry). (es ++ implied a l) ++ implied b m) e ∙ ap (λ (l : Literal). implied a l ++ implied b m) h
+        ∙ ap (λ (m : Literal). implied a x0 ++ implied b m) k
 
 usable : (live : List Live) (a : ConId) (k : Linear) → is_live live a ≡ true → constraint_of live a ≡ k → VarsBelow 2 k.terms → IsUsable live 2 a
 usable live a k l e w =
@@ -75,7 +76,8 @@ record Meets (live : List Live) (n : ℕ) (es : List Entry) (c : ConId) : Type 0
   pub current : 0 < level_of es → HasCurrent es (constraint_of live c).terms
   pub forced : AllForced live n es
 
-meets : (live : List Live) (n : ℕ) (es : List Entry) (a b c : ConId) → n ≡ 2 → es ≡ entries a b → is_live live a ≡ true → is_live live b ≡ true → is_live live c ≡ true → constraint_of live a ≡ only → constraint_of live b ≡ either true → constraint_of live c ≡ either false → Meets live n es c
+meets : (live : List Live) (n : ℕ) (es : List Entry) (a b c : ConId) → n ≡ 2 → es ≡ entries a b → is_live live a ≡ true → is_live live b ≡ true → is_live live c ≡ true
+    → constraint_of live a ≡ only → constraint_of live b ≡ either true → constraint_of live c ≡ either false → Meets live n es c
 meets live n es a b c en ee la lb lc ca cb ck =
     let P : ℕ → Type 0 = λ n. Meets live n es c in
     let Q : List Entry → Type 0 = λ es. Meets live 2 es c in
@@ -88,13 +90,29 @@ meets live n es a b c en ee la lb lc ca cb ck =
     }))
 
 pub analyse-requires-clause-usable : goal.analyse-requires-clause-usable
-analyse-requires-clause-usable c = (meets c.args.store.now c.push-2.new.self.variables c.push-2.new.self.entries c.args.first c.args.second c.args.conflict (c.push-2.ensures.variables ∙ c.push.ensures.variables ∙ ap (λ (t : TrailView). t.variables) c.in_ok-trail.ensures) (built c.in_ok-trail.trail.entries c.push.new.self.entries c.push-2.new.self.entries c.yes.result c.yes-2.result c.args.first c.args.second (ap (λ (t : TrailView). t.entries) c.in_ok-trail.ensures) c.push.ensures.entries c.push-2.ensures.entries c.yes.ensures c.yes-2.ensures) c.requires.first_live c.requires.second_live c.requires.conflict_live c.requires.first c.requires.second c.requires.conflict).usable
+analyse-requires-clause-usable c = (meets c.args.store.now c.push-2.new.self.variables c.push-2.new.self.entries c.args.first c.args.second c.args.conflict
+    (c.push-2.ensures.variables ∙ c.push.ensures.variables ∙ ap (λ (t : TrailView). t.variables) c.in_ok-trail.ensures)
+    (built c.in_ok-trail.trail.entries c.push.new.self.entries c.push-2.new.self.entries c.yes.result c.yes-2.result c.args.first c.args.second
+    (ap (λ (t : TrailView). t.entries) c.in_ok-trail.ensures) c.push.ensures.entries c.push-2.ensures.entries c.yes.ensures c.yes-2.ensures) c.requires.first_live c.requires.second_live
+    c.requires.conflict_live c.requires.first c.requires.second c.requires.conflict).usable
 
 pub analyse-requires-clause-conflict : goal.analyse-requires-clause-conflict
-analyse-requires-clause-conflict c = (meets c.args.store.now c.push-2.new.self.variables c.push-2.new.self.entries c.args.first c.args.second c.args.conflict (c.push-2.ensures.variables ∙ c.push.ensures.variables ∙ ap (λ (t : TrailView). t.variables) c.in_ok-trail.ensures) (built c.in_ok-trail.trail.entries c.push.new.self.entries c.push-2.new.self.entries c.yes.result c.yes-2.result c.args.first c.args.second (ap (λ (t : TrailView). t.entries) c.in_ok-trail.ensures) c.push.ensures.entries c.push-2.ensures.entries c.yes.ensures c.yes-2.ensures) c.requires.first_live c.requires.second_live c.requires.conflict_live c.requires.first c.requires.second c.requires.conflict).conflict
+analyse-requires-clause-conflict c = (meets c.args.store.now c.push-2.new.self.variables c.push-2.new.self.entries c.args.first c.args.second c.args.conflict
+    (c.push-2.ensures.variables ∙ c.push.ensures.variables ∙ ap (λ (t : TrailView). t.variables) c.in_ok-trail.ensures)
+    (built c.in_ok-trail.trail.entries c.push.new.self.entries c.push-2.new.self.entries c.yes.result c.yes-2.result c.args.first c.args.second
+    (ap (λ (t : TrailView). t.entries) c.in_ok-trail.ensures) c.push.ensures.entries c.push-2.ensures.entries c.yes.ensures c.yes-2.ensures) c.requires.first_live c.requires.second_live
+    c.requires.conflict_live c.requires.first c.requires.second c.requires.conflict).conflict
 
 pub analyse-requires-clause-current : goal.analyse-requires-clause-current
-analyse-requires-clause-current c = (meets c.args.store.now c.push-2.new.self.variables c.push-2.new.self.entries c.args.first c.args.second c.args.conflict (c.push-2.ensures.variables ∙ c.push.ensures.variables ∙ ap (λ (t : TrailView). t.variables) c.in_ok-trail.ensures) (built c.in_ok-trail.trail.entries c.push.new.self.entries c.push-2.new.self.entries c.yes.result c.yes-2.result c.args.first c.args.second (ap (λ (t : TrailView). t.entries) c.in_ok-trail.ensures) c.push.ensures.entries c.push-2.ensures.entries c.yes.ensures c.yes-2.ensures) c.requires.first_live c.requires.second_live c.requires.conflict_live c.requires.first c.requires.second c.requires.conflict).current
+analyse-requires-clause-current c = (meets c.args.store.now c.push-2.new.self.variables c.push-2.new.self.entries c.args.first c.args.second c.args.conflict
+    (c.push-2.ensures.variables ∙ c.push.ensures.variables ∙ ap (λ (t : TrailView). t.variables) c.in_ok-trail.ensures)
+    (built c.in_ok-trail.trail.entries c.push.new.self.entries c.push-2.new.self.entries c.yes.result c.yes-2.result c.args.first c.args.second
+    (ap (λ (t : TrailView). t.entries) c.in_ok-trail.ensures) c.push.ensures.entries c.push-2.ensures.entries c.yes.ensures c.yes-2.ensures) c.requires.first_live c.requires.second_live
+    c.requires.conflict_live c.requires.first c.requires.second c.requires.conflict).current
 
 pub analyse-requires-clause-forced : goal.analyse-requires-clause-forced
-analyse-requires-clause-forced c = (meets c.args.store.now c.push-2.new.self.variables c.push-2.new.self.entries c.args.first c.args.second c.args.conflict (c.push-2.ensures.variables ∙ c.push.ensures.variables ∙ ap (λ (t : TrailView). t.variables) c.in_ok-trail.ensures) (built c.in_ok-trail.trail.entries c.push.new.self.entries c.push-2.new.self.entries c.yes.result c.yes-2.result c.args.first c.args.second (ap (λ (t : TrailView). t.entries) c.in_ok-trail.ensures) c.push.ensures.entries c.push-2.ensures.entries c.yes.ensures c.yes-2.ensures) c.requires.first_live c.requires.second_live c.requires.conflict_live c.requires.first c.requires.second c.requires.conflict).forced
+analyse-requires-clause-forced c = (meets c.args.store.now c.push-2.new.self.variables c.push-2.new.self.entries c.args.first c.args.second c.args.conflict
+    (c.push-2.ensures.variables ∙ c.push.ensures.variables ∙ ap (λ (t : TrailView). t.variables) c.in_ok-trail.ensures)
+    (built c.in_ok-trail.trail.entries c.push.new.self.entries c.push-2.new.self.entries c.yes.result c.yes-2.result c.args.first c.args.second
+    (ap (λ (t : TrailView). t.entries) c.in_ok-trail.ensures) c.push.ensures.entries c.push-2.ensures.entries c.yes.ensures c.yes-2.ensures) c.requires.first_live c.requires.second_live
+    c.requires.conflict_live c.requires.first c.requires.second c.requires.conflict).forced

@@ -10,7 +10,8 @@ returns-clause-idle c =
     let p : PropagatorView = s.propagator in
     let q : PropagatorView = c.remap.new.self in
     record {
-      loaded = loaded-renamed s.store c.compact.new.self p q s.trail c.in-Ok.moves c.requires.idle.loaded c.in-Ok.ensures.moves c.of-first.ensures.one_to_one c.remap.ensures.attached (ap (λ (x : PropagatorView). x.variables) c.remap.ensures.same) (counted-same p q s.trail c.remap.ensures.same c.requires.idle.loaded.ready.counted);
+      loaded = loaded-renamed s.store c.compact.new.self p q s.trail c.in-Ok.moves c.requires.idle.loaded c.in-Ok.ensures.moves c.of-first.ensures.one_to_one c.remap.ensures.attached
+          (ap (λ (x : PropagatorView). x.variables) c.remap.ensures.same) (counted-same p q s.trail c.remap.ensures.same c.requires.idle.loaded.ready.counted);
       nothing = c.requires.idle.nothing;
     }
 

@@ -14,13 +14,15 @@ pub returns-then-is_some-clause-ordered : goal.returns-then-is_some-clause-order
 returns-then-is_some-clause-ordered c =
     let i = c.loop-conflict.invariant in
     let A : List Attached → Type 0 = λ held. Appends held c.loop-conflict.self.trail.entries c.run-conflict.new.trail.entries in
-    ordered-appends c.args.self.now.propagator.attached c.args.order.now c.loop-conflict.self.trail.entries c.run-conflict.new.trail.entries i.ordered (subst A i.attached c.run-conflict.ensures.appends)
+    ordered-appends c.args.self.now.propagator.attached c.args.order.now c.loop-conflict.self.trail.entries c.run-conflict.new.trail.entries i.ordered
+        (subst A i.attached c.run-conflict.ensures.appends)
 
 pub returns-in-None-clause-ordered : goal.returns-in-None-clause-ordered
 returns-in-None-clause-ordered c =
     let i = c.loop-conflict.invariant in
     let A : List Attached → Type 0 = λ held. Appends held c.loop-conflict.self.trail.entries c.run-conflict.new.trail.entries in
-    ordered-appends c.args.self.now.propagator.attached c.args.order.now c.loop-conflict.self.trail.entries c.run-conflict.new.trail.entries i.ordered (subst A i.attached c.run-conflict.ensures.appends)
+    ordered-appends c.args.self.now.propagator.attached c.args.order.now c.loop-conflict.self.trail.entries c.run-conflict.new.trail.entries i.ordered
+        (subst A i.attached c.run-conflict.ensures.appends)
 
 pub returns-then-is_some-clause-passed : goal.returns-then-is_some-clause-passed
 returns-then-is_some-clause-passed c =
@@ -44,7 +46,8 @@ next_decision-requires c =
     let es : List Entry = c.loop-conflict.self.trail.entries in
     let mid : List Entry = c.run-conflict.new.trail.entries in
     let A : List Attached → Type 0 = λ held. Appends held es mid in
-    passed-here c.args.order.now c.loop-conflict.places mid c.level.result c.level.ensures (passed-appends c.args.self.now.propagator.attached c.args.order.now c.loop-conflict.places es mid (subst A i.attached c.run-conflict.ensures.appends) i.passed)
+    passed-here c.args.order.now c.loop-conflict.places mid c.level.result c.level.ensures (passed-appends c.args.self.now.propagator.attached c.args.order.now c.loop-conflict.places es mid
+        (subst A i.attached c.run-conflict.ensures.appends) i.passed)
 
 pub loop-conflict-preserved : goal.loop-conflict-preserved
 loop-conflict-preserved c =
@@ -64,7 +67,8 @@ loop-conflict-preserved c =
     let A : List Attached → Type 0 = λ h. Appends h es mid in
     let appends = subst A i.attached c.run-conflict.ensures.appends in
     let C : List Attached → Type 0 = λ h. AllClosed h mid in
-    let closed = subst C i.attached (closed-none c.run-conflict.result c.is_some.result (AllClosed c.loop-conflict.self.propagator.attached mid) c.is_some.ensures c.if-is_some.false c.run-conflict.ensures.closed) in
+    let closed = subst C i.attached (closed-none c.run-conflict.result c.is_some.result (AllClosed c.loop-conflict.self.propagator.attached mid) c.is_some.ensures c.if-is_some.false
+        c.run-conflict.ensures.closed) in
     let O : List Entry → Type 0 = λ us. IsOrdered held order us in
     let S : List Entry → Type 0 = λ us. ArePassed order us (set places level place) in
     let H : List Entry → Type 0 = λ us. GoesOnFrom mid us in
@@ -79,11 +83,15 @@ loop-conflict-preserved c =
     let wide = i.same_length in
     let in-range : level < length places = omega arith in
     record {
-      loaded = loaded-trail c.loop-conflict.self.store c.loop-conflict.self.propagator p c.loop-conflict.self.trail c.decide.new.self i.loaded same (ap (λ (q : PropagatorView). q.variables) c.run-conflict.ensures.same) (c.decide.ensures.variables ∙ c.run-conflict.ensures.variables) (counted-goes p c.run-conflict.new.trail c.decide.new.self goes c.run-conflict.ensures.counted);
+      loaded = loaded-trail c.loop-conflict.self.store c.loop-conflict.self.propagator p c.loop-conflict.self.trail c.decide.new.self i.loaded same
+          (ap (λ (q : PropagatorView). q.variables) c.run-conflict.ensures.same) (c.decide.ensures.variables ∙ c.run-conflict.ensures.variables)
+          (counted-goes p c.run-conflict.new.trail c.decide.new.self goes c.run-conflict.ensures.counted);
       attached = same ∙ i.attached;
       variables = c.decide.ensures.variables ∙ c.run-conflict.ensures.variables ∙ i.variables;
       ordered = subst O (sym entries) (ordered-decide held order mid lit (ordered-appends held order es mid i.ordered appends) closed next);
-      passed = subst S (sym entries) (passed-decide order places mid lit place level (at ∙ ap level_of entries) in-range c.in-Some.ensures.next.earlier (passed-appends held order places es mid appends i.passed));
+      passed =
+          subst S (sym entries) (passed-decide order places mid lit place level (at ∙ ap level_of entries) in-range c.in-Some.ensures.next.earlier
+          (passed-appends held order places es mid appends i.passed));
       same_length = length-set places level place ∙ i.same_length;
       goes_on = goes-trans c.args.self.now.trail.entries mid now (goes-trans c.args.self.now.trail.entries es mid i.goes_on (goes-appends held es mid appends)) goes;
       store = i.store;

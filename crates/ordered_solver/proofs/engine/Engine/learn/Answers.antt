@@ -31,7 +31,8 @@ unassigned_literal-lit-requires c =
     let l = c.in_ok-lesson.lesson in
     let es = c.args.self.now.trail.entries in
     let P : List Entry → Type 0 = λ us. HasUnassigned (value_in us) l.clause.terms in
-    subst P (sym c.jump_back.ensures.entries) (found-one (value_in (upto_level l.back_level es)) l.clause (leaves-one c.args.self.now.store es l.clause l.back_level c.in_ok-lesson.ensures.learned c.in_ok-lesson.ensures.back c.requires.level))
+    subst P (sym c.jump_back.ensures.entries) (found-one (value_in (upto_level l.back_level es)) l.clause
+        (leaves-one c.args.self.now.store es l.clause l.back_level c.in_ok-lesson.ensures.learned c.in_ok-lesson.ensures.back c.requires.level))
 
 pub add-requires-clause-in_range : goal.add-requires-clause-in_range
 add-requires-clause-in_range c =
@@ -78,6 +79,8 @@ returns-clause-learns c =
       level_below = c.in_ok-lesson.ensures.back;
       attached = subst C held c.in_ok-id.ensures.attached;
       lit = lit;
-      forces = asserts s.store es l.clause l.back_level lit c.in_ok-lesson.ensures.learned c.in_ok-lesson.ensures.back c.requires.level (subst U c.jump_back.ensures.entries c.unassigned_literal-lit.ensures);
+      forces =
+          asserts s.store es l.clause l.back_level lit c.in_ok-lesson.ensures.learned c.in_ok-lesson.ensures.back c.requires.level
+          (subst U c.jump_back.ensures.entries c.unassigned_literal-lit.ensures);
       pushed = c.push.ensures.entries ∙ ap (λ (t : TrailView). t.entries ++ e ∷ []) c.in_ok-id.ensures.trail ∙ ap (λ (us : List Entry). us ++ e ∷ []) c.jump_back.ensures.entries;
     }

@@ -20,6 +20,8 @@ loop-c-preserved c =
     let k = c.loop-c.c-index in
     let p = c.loop-c.invariant in
     record {
-      drops = drops-more ids k (get_or ids k none) c.args.self.now.attached c.loop-c.self.attached c.detach.new.self.attached c.loop-c-test.true (own ids k c.loop-c-test.true) p.drops c.detach.ensures.attached;
+      drops =
+          drops-more ids k (get_or ids k none) c.args.self.now.attached c.loop-c.self.attached c.detach.new.self.attached c.loop-c-test.true (own ids k c.loop-c-test.true) p.drops
+          c.detach.ensures.attached;
       same = c.detach.ensures.same ∙ ap (λ (v : PropagatorView). let w : PropagatorView = record { variables = v.variables; attached = c.detach.new.self.attached; counted = v.counted } in w) p.same;
     }

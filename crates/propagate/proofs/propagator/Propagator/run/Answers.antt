@@ -27,7 +27,9 @@ invariant_of-self c =
     let es = c.close.new.trail.entries in
     record {
       built = c.close.ensures.built;
-      step = step-later d.variables d.slots.items d.rooms.items d.waiting (counted_of d) (value_in es) (value_of (counted_of d)) (later-all (counted_of d) es c.close.ensures.counted) c.close.ensures.step;
+      step =
+          step-later d.variables d.slots.items d.rooms.items d.waiting (counted_of d) (value_in es) (value_of (counted_of d)) (later-all (counted_of d) es c.close.ensures.counted)
+          c.close.ensures.step;
     }
 
 pub returns-clause-closed : goal.returns-clause-closed
@@ -38,6 +40,7 @@ returns-clause-closed c =
     let P : List Attached → Type 0 = λ us. AllClosed us es in
     let N : Option ℕ → Type 0 = λ o. IfNone o ((i : ℕ) → is_waiting d.waiting i ≡ false) in
     elim c.match-close.branch [
-      | in-None w ↦ rw w.result-is (subst P held (all-closed d.variables d.slots.items d.rooms.items d.waiting (counted_of d) es c.close.ensures.step c.close.ensures.counted (subst N w.in-None.is c.close.ensures.none_waits)))
+      | in-None w ↦ rw w.result-is (subst P held (all-closed d.variables d.slots.items d.rooms.items d.waiting (counted_of d) es c.close.ensures.step c.close.ensures.counted
+          (subst N w.in-None.is c.close.ensures.none_waits)))
       | in-Some w ↦ rw w.result-is tt
     ]

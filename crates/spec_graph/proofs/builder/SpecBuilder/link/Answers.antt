@@ -20,7 +20,9 @@ invariant_of-self-2 c =
     let resources : length old.resources ≡ length c.args.self.now.resources = ap (λ (s : SpecValue). length s.resources) c.self.view_is in
     let objectives : length c.args.self.now.objectives ≡ length old.objectives = sym (ap (λ (s : SpecValue). length s.objectives) c.self.view_is) in
     record {
-      plan = subst IsPlan (sym new) (plan_link old c.args.name.now c.args.a.0 c.args.b.0 c.args.two_way c.args.weights.now c.args.traffic.now c.self.invariant.plan fine.once (omega (arith, resources, c.requires.a_there)) (omega (arith, resources, c.requires.b_there)) fine.apart (c.requires.one_each ∙ objectives) (λ big. fine.small (inl big)) (c.requires.traffic_one_each ∙ objectives) (λ big. fine.small (inr big)) fine.room);
+      plan = subst IsPlan (sym new) (plan_link old c.args.name.now c.args.a.0 c.args.b.0 c.args.two_way c.args.weights.now c.args.traffic.now c.self.invariant.plan fine.once
+          (omega (arith, resources, c.requires.a_there)) (omega (arith, resources, c.requires.b_there)) fine.apart (c.requires.one_each ∙ objectives) (λ big. fine.small (inl big))
+          (c.requires.traffic_one_each ∙ objectives) (λ big. fine.small (inr big)) fine.room);
       order = subst (λ (s : SpecValue). IsOrderOf c.self.inside.order s.messages) (sym new) c.self.invariant.order;
       room = subst (λ (s : SpecValue). length s.tasks ≤ length c.self.inside.order) (sym new) c.self.invariant.room;
     }

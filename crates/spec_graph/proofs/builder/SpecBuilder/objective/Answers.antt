@@ -13,7 +13,8 @@ invariant_of-self-2 c =
     let links = ap (λ (s : SpecValue). length s.links) c.self.view_is ∙ c.requires.no_link in
     let options = ap (λ (s : SpecValue). length s.options) c.self.view_is ∙ c.requires.no_option in
     record {
-      plan = subst (λ (names : List Name). IsPlan (record (value_of c.self.inside.held) { objectives = names })) (sym c.in_ok-add.ensures.added) (plan_objective (value_of c.self.inside.held) c.args.name.now c.self.invariant.plan new resources links options free);
+      plan = subst (λ (names : List Name). IsPlan (record (value_of c.self.inside.held) { objectives = names })) (sym c.in_ok-add.ensures.added)
+          (plan_objective (value_of c.self.inside.held) c.args.name.now c.self.invariant.plan new resources links options free);
       order = c.self.invariant.order;
       room = c.self.invariant.room;
     }

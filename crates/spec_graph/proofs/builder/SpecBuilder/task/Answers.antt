@@ -11,7 +11,9 @@ invariant_of-self-2 c =
     let new : ¬ Contains c.self.inside.held.tasks c.args.name.now = search rules in
     let free : length c.self.inside.held.tasks < 1024 = omega arith in
     record {
-      plan = subst (λ (names : List Name). IsPlan (record (value_of c.self.inside.held) { tasks = names })) (sym c.in_ok-number.ensures.added) (plan_task (value_of c.self.inside.held) c.args.name.now c.self.invariant.plan new free);
+      plan =
+          subst (λ (names : List Name). IsPlan (record (value_of c.self.inside.held) { tasks = names })) (sym c.in_ok-number.ensures.added)
+          (plan_task (value_of c.self.inside.held) c.args.name.now c.self.invariant.plan new free);
       order = order_same c.self.inside.order c.make_room.new.self c.self.inside.held.messages.items c.make_room.ensures.same c.self.invariant.order;
       room = omega (arith, ap length c.in_ok-number.ensures.added, length-append c.self.inside.held.tasks (c.args.name.now ∷ []), c.in_ok-make_room.ensures.room, c.len-number.ensures);
     }
