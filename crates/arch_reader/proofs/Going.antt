@@ -36,12 +36,6 @@ count-gives old new line g =
     let l = ap length p.lines_are in
     omega (arith, n, l, p.number_is, g.number_is)
 
-pub count-passes : (old new : Left) → Passes old new → new.number + length new.lines ≡ old.number + length old.lines
-count-passes old new p =
-    let n = length-append p.passed new.lines in
-    let l = ap length p.lines_are in
-    omega (arith, n, l, p.number_is)
-
 -- ---- the header
 
 pub begins : (old new : Left) (line : Numbered) (ws : Words) (total : Reading) → Gives old new line → ws ≡ texts (words_in line.content) → is_header ws ≡ true

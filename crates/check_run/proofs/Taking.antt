@@ -72,10 +72,6 @@ Follows old now bytes rest = (more : List ℕ) → left_to now (rest ++ more) �
 cut_more : (rest body after more : List ℕ) → IsCut rest body after → ended body ++ (after ++ more) ≡ rest ++ more
 cut_more rest body after more cut = ended_more body (after ++ more) ∙ sym (ap (λ (t : List ℕ). t ++ more) cut.whole ∙ append_assoc body (10 ∷ after) more)
 
-pub follows_on : (old now next : ProofLines) (bytes rest body after : List ℕ) → IsCut rest body after → TakesOn now next (ended body) → Follows old now bytes rest → Follows old next bytes after
-follows_on old now next bytes rest body after cut taken follows more =
-    taken.goes_on (after ++ more) ∙ (ap (left_to now) (cut_more rest body after more cut) ∙ follows more)
-
 pub refused_on : (old now : ProofLines) (bytes rest body after : List ℕ) (r : Refused) → IsCut rest body after → RefusesIn now (ended body) r → Follows old now bytes rest → RefusesIn old bytes r
 refused_on old now bytes rest body after r cut refused follows more =
     ap (λ (p : Progress). p.refused) (sym (ap (left_to now) (cut_more rest body after more cut) ∙ follows more)) ∙ refused (after ++ more)
@@ -85,14 +81,6 @@ pub fault_on : (T : Type 0) (old now next : ProofLines) (bytes rest body after :
 fault_on T old now next bytes rest body after (lines.Refused r) cut takes follows = refused_on old now bytes rest body after r cut takes follows
 fault_on T old now next bytes rest body after lines.NoMemory cut takes follows = tt
 
-pub held_on : (old now next : ProofLines) (bytes rest : List ℕ) → HasNoLf now.held.items → HasNoLf rest → next.checker ≡ now.checker → next.held.items ≡ now.held.items ++ rest
-    → Follows old now bytes rest → TakesOn old next bytes
-held_on old now next bytes rest first last same held follows = record {
-  held = ap (list_any is_lf) held ∙ no_lf_joined now.held.items rest first last;
-  goes_on = λ more.
-      ap (λ (c : CheckerValue). led c (next.held.items ++ more)) same
-      ∙ (ap (λ (t : List ℕ). led now.checker (t ++ more)) held
-      ∙ (ap (led now.checker) (append_assoc now.held.items rest more) ∙ follows more));
 }
 
 -- ---- the end
@@ -110,12 +98,6 @@ refused_verdict p r e = ap (verdict_if p) e
 
 -- ---- the file
 
-pub begins : (files : Option Files) (name : List ℕ) (c : CheckerValue) (reader : ProofLines) → reader.checker ≡ c → reader.held.items ≡ [] → IsReadTo files name 0 c reader
-begins files name c reader is empty = record {
-  bytes = [];
-  found = none_found files;
-  held = ap (list_any is_lf) empty;
-  leads = λ more. ap (λ (t : List ℕ). led reader.checker (t ++ more)) empty ∙ ap (λ (d : CheckerValue). led d more) is;
 }
   where
     none_found : (files : Option Files) → IfSome files (λ all. [] ≡ take 0 (content all name))

@@ -106,13 +106,6 @@ learnt-clause live es n f ops few l = record {
   propagated = λ a closed h. l.propagated a (closed-in live a closed) (λ x b s. falsifies-true (a x) b (row-false n 0 f a h x b (omega arith) (let w = l.within x b s in omega arith) s));
 }
 
-pub below-start : (es : List Entry) (ts : List Term) → IsLevelBelow es (take 0 ts) 0
-below-start es ts = record { above = λ k d h f. absurd (none ts h); attained = inl refl }
-  where
-    none : (us : List Term) {k : ℕ} → k < length (take 0 us) → ⊥
-    none [] h = omega arith
-    none (u ∷ us) h = omega arith
-
 pub below-more : (es : List Entry) (ts : List Term) (i : ℕ) (t : Term) (back next : ℕ) → i < length ts → t ≡ get_or ts i t → back ≤ next
     → (level_in es t.lit.var ≢ level_of es → level_in es t.lit.var ≤ next) → (next ≡ back) ⊎ ((next ≡ level_in es t.lit.var) × (level_in es t.lit.var ≢ level_of es))
     → IsLevelBelow es (take i ts) back → IsLevelBelow es (take (i + 1) ts) next

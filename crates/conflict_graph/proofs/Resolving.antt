@@ -124,16 +124,6 @@ skip-place live es n p l f count ops h e none learning =
     let q : l ≡ (get_or es p d).lit = lit-at es p l d h e in
     learning-skip live es n p d f count ops h (ap (λ (m : Literal). f m.var) (sym q) ∙ none) learning
 
-pub marked-place : (es : List Entry) (p : ℕ) (l : Literal) (f : ℕ → Option Bool) → p < length es → l ≡ get_or (map (λ (e : Entry). e.lit) es) p l → is_some (f l.var) ≡ true → (d : Entry)
-    → is_some (f (get_or es p d).lit.var) ≡ true
-marked-place es p l f h e m d =
-    let q : l ≡ (get_or es p d).lit = lit-at es p l d h e in
-    ap (λ (m : Literal). is_some (f m.var)) (sym q) ∙ m
-
-pub is-none-of : (o : Option Bool) → is_none o ≡ true → o ≡ None
-is-none-of None h = refl
-is-none-of (Some b) h = absurd (cc)
-
 pub on-ok : {T E : Type 0} (r : Result T E) (P Q : Type 0) → (P → Q) → OnOk r P → OnOk r Q
 on-ok (Ok x) P Q f h = f h
 on-ok (Err e) P Q f h = tt

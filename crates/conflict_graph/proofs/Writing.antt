@@ -1,5 +1,4 @@
-use Rattle.std.proofs.Common.{◌≡◌, ◌≢◌, ℕ, ◌+◌, ◌-◌, ◌<◌, ◌≤◌, Bool, true, false, cond, eqb, Option, Some, None, List, [], ◌∷◌, ◌++◌, length, get_or, set, take, refl, sym, ap, ◌∙◌, subst, arith, inl, inr, suc, get_or-set_same, get_or-set_other, is_some, length-take, max}
-use Rattle.std.proofs.lemmas.Bool.{cases_eq}
+use Rattle.std.proofs.Common.{◌≡◌, ◌≢◌, ℕ, ◌+◌, ◌-◌, ◌<◌, ◌≤◌, Bool, true, false, cond, eqb, Option, Some, None, List, [], ◌∷◌, ◌++◌, length, get_or, set, take, refl, sym, ap, ◌∙◌, arith, suc, get_or-set_same, get_or-set_other, is_some, length-take, max}
 use Rattle.std.proofs.lemmas.Bool.Decides.{nat_tests}
 use Rattle.std.proofs.lemmas.List.{append_assoc, append-nil, take_more, take_all, get_or-take, get_or_default}
 use Rattle.std.proofs.lemmas.List.Sums.{sum_by_push}
@@ -90,34 +89,14 @@ explain-end a c id room most i old now last ts e l x p =
     p ∙ ap (λ os. os ++ finishing (c.degree - room) most) w ∙ ap (λ os. ((old ++ Id id ∷ []) ++ weakenings a c.terms) ++ os) same
     ∙ append_assoc (old ++ Id id ∷ []) (weakenings a c.terms) tail ∙ append_assoc old (Id id ∷ []) (weakenings a c.terms ++ tail)
 
--- one sign changed in a list
-pub signs-set : (items : List (Option Bool)) (x : ℕ) (o : Option Bool) → x < length items → (y : ℕ) → signs (set items x o) y ≡ cond (eqb x y) o (signs items y)
-signs-set items x o h y = elim (cases_eq x y) [
-  | inl e ↦ (let t : eqb x y ≡ true = grind (arith, nat_tests) in
-      let P : ℕ → Type 0 = λ z. get_or (set items x o) z None ≡ o in
-      rw t (subst P e (get_or-set_same items x o None h)))
-  | inr ne ↦ (let t : eqb x y ≡ false = grind (arith, nat_tests) in rw t (get_or-set_other items x y o None (λ q. ne (sym q))))
 ]
 
--- a free variable gets its sign
-pub signs-add : (items : List (Option Bool)) (x : ℕ) (b : Bool) → x < length items → signs items x ≡ None → (y : ℕ)
-    → signs (set items x (Some b)) y ≡ either (signs items y) (cond (eqb x y) (Some b) None)
-signs-add items x b h free y = elim (cases_eq x y) [
-  | inl e ↦ (let t : eqb x y ≡ true = grind (arith, nat_tests) in
-      let f : signs items y ≡ None = ap (signs items) (sym e) ∙ free in
-      signs-set items x (Some b) h y ∙ rw (t, f) refl)
-  | inr ne ↦ (let t : eqb x y ≡ false = grind (arith, nat_tests) in signs-set items x (Some b) h y ∙ rw t (nothing (signs items y)))
 ]
   where
     nothing : (o : Option Bool) → o ≡ either o None
     nothing None = refl
     nothing (Some b) = refl
 
-pub signs-taken : (items : List (Option Bool)) (x : ℕ) (b : Bool) (y : ℕ) → signs items x ≡ Some b → (c : Bool) → (eqb x y ≡ true → c ≡ c)
-    → signs items y ≡ either (signs items y) (cond (eqb x y) (Some c) None)
-signs-taken items x b y s c h = elim (cases_eq x y) [
-  | inl e ↦ (let f : signs items y ≡ Some b = ap (signs items) (sym e) ∙ s in rw f refl)
-  | inr ne ↦ (let t : eqb x y ≡ false = grind (arith, nat_tests) in rw t (nothing (signs items y)))
 ]
   where
     nothing : (o : Option Bool) → o ≡ either o None

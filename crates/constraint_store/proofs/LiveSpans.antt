@@ -107,10 +107,6 @@ live_there ts ss c h =
       q,
     )
 
--- a live id has a part
-pub none_live : (ts : List Term) (ss : List (Option Span)) (c : ConId) → IsTrue (is_live (live_from ts 0 ss) c) → get_or ss c.0 empty_span ≡ None → ⊥
-none_live ts ss c h e = let t = live_there ts ss c h in let r = rw e at t.1 in cc
-
 -- what was read says whether its id is live
 pub is_live_read : (ts : List Term) (ss : List (Option Span)) (c : ConId) (o : Option Span) (n : ℕ) → c.0 < n → n ≡ length ss → o ≡ get_or ss c.0 o → is_some o ≡ is_live (live_from ts 0 ss) c
 is_live_read ts ss c o n h l e = ap is_some (get_or_read_under ss c.0 n o empty_span e h l) ∙ sym (is_live-from ts 0 ss c c.0 (sym (zero-add c.0)))

@@ -38,11 +38,6 @@ follow_earlier from less to [] h f = omega arith
 follow_earlier from less to (None ∷ ss) h f = follow_earlier from less to ss h f
 follow_earlier from less to (Some s ∷ ss) h f = (omega (arith, f.0), f.1)
 
-pub follow_later : (from to more : ℕ) (ss : List (Option Span)) → to ≤ more → Follow from to ss → Follow from more ss
-follow_later from to more [] h f = omega arith
-follow_later from to more (None ∷ ss) h f = follow_later from to more ss h f
-follow_later from to more (Some s ∷ ss) h f = (f.0, follow_later (s.start + s.count) to more ss h f.1)
-
 pub follow_push : (from to : ℕ) (ss : List (Option Span)) (s : Span) → to ≤ s.start → Follow from to ss → Follow from (s.start + s.count) (ss ++ Some s ∷ [])
 follow_push from to [] s h f = (omega arith, omega arith)
 follow_push from to (None ∷ ss) s h f = follow_push from to ss s h f

@@ -9,7 +9,7 @@ use Rattle.std.proofs.lemmas.Bool.{not-true, not-false, eqb-true, eq-eqb, ne_eqb
 use Rattle.std.proofs.lemmas.List.{get_or-map, get_or_past, get_or_default, length-map}
 use Rattle.spec_model.specs.Vectors.{IsAtMost}
 use Rattle.dominance_lanes.specs.Columns.{row_at}
-use Rattle.dominance_lanes.specs.Groups.{first_set, is_at_most_to, IsFirstZero, NoneBetween, IsFirstBetween}
+use Rattle.dominance_lanes.specs.Groups.{first_set, is_at_most_to, IsFirstZero, IsFirstBetween}
 
 -- ---- the first lane that is 0
 
@@ -35,11 +35,6 @@ first_in_group p lanes at r each first lt = record {
       let place : at + (k - at) ≡ k = omega arith in
       ap p (sym place) ∙ sym (each (k - at) (omega arith)) ∙ ne_eqb _ _ (first.before (k - at) (omega arith));
 }
-
-pub none_in_group : (p : ℕ → Bool) (lanes : List ℕ) (at r : ℕ) → ((i : ℕ) → i < 8 → eqb (get_or lanes i 0) 0 ≡ p (at + i)) → IsFirstZero lanes 8 r → 8 ≤ r → NoneBetween p at (at + 8)
-none_in_group p lanes at r each first le k from to =
-    let place : at + (k - at) ≡ k = omega arith in
-    ap p (sym place) ∙ sym (each (k - at) (omega arith)) ∙ ne_eqb _ _ (first.before (k - at) (omega arith))
 
 -- ---- one place more
 

@@ -5,9 +5,6 @@ use Rattle.line_words.specs.declared.refusals.ReadFault.{ReadFault}
 use Rattle.line_words.specs.declared.refusals.ReadFault.TheVariants as faults
 use Rattle.run_words.specs.Fit.{IsFit}
 use Rattle.run_words.specs.Values.{RequestValue, decode, explore, front, check}
-use Rattle.file_writes.specs.Writes.{AreWritten, ArePartlyWritten}
-use Rattle.file_writes.proofs.Rewriting.{leaves_then}
-use Rattle.file_writes.proofs.Written.{whole}
 use Rattle.run_base.specs.After.{After, GoesOn}
 use Rattle.run_base.specs.Worlds.{World, NamesValue, AreLoaded, AreLoadedFrom, IsWorldOf}
 use Rattle.run_base.specs.declared.inputs.Inputs.{Inputs}
@@ -21,8 +18,7 @@ use Rattle.front_run.specs.Fronting.{WantedValue}
 use Rattle.front_run.specs.Fronting.{Finds as FindsFront}
 use Rattle.dse_run.specs.Commands.{ComesTo, HasBudget, exploration_of, names_of, wanted_of}
 use Rattle.dse_run.specs.Decoding.{EvidenceValue, Finds}
-use Rattle.dse_run.specs.Run.{Answered, AnswersRequest, AnswersTo, EndsBy, IsLeft, ReplyValue, status_of}
-use Rattle.dse_run.specs.declared.status.Status.{Status}
+use Rattle.dse_run.specs.Run.{AnswersRequest, AnswersTo, EndsBy, ReplyValue, status_of}
 use Rattle.dse_run.specs.declared.status.Status.TheVariants.{Usage, Budget}
 
 -- ---- what is answered
@@ -41,12 +37,6 @@ answered asked tools calls files now_files names inputs tried reply names_is loa
 
 -- ---- what is left
 
-pub given_left : (asked : Option RequestValue) (tools : ToolsValue) (calls : List ℕ) (files new_files : Option Files) (said new_said : Option (List ℕ)) (status : Status)
-    → Answered asked tools calls files new_files said new_said status → IsLeft asked tools calls files new_files
-given_left asked tools calls files new_files said new_said status h = inr (record {
-  reply = h.reply;
-  answers = h.answers;
-  written = leaves_then files new_files (AreWritten h.reply.writes) (ArePartlyWritten h.reply.writes) (λ x y k. whole h.reply.writes x y k) h.written;
 })
 
 -- ---- usage

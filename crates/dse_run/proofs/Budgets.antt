@@ -1,10 +1,8 @@
 -- A log has too few derived lines for the greatest budget.
-use Rattle.std.proofs.Common.{◌≡◌, ℕ, suc, ◌^◌, ◌<◌, ◌≤◌, Bool, true, cond, List, [], ◌∷◌, ◌++◌, length, refl, ap, ◌∙◌, arith, All}
+use Rattle.std.proofs.Common.{◌≡◌, ℕ, suc, Bool, true, cond, List, [], ◌∷◌, length, refl, ap, arith, All}
 use Rattle.std.specs.List.{count_by}
-use Rattle.spec_model.proofs.Counts.{count-append, count-cons}
-use Rattle.pb_rules.specs.Frames.{Line, is_derived, derived_count}
-use Rattle.proof_log.specs.Log.{LogValue}
-use Rattle.ordered_solver.specs.Answers.{GoesOnDerived, new_lines}
+use Rattle.spec_model.proofs.Counts.{count-cons}
+use Rattle.pb_rules.specs.Frames.{Line, is_derived}
 
 -- each derived line counts
 pub all_count : (ls : List Line) → All (λ l. is_derived l ≡ true) ls → count_by is_derived ls ≡ length ls
@@ -15,11 +13,3 @@ all_count (l ∷ ls) h =
     let one : cond {A = ℕ} (is_derived l) 1 0 ≡ 1 = ap (λ (b : Bool). cond {A = ℕ} b 1 0) first in
     let more = count-cons is_derived l ls in
     omega (arith, more, rest, one)
-
--- so many new lines are more than a log has
-pub budget_unreached : (old new : LogValue) (n : ℕ) → GoesOnDerived old new → length (new_lines old new) ≡ n → 2 ^ 63 ≤ n → derived_count new.lines < 2 ^ 63 → ⊥
-budget_unreached old new n goes e large small =
-    let lines : new.lines ≡ old.lines ++ new_lines old new = ap (λ v. v.lines) goes.kept in
-    let counted = ap derived_count lines ∙ count-append is_derived old.lines (new_lines old new) in
-    let all = all_count (new_lines old new) goes.derived_each in
-    omega (arith, counted, all, e, large, small)

@@ -1,5 +1,5 @@
 -- What is left of tools that no command calls.
-use Rattle.std.proofs.Common.{◌≡◌, ◌∙◌, ◌+◌, ◌<◌, ◌++◌, ◌∷◌, [], ℕ, List, Option, Some, None, get_or, length, map, take, refl, sym, ap, subst}
+use Rattle.std.proofs.Common.{◌≡◌, ◌∙◌, ◌+◌, ◌<◌, ◌++◌, ◌∷◌, [], ℕ, List, Option, Some, None, get_or, length, map, take, refl, sym, ap}
 use Rattle.std.proofs.lemmas.List.{take_more, map_push}
 use Rattle.run_words.specs.Values.{RequestValue, decode, explore, front, check}
 use Rattle.explore_run.specs.Tools.{ToolsValue}
@@ -16,10 +16,6 @@ none_called (Some (check c)) calls = refl
 -- nothing is done with them
 pub same_kept : (asked : Option RequestValue) (tools : ToolsValue) → KeepsTools asked tools tools
 same_kept asked tools = record { tags = refl; values = λ s f. refl; calls = none_called asked tools.calls }
-
--- what a request leaves is left by the words that are this request
-pub kept_by_words : (words : Option RequestValue) (asked : RequestValue) (old new : ToolsValue) → words ≡ Some asked → KeepsTools (Some asked) old new → KeepsTools words old new
-kept_by_words words asked old new is h = subst (λ (w : Option RequestValue). KeepsTools w old new) (sym is) h
 
 -- one more text beside one more of what it is made of
 pub one_more : {X Y : Type 0} (f : X → List ℕ) (h : Y → List ℕ) (xs : List X) (i : ℕ) (x : X) (now next : List Y) (y : Y) → map h now ≡ map f (take i xs) → next ≡ now ++ y ∷ [] → h y ≡ f x

@@ -109,9 +109,6 @@ module _ (s : SpecValue) (f : Bits) (m w : ℕ) (hm : m < length s.messages) (pa
 
 -- From a routed design to its model.
 module _ (s : SpecValue) (x : Bits) (wf : IsWellFormed s) (routed : IsRouted s x) where
-  made : Bits
-  made = bits_of (model_list s x)
-
   pub same_made : IsSameDesign s x (bits_of (model_list s x))
   same_made v l = sym (design_reads s x v l)
 

@@ -110,12 +110,6 @@ module _ (s : SpecValue) (f : Bits) (m : ℕ) (ends_in : HasEnds s) (eqs : Equat
       plus_one : (k : ℕ) → k + 1 ≡ suc k
       plus_one k = omega arith
 
-  -- rule 5, where the receiver's resource is covered
-  pub rule_five : (r : ℕ) → r < length s.resources → f (covered_var s m r) ≡ true → (n : ℕ) × Walk s f m r n
-  rule_five r hr c =
-      let x = some_step r hr c in
-      (x.0, walk_of x.0 r hr (omega (arith, x.1)) x.2)
-
   -- a reached resource is covered
   pub covered_of : (r t : ℕ) → r < length s.resources → t ≤ (message_at s m).limit → f (step_var s m r t) ≡ true → f (covered_var s m r) ≡ true
   covered_of r t hr ht e = is_bit (f (covered_var s m r)) (omega (arith, counted_below (λ k. f (step_var s m r k)) ((message_at s m).limit + 1) t (omega arith) e, steps_0 s f m r, eqs.cover r hr))

@@ -1,7 +1,7 @@
 -- Terms in rising order are their own normal form.
-use Rattle.std.proofs.Common.{◌≡◌, ℕ, zero, suc, ◌+◌, ◌*◌, ◌<◌, ◌≤◌, ◌^◌, Bool, true, false, cond, List, [], ◌∷◌, ◌++◌, length, refl, sym, ap, ◌∙◌, subst, arith, add-one, ◌⊎◌, inl, inr}
+use Rattle.std.proofs.Common.{◌≡◌, ℕ, zero, suc, ◌+◌, ◌*◌, ◌<◌, ◌≤◌, ◌^◌, Bool, true, false, cond, List, [], ◌∷◌, ◌++◌, refl, sym, ap, ◌∙◌, subst, arith, add-one, inl, inr}
 use Rattle.std.specs.Prelude.{map, nat_lt, All}
-use Rattle.std.specs.List.{flat_map, sum_by, range_with_len}
+use Rattle.std.specs.List.{flat_map}
 use Rattle.std.proofs.lemmas.List.Elements.{All-cons, All-head, All-tail}
 use Rattle.std.proofs.lemmas.List.Sums.{sum_by-cons}
 use Rattle.std.proofs.lemmas.Bool.{lt-ltb, ltb-true, ltb-false, cases_lt}
@@ -14,11 +14,6 @@ use Rattle.spec_model.proofs.Joined.{All-those}
 use Rattle.encode_model.specs.Encoding.{weighted, has_weight, put, by_variable, at_least}
 use Rattle.encode_model.specs.Rising.{RisesWithin, IsTermFrom, TermsWithin, IsRising}
 
--- lists of numbers
-pub bounds : (a b : ℕ) (vs : List ℕ) → RisesWithin a b vs → a ≤ b
-bounds a b [] h = h
-bounds a b (v ∷ vs) h = omega (arith, h.0, bounds (v + 1) b vs h.1)
-
 pub wider : (a b c d : ℕ) (vs : List ℕ) → c ≤ a → b ≤ d → RisesWithin a b vs → RisesWithin c d vs
 wider a b c d [] hl hr h = omega (arith, hl, hr, h)
 wider a b c d (v ∷ vs) hl hr h = (omega (arith, hl, h.0), wider (v + 1) b (v + 1) d vs (omega arith) hr h.1)
@@ -26,9 +21,6 @@ wider a b c d (v ∷ vs) hl hr h = (omega (arith, hl, h.0), wider (v + 1) b (v +
 pub joined : (a b c : ℕ) (vs ws : List ℕ) → RisesWithin a b vs → RisesWithin b c ws → RisesWithin a c (vs ++ ws)
 joined a b c [] ws h g = wider b c a c ws h (omega arith) g
 joined a b c (v ∷ vs) ws h g = (h.0, joined (v + 1) b c vs ws h.1 g)
-
-pub single : (a b v : ℕ) → a ≤ v → v < b → RisesWithin a b (v ∷ [])
-single a b v h g = (h, omega (arith, g))
 
 -- the values of a rising function at those that pass
 pub rises-those : (g : ℕ → ℕ) (p : ℕ → Bool) (n a b : ℕ) → a ≤ b → ((i : ℕ) → i < n → (a ≤ g i) × (g i < b)) → ((i j : ℕ) → i < j → j < n → g i < g j) → RisesWithin a b (map g (those p n))

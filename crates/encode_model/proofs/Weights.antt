@@ -1,6 +1,6 @@
 -- What a constraint of the encoding says: the coefficients of its true terms, added up.
 use Rattle.std.proofs.Common.{◌≡◌, ℕ, ◌+◌, ◌-◌, ◌≤◌, Bool, true, false, cond, List, [], ◌∷◌, ◌++◌, length, refl, sym, ap, ◌∙◌, arith}
-use Rattle.std.specs.Prelude.{map, not, nat_lt}
+use Rattle.std.specs.Prelude.{not, nat_lt}
 use Rattle.std.specs.List.{count_by}
 use Rattle.std.proofs.lemmas.List.Sums.{sum_by-append}
 use Rattle.pb_rules.specs.declared.Term.{Term}
@@ -38,10 +38,6 @@ weight-put f t (u ∷ us) = at (nat_lt t.lit.var u.lit.var) (weight-put f t us)
 weight-by_variable : (f : Bits) (ts : List Term) → true_weight f (by_variable ts) ≡ true_weight f ts
 weight-by_variable f [] = refl
 weight-by_variable f (t ∷ ts) = omega (arith, weight-put f t (by_variable ts), weight-by_variable f ts, true_weight-cons f t (by_variable ts), true_weight-cons f t ts)
-
-pub weight-at_least : (f : Bits) (n : ℕ) (ts : List Term) → true_weight f (at_least n ts).terms ≡ true_weight f ts
-unfolding at_least
-weight-at_least f n ts = weight-by_variable f ts
 
 pub at_least-holds : (f : Bits) (n : ℕ) (ts : List Term) → n ≤ true_weight f ts → Holds f (at_least n ts)
 unfolding at_least

@@ -1,6 +1,5 @@
 -- Sums over the numbers below n, one number more.
-use Rattle.std.proofs.Common.{◌≡◌, ℕ, ◌+◌, ◌*◌, ◌^◌, ◌≤◌, Bool, true, false, cond, List, [], ◌∷◌, ap, ◌∙◌, arith}
-use Rattle.std.proofs.Math.Nat.{mul-le-mul}
+use Rattle.std.proofs.Common.{◌≡◌, ℕ, ◌+◌, Bool, true, false, cond, List, [], ◌∷◌, ap, ◌∙◌, arith}
 use Rattle.std.specs.List.{count_by, filter, sum_by}
 use Rattle.std.proofs.lemmas.List.Sums.{sum_by-append}
 use Rattle.std.proofs.lemmas.List.Elements.{filter-append}
@@ -26,7 +25,3 @@ sum_by-filtered_more g f p n =
     at false = omega arith
 
 pub ruleset adding_steps = (count_by-below_more, sum_by-below_more, sum_by-filtered_more)
-
--- a product of numbers that are small enough
-pub product_small : (a b : ℕ) → a ≤ 2 ^ 40 → b ≤ 2 ^ 11 → a * b ≤ 2 ^ 51
-product_small a b small few = omega (arith, mul-le-mul {n₁ = a} {m₁ = b} {n₂ = 2 ^ 40} {m₂ = 2 ^ 11} small few)

@@ -1,10 +1,10 @@
 -- Chains of one message more, and the order in which tasks of rising depths are placed.
-use Rattle.std.proofs.Common.{◌≡◌, ℕ, zero, suc, ◌+◌, ◌<◌, ◌≤◌, Bool, true, false, cond, nat_eq, nat_lt, List, [], ◌∷◌, ◌++◌, length, get_or, take, replicate, refl, sym, ap, ap₂, ◌∙◌, subst, arith, add-one, append_assoc, inl, inr}
+use Rattle.std.proofs.Common.{◌≡◌, ℕ, zero, suc, ◌+◌, ◌<◌, ◌≤◌, Bool, true, false, cond, nat_eq, nat_lt, List, [], ◌∷◌, ◌++◌, length, get_or, take, refl, sym, ap, ap₂, ◌∙◌, subst, arith, add-one, append_assoc, inl, inr}
 use Rattle.std.specs.List.{flat_map}
 use Rattle.std.proofs.lemmas.Bool.Decides.{nat_tests}
 use Rattle.std.proofs.lemmas.Bool.{cases_Bool}
 use Rattle.std.proofs.Math.Seq.{take-append_seam}
-use Rattle.std.proofs.lemmas.List.{get_or-replicate, length-append, append-nil}
+use Rattle.std.proofs.lemmas.List.{length-append, append-nil}
 use Rattle.spec_model.specs.Spec.{SpecValue, below, those}
 use Rattle.spec_model.specs.Rules.{sender_of}
 use Rattle.spec_model.specs.WellFormed.{IsWellFormed}
@@ -18,9 +18,6 @@ use Rattle.evaluators.proofs.Marking.{any-those_agree}
 
 -- ---- chains
 
-pub chains_start : (s : SpecValue) (marks : List Bool) → marks ≡ replicate (length s.tasks) true → length marks ≡ length s.tasks → AreChainMarks s 0 marks
-chains_start s marks e long = record { each = long; marked = λ t l. ap (λ (ms : List Bool). is_marked ms t) e ∙ get_or-replicate (length s.tasks) t true false l }
-
 pub chains_more : (s : SpecValue) (marks next : List Bool) (n : ℕ) → IsWellFormed s → AreChainMarks s n marks → length next ≡ length s.tasks
     → ((t : ℕ) → is_marked next t ≡ is_sent_to s marks (length s.messages) t) → AreChainMarks s (n + 1) next
 chains_more s marks next n wf before long sent = record {
@@ -28,9 +25,6 @@ chains_more s marks next n wf before long sent = record {
   marked = λ t l. subst (λ (k : ℕ). is_marked next t ≡ ends_chain s t k) (sym (add-one n)) (sent t ∙ any-those_agree (sender_marked s marks) (λ m. ends_chain s (sender_of s m) n) (goes_to s t)
       (length s.messages) (λ m h. before.marked (sender_of s m) (message_in s m wf h).sender));
 }
-
-pub depths_start : (s : SpecValue) (depths : List ℕ) → depths ≡ replicate (length s.tasks) 0 → length depths ≡ length s.tasks → AreDepthsBelow s 0 depths
-depths_start s depths e long = record { each = long; depths_are = λ t l. ap (λ (ds : List ℕ). get_or ds t 0) e ∙ get_or-replicate (length s.tasks) t 0 0 l }
 
 pub depths_more : (s : SpecValue) (marks : List Bool) (depths deeper : List ℕ) (n : ℕ) → AreChainMarks s n marks → AreDepthsBelow s n depths → length deeper ≡ length depths
     → ((t : ℕ) → t < length depths → get_or deeper t 0 ≡ cond (is_marked marks t) n (get_or depths t 0)) → AreDepthsBelow s (n + 1) deeper

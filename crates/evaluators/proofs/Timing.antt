@@ -1,10 +1,8 @@
 -- One task more in a timetable.
-use Rattle.std.proofs.Common.{◌≡◌, ℕ, ◌+◌, ◌-◌, ◌*◌, ◌<◌, ◌≤◌, max, Bool, true, false, cond, nat_eq, List, [], ◌∷◌, length, map, take, get_or, set, All, sym, ap, ap₂, ◌∙◌, subst, arith, inl, inr}
-use Rattle.std.proofs.lemmas.Bool.{cases_Bool}
-use Rattle.std.proofs.lemmas.List.{get_or-set_same, get_or-set_other, take_more, take_all, map-append}
+use Rattle.std.proofs.Common.{◌≡◌, ℕ, ◌+◌, ◌-◌, ◌*◌, ◌<◌, ◌≤◌, max, Bool, true, false, cond, List, [], ◌∷◌, length, map, take, get_or, All, sym, ap, ap₂, ◌∙◌, arith}
+use Rattle.std.proofs.lemmas.List.{take_more, take_all, map-append}
 use Rattle.std.proofs.lemmas.List.Sums.{fold_push}
 use Rattle.std.specs.List.{fold}
-use Rattle.impl_rules.proofs.Tests.{same_number, other_number}
 use Rattle.spec_model.specs.Spec.{SpecValue, Bits, Deadline, those, message_at, deadline_at}
 use Rattle.spec_model.specs.Rules.{sender_of}
 use Rattle.spec_model.specs.Schedule.{Slot, greatest, end_of, free_from, schedule, lateness_for, arrival, walk_length, goes_to, resource_of, start_of, place, placing}
@@ -12,11 +10,6 @@ use Rattle.evaluators.specs.Placed.{AreEnds, IsNoLater, EndsBy}
 use Rattle.evaluators.specs.declared.timetable.Timetable.{Timetable}
 use Rattle.evaluators.proofs.Greatest.{greatest-push, greatest-map_those_more}
 
--- a number more
-pub set_number : (xs : List ℕ) (i j v : ℕ) → i < length xs → get_or (set xs i v) j 0 ≡ cond (nat_eq i j) v (get_or xs j 0)
-set_number xs i j v l = elim (cases_Bool (nat_eq i j)) [
-  | inl e ↦ subst (λ (k : ℕ). get_or (set xs i v) k 0 ≡ v) (same_number i j e) (get_or-set_same xs i v 0 l) ∙ sym (ap (λ (b : Bool). cond b v (get_or xs j 0)) e)
-  | inr e ↦ get_or-set_other xs i j v 0 (λ same. other_number i j e (sym same)) ∙ sym (ap (λ (b : Bool). cond b v (get_or xs j 0)) e)
 ]
 
 -- a later bound

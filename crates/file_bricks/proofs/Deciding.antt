@@ -1,12 +1,10 @@
 -- Lists of tests of which none is broken, the first broken one of two lists, and what a choice by a test gives.
-use Rattle.std.proofs.Common.{◌≡◌, ℕ, inl, inr, eqb, Bool, true, false, cond, List, [], ◌∷◌, ◌++◌, Option, Some, None, refl, sym, ap, ◌∙◌}
+use Rattle.std.proofs.Common.{◌≡◌, ℕ, inl, inr, eqb, Bool, true, false, cond, List, [], ◌∷◌, Option, Some, None, refl, sym, ap, ◌∙◌}
 use Rattle.std.specs.Prelude.{if◌then◌else◌, ◌||◌, not}
-use Rattle.std.specs.Option.{option_or}
 use Rattle.std.proofs.lemmas.Bool.{cases_Bool, false≢true}
 use Rattle.line_words.specs.Refused.{rank}
 use Rattle.line_words.specs.Rules.{Test, IsRanked, first_broken}
 use Rattle.line_words.specs.declared.refusals.Why.{Why}
-use Rattle.line_words.proofs.Least.{first_broken-append-none, first_broken-append-some}
 
 -- no rule of a list is broken
 abbrev pub AllFalse : List Test → Type 0
@@ -54,11 +52,6 @@ all_fine why (t ∷ ts) h = chosen_false (eqb (rank t.0) (rank why)) t.1 (broken
 pub fine_for : (why : Why) (ts : List Test) → first_broken ts ≡ None → broken_for why ts ≡ false
 fine_for why ts e = all_fine why ts (all_false ts e)
 
--- the first broken rule of two lists
-pub first_of_two : (xs ys : List Test) (a b : Option Why) → a ≡ first_broken xs → b ≡ first_broken ys → option_or a b ≡ first_broken (xs ++ ys)
-first_of_two xs ys None b e f = f ∙ sym (first_broken-append-none xs ys (sym e))
-first_of_two xs ys (Some w) b e f = sym (first_broken-append-some xs ys w (sym e))
-
 -- a choice where the test holds, and where it doesn't
 pub chosen : {A : Type 0} (b : Bool) (x y : A) → b ≡ true → (if b then x else y) ≡ x
 chosen b x y e = ap (λ (c : Bool). if c then x else y) e
@@ -74,10 +67,6 @@ ranked_if low false xs ys h k = k
 pub not_false : (b : Bool) → not b ≡ false → b ≡ true
 not_false true e = refl
 not_false false e = absurd (false≢true (sym e))
-
-pub not_true : (b : Bool) → not b ≡ true → b ≡ false
-not_true true e = absurd (false≢true e)
-not_true false e = refl
 
 pub or_false : (b : Bool) → (b || false) ≡ b
 or_false true = refl

@@ -1,15 +1,15 @@
 -- A file that is filled piece by piece with the text of a log.
-use Rattle.std.proofs.Common.{◌≡◌, ◌≢◌, ◌++◌, ◌∷◌, ◌+◌, ◌<◌, ◌≤◌, ◌∙◌, [], ℕ, List, Option, length, take, drop, refl, sym, ap, subst, arith}
+use Rattle.std.proofs.Common.{◌≡◌, ◌++◌, ◌+◌, ◌<◌, ◌≤◌, ◌∙◌, [], ℕ, List, Option, length, take, drop, sym, ap, arith}
 use Rattle.std.specs.List.{flat_map}
 use Rattle.std.proofs.lemmas.List.{append_assoc, append-nil, take-append-drop, take-append-le, take_all}
 use Rattle.std.proofs.lemmas.List.Concat.{flat_map-append}
-use Rattle.desk_io.specs.Files.{Files, Edits, Appends, AppendsPrefix, content, file_at}
+use Rattle.desk_io.specs.Files.{Files, Edits, Appends, AppendsPrefix}
 use Rattle.pb_rules.specs.Frames.{Line}
 use Rattle.proof_words.specs.Lines.{line_text}
 use Rattle.proof_log.specs.Text.{header, line_at, proof_text}
-use Rattle.proof_log.proofs.Texts.{text_begins, text_goes_on}
+use Rattle.proof_log.proofs.Texts.{text_goes_on}
 use Rattle.file_writes.specs.Writes.{Leaves, Rewrites}
-use Rattle.file_writes.proofs.Rewriting.{leaves_rewrites, leaves_on, leaves_same, of_edits}
+use Rattle.file_writes.proofs.Rewriting.{leaves_rewrites, leaves_on, of_edits}
 
 -- what the file gained and the piece that waits are the text of the lines so far
 pub record Filled (ls : List Line) (i : ℕ) (piece old new : List ℕ) : Type 0 where
@@ -49,11 +49,6 @@ gains_part ls i gained rest old new more text =
     (length gained, more ∙ ap (λ (t : List ℕ). old ++ t) (begins_part gained (proof_text ls) front))
 
 -- ---- what holds on the way
-
-pub filled_begins : (start now : Option Files) (name : List ℕ) (ls : List Line) (piece : List ℕ) → now ≡ start → piece ≡ header → IsFilled start now name ls 0 piece
-filled_begins start now name ls piece same e =
-    leaves_same start now (Rewrites name (Filled ls 0 piece))
-    (λ all. record { here = record { gained = []; more = sym (append-nil (content all name)); text = e ∙ sym text_begins }; others = λ other apart. refl }) same
 
 -- a line more in the piece
 pub filled_line : (start now : Option Files) (name : List ℕ) (ls : List Line) (i : ℕ) (piece longer : List ℕ) → i < length ls → longer ≡ piece ++ line_text (line_at ls i)
@@ -104,9 +99,3 @@ filled_cut start now new name ls i piece h k =
         ∙ (ap (λ (t : List ℕ). filled.gained ++ t) (take-append-drop appends.0 piece) ∙ filled.text) in
     gains_part ls i (filled.gained ++ front) rest u w (gained_more u v w filled.gained front filled.more appends.1) text)
     h (of_edits now new name (AppendsPrefix piece) k)
-
--- nothing goes into the file
-pub none_gained : (start now : Option Files) (name : List ℕ) (text : List ℕ) → now ≡ start → Leaves start now (Rewrites name (AppendsPrefix text))
-none_gained start now name text same =
-    leaves_same start now (Rewrites name (AppendsPrefix text))
-    (λ all. record { here = (0, sym (append-nil (content all name))); others = λ other apart. refl }) same

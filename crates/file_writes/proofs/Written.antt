@@ -1,21 +1,16 @@
 -- Files that are written one after another.
-use Rattle.std.proofs.Common.{◌≡◌, ◌≢◌, ◌⊎◌, ◌++◌, ◌∷◌, [], ◌+◌, ◌<◌, ◌≤◌, ◌∙◌, ℕ, zero, suc, Bool, true, false, List, Option, Some, None, All, cond, length, get_or, take, drop, refl, sym, ap, subst, inl, inr, arith, unwrap_or}
+use Rattle.std.proofs.Common.{◌≡◌, ◌≢◌, ◌++◌, ◌∷◌, [], ◌+◌, ◌∙◌, ℕ, suc, Bool, true, false, List, Option, Some, None, All, cond, length, get_or, take, drop, refl, sym, ap, subst, inl, inr, arith, unwrap_or}
 use Rattle.std.specs.Str.{bytes_eq}
-use Rattle.std.proofs.lemmas.List.{take-append-le, take_all, length-append, take-append-drop, append_assoc}
+use Rattle.std.proofs.lemmas.List.{take-append-le, take_all}
 use Rattle.std.proofs.lemmas.List.Elements.{All-nil, All-cons, All-push}
-use Rattle.std.proofs.Math.Seq.{take-suc, drop-cons}
 use Rattle.std.proofs.lemmas.Slice.Eq.{bytes_eq-Decides}
-use Rattle.desk_io.specs.Files.{Files, HasDistinctNames, content, file_at}
-use Rattle.file_writes.specs.Writes.{Becomes, BecomesPart, KeepsOrBecomesPart, Leaves, Rewrites, IsWritten, IsPartlyWritten, KeepOthers, AreWritten, ArePartlyWritten}
-use Rattle.file_writes.proofs.Rewriting.{leaves_and, leaves_then}
+use Rattle.desk_io.specs.Files.{Files, HasDistinctNames, file_at}
+use Rattle.file_writes.specs.Writes.{Becomes, KeepsOrBecomesPart, Rewrites, IsWritten, IsPartlyWritten, KeepOthers, AreWritten, ArePartlyWritten}
 
 abbrev File : Type 0
 File = List ℕ × List ℕ
 
 -- ---- names
-
-same : (name : List ℕ) → bytes_eq name name ≡ true
-same name = (bytes_eq-Decides name name).1 refl
 
 apart : (a b : List ℕ) → bytes_eq a b ≡ false → b ≢ a
 apart a b e q = let t : bytes_eq a b ≡ true = (bytes_eq-Decides a b).1 (sym q) in absurd (cc)

@@ -192,10 +192,6 @@ module _ (title : Text) (R : List Rule) (options : List Text) where
 
   -- after `--`
 
-  ended_turn : (rows : List Row) (pending : Pending) (waiting : Waiting) (p : ℕ) (x : Text)
-      → none (turn_fault s [] (state rows pending waiting true p) x) ≡ none (step_fault s p (held rows pending) value)
-  ended_turn rows pending waiting p x = refl
-
   ended_next : (rows : List Row) (pending : Pending) (waiting : Waiting) (p : ℕ) (x : Text)
       → walked R [] (state rows pending waiting true p) x ≡ to_positional R (arg_by_index R p) x (state rows pending waiting true p) (held rows pending)
   unfolding walked
@@ -414,10 +410,6 @@ module _ (title : Text) (R : List Rule) (options : List Text) where
   map_row_end [] u = refl
   map_row_end (x ∷ us) u = ap (λ t. row x ∷ t) (map_row_end us u)
 
-  abbrev pub flag : Mode → Bool
-  flag ended = true
-  flag _ = false
-
   abbrev pub start : Mode → List Use → ℕ → Walk
   start free us p = state (map row us) None idle false p
   start ended us p = state (map row us) None idle true p
@@ -469,10 +461,6 @@ module _ (title : Text) (R : List Rule) (options : List Text) where
   agrees_step us w nw x xs t e n h =
       agrees_as us (passes s w (x ∷ xs)) (passes s nw xs) (rows_at_end s w (x ∷ xs)) (rows_at_end s nw xs) t
       (step_passes w nw x xs true e n) (step_rows w nw x xs n) h
-
-  abbrev is_free : Bool → Mode
-  is_free true = ended
-  is_free false = free
 
   -- a value that waits, between words
   pended : (f : Bool) (words : List Text) (us : List Use) (id v : Text) (p : ℕ) (long : Option Text) (i : Option ℕ) (required : Bool) (t : Option (List Use))

@@ -2,8 +2,8 @@
 use Rattle.std.proofs.Common.{◌≡◌, ℕ, zero, suc, ◌+◌, ◌<◌, ◌||◌, List, [], ◌∷◌, ◌++◌, length, set, ltb, Bool, true, false, cond, not, Option, Some, None, MatchOption, ap, ap₂, sym, ◌∙◌, subst, refl, arith}
 use Rattle.std.specs.List.{All, filter, list_any, position, position_or_len}
 use Rattle.std.proofs.lemmas.Bool.{lt-ltb}
-use Rattle.std.proofs.lemmas.List.{length-map, length_push, map_push}
-use Rattle.std.proofs.lemmas.List.Elements.{All-head, All-tail, All-cons, All-nil, All-push}
+use Rattle.std.proofs.lemmas.List.{length-map, length_push}
+use Rattle.std.proofs.lemmas.List.Elements.{All-head, All-tail, All-cons, All-nil}
 use Rattle.spec_model.specs.Vectors.{IsAtMost}
 use Rattle.dominance_lanes.specs.Columns.{Vectors, vector_at, NoneBelow, IsFirstBelow, MarksAbove, unmarked}
 use Rattle.front_archive.specs.declared.member.Member.{Member}
@@ -110,9 +110,4 @@ keeps_columns members columns ms are = record {
   widths = All-unmarked (HasWidth columns.width) ms members are.widths;
 }
 
-pub more_columns : (members : List Member) (m : Member) (columns : Vectors) → length m.vector ≡ columns.width → AreColumnsOf members columns
-    → AreColumnsOf (members ++ m ∷ []) (record columns { vectors = columns.vectors ++ m.vector ∷ [] })
-more_columns members m columns long are = record {
-  same = ap (λ us. us ++ m.vector ∷ []) are.same ∙ sym (map_push (λ (x : Member). x.vector) members m);
-  widths = All-push (HasWidth columns.width) members m are.widths long;
 }

@@ -37,10 +37,6 @@ found_offered old m e = ap (λ b. cond b old (filter (λ x. not (covers m x)) ol
 pub none_offered : (old : List Member) (m : Member) → list_any (λ x. covers x m) old ≡ false → filter (λ x. not (covers m x)) old ++ m ∷ [] ≡ offered covers old m
 none_offered old m e = ap (λ b. cond b old (filter (λ x. not (covers m x)) old ++ m ∷ [])) (sym e)
 
-pub on_ok : {T E P Q : Type 0} (r : Result T E) → (P → Q) → OnOk r P → OnOk r Q
-on_ok (Ok x) f p = f p
-on_ok (Err e) f p = tt
-
 pub entered_members : {T E : Type 0} (r : Result T E) (old new : List Member) (m : Member) → None ≡ position (λ x. covers x m) old → OnOk r (new ≡ filter (λ x. not (covers m x)) old ++ m ∷ [])
     → OnOk r (new ≡ offered covers old m)
 entered_members (Ok x) old new m none e = e ∙ none_offered old m (none_any (λ x. covers x m) old none)

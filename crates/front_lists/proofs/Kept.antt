@@ -69,10 +69,6 @@ not_before_itself u v e b =
     let same : get_or u b.place 0 ≡ get_or v b.place 0 = ap (λ (w : List ℕ). get_or w b.place 0) e in
     absurd (omega (arith, same, b.less))
 
--- the entry at a place
-kept_at : (found front : List EntryValue) (i : ℕ) → AreUndominated found front → i < length front → (d : EntryValue) → IsKept found (get_or front i d)
-kept_at found front i kept l d = kept.only i d l
-
 none_of : EntryValue
 none_of = record { design = []; vector = [] }
 

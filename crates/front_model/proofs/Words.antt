@@ -1,14 +1,12 @@
 -- The words of a line that are judged without fault are those of legal operations, and the other way round.
-use Rattle.std.proofs.Common.{◌≡◌, List, [], ◌∷◌, map, Option, Some, None, Result, Ok, Err, refl, ap, ◌∙◌, subst}
-use Rattle.std.specs.Prelude.{All}
+use Rattle.std.proofs.Common.{◌≡◌, List, [], ◌∷◌, Option, Some, None, Result, Ok, Err, refl, ap, ◌∙◌, subst}
 use Rattle.line_words.specs.Rules.{Words}
 use Rattle.pb_rules.specs.declared.Op.{Op}
 use Rattle.pb_rules.specs.Linear.{Linear}
 use Rattle.pb_rules.specs.Operations.{Context, Fault, and_then, apply, apply_all, only_one, line_gives}
-use Rattle.proof_words.specs.Words.{op_text, op_of, IsWritable}
-use Rattle.proof_words.proofs.Spellings.{read_back}
+use Rattle.proof_words.specs.Words.{op_of}
 use Rattle.proof_log.specs.Files.{each_said}
-use Rattle.proof_log.proofs.Words.{first_said, said_cons, said_back}
+use Rattle.proof_log.proofs.Words.{first_said, said_cons}
 use Rattle.front_model.specs.Judging.{judge_op, judge_words, judge_derivation}
 
 abbrev Stack : Type 0
@@ -68,6 +66,3 @@ derives context c ws e = go (judge_words context ws []) refl e
     go (Ok st) q e =
         let all = words_legal context ws [] st q in
         record { ops = all.ops; said = all.said; gives = ap (and_then only_one) all.legal ∙ e }
-
-pub derived_is : (context : Context) (ops : List Op) → All IsWritable ops → judge_derivation context (map op_text ops) ≡ line_gives context ops
-derived_is context ops h = ap (and_then only_one) (judged_ops context (map op_text ops) ops [] (said_back op_text op_of IsWritable read_back ops h))

@@ -1,23 +1,15 @@
 -- Vectors that rise, and one more among them.
-use Rattle.std.proofs.Common.{◌≡◌, ◌≢◌, ℕ, zero, suc, ◌+◌, ◌-◌, ◌<◌, ◌≤◌, List, [], ◌∷◌, ◌++◌, length, get_or, take, drop, refl, sym, ap, ap₂, ◌∙◌, subst, arith, ◌⊎◌, inl, inr}
-use Rattle.std.specs.Prelude.{All, Contains, slice_index}
+use Rattle.std.proofs.Common.{◌≡◌, ℕ, zero, suc, ◌+◌, ◌-◌, ◌<◌, ◌≤◌, List, [], ◌∷◌, length, get_or, refl, sym, ap, ap₂, ◌∙◌, subst, arith, ◌⊎◌, inl, inr}
+use Rattle.std.specs.Prelude.{Contains, slice_index}
 use Rattle.std.specs.List.{insert}
-use Rattle.std.proofs.lemmas.Bool.{cases_lt, cases_eq}
+use Rattle.std.proofs.lemmas.Bool.{cases_lt}
 use Rattle.std.proofs.lemmas.List.Edits.{length-insert, get_or-insert_at, get_or-insert_below, get_or-insert_above}
 use Rattle.std.proofs.lemmas.List.Elements.{Contains-get_or}
-use Rattle.spec_model.specs.Vectors.{IsAtMost, Dominates}
-use Rattle.spec_model.proofs.Vectors.{at_most_itself, at_most_both}
 use Rattle.front_model.specs.Fronts.{StandsBefore, Rise}
 use Rattle.front_lists.specs.Lists.{AreLong}
 use Rattle.front_search.specs.Turns.{IsPlaceFor}
 
 -- ---- dominating
-
-pub dominates_of : (u v : List ℕ) → IsAtMost u v → ¬ IsAtMost v u → Dominates u v
-dominates_of u v le fails = (le, λ e. fails (subst (IsAtMost v) (sym e) (at_most_itself v)))
-
-pub not_back : (u v : List ℕ) → length u ≡ length v → Dominates u v → ¬ IsAtMost v u
-not_back u v e d back = d.1 (at_most_both u v e d.0 back)
 
 -- ---- one stands before the other
 

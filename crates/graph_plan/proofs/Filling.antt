@@ -31,16 +31,6 @@ pub record IsFilled (clock : ℕ) (old : SpecValue) (gs : List Graph) (p : SpecV
   pub tasks : length p.tasks ≡ sum_by task_count gs
   pub messages : length p.messages ≡ sum_by arc_count gs
 
-none_of : (names : List Name) → length names ≡ 0 → AreOf [] names
-none_of names e name c = absurd (omega (arith, c.1, e))
-
-pub filled_none : (clock : ℕ) (old : SpecValue) → length old.tasks ≡ 0 → length old.messages ≡ 0 → length old.message_names ≡ length old.messages → IsFilled clock old [] old
-filled_none clock old tasks messages named = record {
-  made = refl;
-  tasks_of = none_of old.tasks tasks;
-  messages_of = none_of old.message_names (named ∙ messages);
-  tasks = tasks;
-  messages = messages;
 }
 
 -- ---- one graph more

@@ -128,14 +128,6 @@ digit_is d r = search (rules, tests)
 pub min_step : (res v f dv : ℕ) → res ≡ min (v * 10 + f) most → f ≡ dv → (min res most ≡ min (v * 10 + dv) most) × (res ≤ most)
 min_step res v f dv a b = (omega arith, omega arith)
 
--- an exponent that is cut at the bound keeps as much
-pub cut_up : (v e k : ℕ) → min (v * 10 ^ (min e most + k)) most ≡ min (v * 10 ^ (e + k)) most
-cut_up v e k =
-    elim (cases_lt e most) [
-      | inl low ↦ let same : min e most ≡ e = omega arith in rw same refl
-      | inr high ↦ many_zeros v (min e most + k) (e + k) (omega arith) (omega arith)
-    ]
-
 -- the digits kept of two parts
 pub two_parts : (xs ys : List ℕ) (keep a b : ℕ) → a ≡ min keep (length xs) → b ≡ min (keep - a) (length ys) → take a xs ++ take b ys ≡ take keep (xs ++ ys)
 two_parts xs ys keep a b d e =

@@ -10,9 +10,6 @@ use Rattle.line_words.specs.declared.refusals.Refusal1.{Refusal1}
 use Rattle.line_words.proofs.Spans.{words_from-some_word}
 use Rattle.line_words.proofs.Whys.{some, none, some_is}
 
-pub passes_none : (left : Left) → Passes left left
-passes_none left = record { passed = []; empty = tt; lines_are = refl; number_is = omega arith }
-
 AllEmpty-push : (ls : List (List ℕ)) (l : List ℕ) → AllEmpty ls → IsEmptyLine l → AllEmpty (ls ++ l ∷ [])
 AllEmpty-push [] l h e = (e, tt)
 AllEmpty-push (k ∷ ls) l h e = (h.0, AllEmpty-push ls l h.1 e)

@@ -125,10 +125,6 @@ dropped-first log live after id ids distinct known h e =
       },
     )
 
--- nothing was dropped, and one after another
-pub dropped-none : (log : LogValue) (live : List Live) → HasDropped log live live
-dropped-none log live = record { same_given = refl; dropped = []; oldest = refl }
-
 pub dropped-more : (log : LogValue) (a b c : List Live) → HasDropped log a b → HasDropped log b c → HasDropped log a c
 dropped-more log a b c p q = record {
   same_given = q.same_given ∙ p.same_given;

@@ -1,15 +1,14 @@
 -- Given ids stay given ids when a log grows, and kept clauses stay kept ones.
-use Rattle.std.proofs.Common.{◌≡◌, ℕ, ◌+◌, ◌<◌, Bool, true, false, cond, eqb, List, [], ◌∷◌, ◌++◌, length, get_or, map, refl, sym, ap, ◌∙◌, subst, arith, zero, suc}
+use Rattle.std.proofs.Common.{◌≡◌, ℕ, ◌+◌, ◌<◌, Bool, true, false, cond, eqb, List, [], ◌∷◌, ◌++◌, length, get_or, refl, sym, ap, ◌∙◌, subst, arith, zero, suc}
 use Rattle.std.specs.Prelude.{All, filter, not, ◌&&◌}
 use Rattle.std.proofs.lemmas.Bool.Decides.{nat_tests}
-use Rattle.std.proofs.lemmas.List.{map-append}
 use Rattle.std.proofs.lemmas.List.Elements.{All-push, All-head, All-tail}
 use Rattle.std.proofs.lemmas.List.Sums.{sum_by-cons, sum_by-append}
 use Rattle.pb_rules.specs.Linear.{Linear}
 use Rattle.pb_rules.specs.declared.Op.{Op}
 use Rattle.pb_rules.specs.Frames.{Line, derived, is_derived, ids_of, ids_in}
 use Rattle.proof_log.specs.Log.{LogValue, next_id}
-use Rattle.constraint_store.specs.Live.{Live, Content, content}
+use Rattle.constraint_store.specs.Live.{Live, Content}
 use Rattle.ordered_solver.specs.Engines.{IsKnown, is_kept, kept_in, given_in}
 use Rattle.ordered_solver.specs.Solver.{IsGivenId, HasGivenId, is_derived_id, numbered}
 
@@ -117,10 +116,3 @@ pub given-later-in : (log new : LogValue) (more : List Line) (live : List Live) 
 given-later-in log new more live e known =
     let same = same-test log new more live e known in
     filter-same (λ x. not (is_kept new x)) (λ x. not (is_kept log x)) live (λ k d l. ap not (same k d l))
-
--- one constraint more
-pub given-ids-more : (log : LogValue) (live after : List Live) (x : Live) → after ≡ live ++ x ∷ [] → IsGivenId log x.proof_id → All (HasGivenId log) (map content live)
-    → All (HasGivenId log) (map content after)
-given-ids-more log live after x e g all =
-    let P : List Content → Type 0 = λ xs. All (HasGivenId log) xs in
-    subst P (sym (ap (map content) e ∙ map-append content live (x ∷ []))) (All-push (HasGivenId log) (map content live) (content x) all g)

@@ -91,12 +91,6 @@ leaving-fewer live after p t id ids e l =
     still x n (inl w) = inl (Contains-tail id ids x.id (λ z. n (sym z)) w)
     still x n (inr a) = inr a
 
--- none is left to be removed
-pub leaving-none : (live : List Live) (p : PropagatorView) (t : TrailView) → AreLeaving live p t [] → IsLoaded live p t
-leaving-none live p t l = record {
-  ready = l.ready;
-  attached = λ k d h. is (get_or live k d) (l.attached k d h);
-  in_range = l.in_range;
 }
   where
     is : (x : Live) → Contains [] x.id ⊎ IsAttached p.attached x → IsAttached p.attached x

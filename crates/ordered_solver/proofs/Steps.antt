@@ -149,9 +149,6 @@ ordered-jump held bs order es n e h wider closed f o =
           subst Q (sym same) (closed m below));
     }
 
-pub goes-none : (es : List Entry) → GoesOnFrom es es
-goes-none es = record { longer = omega arith; kept = take_all (length es) es (omega arith) }
-
 pub goes-trans : (a b c : List Entry) → GoesOnFrom a b → GoesOnFrom b c → GoesOnFrom a c
 goes-trans a b c p q =
     let l1 = p.longer in let l2 = q.longer in

@@ -14,9 +14,6 @@ use Rattle.pb_constraints.specs.SignedSums.{share, is_var, signed_sum, on_negate
 use Rattle.pb_constraints.specs.NormalForm.{or_zero, IsNormalOf}
 use Rattle.pb_constraints.proofs.IntegerSums.{sum_z-append}
 
-abbrev part_of : ℕ → ℕ → Bool → Part
-part_of k x is_yes = record { coef = pos k; lit = record { var = x; yes = is_yes } }
-
 -- what two parts of one variable give together, in what is left of them and what is cancelled
 pub record Joins (t u : Term) (s j : Sum) : Type 0 where
   pub same : (x : ℕ) → signed_sum x (map as_part j.terms) ≡ share (is_var x) (as_part t) +ℤ (share (is_var x) (as_part u) +ℤ signed_sum x (map as_part s.terms))

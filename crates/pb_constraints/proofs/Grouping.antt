@@ -45,15 +45,6 @@ closed-below gs x y (pos zero) a h = λ k d l. omega (arith, a k d l)
 closed-below gs x y (pos (suc n)) a h = All-push (VarBelow y) gs (record { var = x; sum = pos (suc n) }) (λ k d l. omega (arith, a k d l)) h
 closed-below gs x y (negsuc n) a h = All-push (VarBelow y) gs (record { var = x; sum = negsuc n }) (λ k d l. omega (arith, a k d l)) h
 
-pub grouping_start : IsGrouping [] [] 0 (pos 0)
-grouping_start = record {
-  nonzero = λ k d h. absurd (omega arith);
-  small = λ k d h. absurd (omega arith);
-  small_last = omega arith;
-  rising = λ i j e h l. absurd (omega arith);
-  below = λ k d h. absurd (omega arith);
-  same = λ q. share_zero (q 0);
-  bound = omega arith;
 }
   where
     share_zero : (b : Bool) → pos 0 +ℤ (cond b (pos 0) (pos 0)) ≡ pos 0

@@ -112,14 +112,8 @@ models-back v cs ds m = models-among v ds (cs ++ ds) (among-back cs ds) m
 pub among-append : (cs ds es : List Linear) → AreAmong cs es → AreAmong ds es → AreAmong (cs ++ ds) es
 among-append cs ds es a b c h = elim (Contains-append_cases cs ds c h) [ inl x ↦ a c x | inr y ↦ b c y ]
 
-pub closed-append : (cs ds : List Linear) (p : ℕ → Option Bool) → IsClosedFor cs p → IsClosedFor ds p → IsClosedFor (cs ++ ds) p
-closed-append cs ds p a b = All-append (IsClosed p) cs ds a b
-
 pub closed-front : (cs ds : List Linear) (p : ℕ → Option Bool) → IsClosedFor (cs ++ ds) p → IsClosedFor cs p
 closed-front cs ds p h = closed-among cs (cs ++ ds) p (among-front cs ds) h
-
-pub closed-back : (cs ds : List Linear) (p : ℕ → Option Bool) → IsClosedFor (cs ++ ds) p → IsClosedFor ds p
-closed-back cs ds p h = closed-among ds (cs ++ ds) p (among-back cs ds) h
 
 -- what a list absorbs, a longer one absorbs
 pub absorbed-among : (cs ds : List Linear) (c : Linear) → AreAmong cs ds → IsAbsorbed cs c → IsAbsorbed ds c

@@ -1,11 +1,9 @@
 -- What a checker keeps, from line to line.
 use Rattle.std.proofs.Common.{◌≡◌, ◌≢◌, ℕ, ◌+◌, ◌<◌, ◌^◌, Bool, true, false, cond, List, [], ◌∷◌, ◌++◌, length, sym, ap, ◌∙◌, subst, arith}
-use Rattle.std.specs.Prelude.{Option, Some, None, Result, Ok, Err, Vec}
+use Rattle.std.specs.Prelude.{Option, Some, None, Ok, Err, Vec}
 use Rattle.std.specs.Global.{Global}
 use Rattle.std.proofs.lemmas.Bool.{ne_eqb}
 use Rattle.pb_rules.specs.Linear.{Linear}
-use Rattle.pb_rules.specs.Operations.{Fault}
-use Rattle.pb_rules.specs.Frames.{Given}
 use Rattle.std.proofs.lemmas.List.Elements.{All-weaker}
 use Rattle.spec_model.specs.Spec.{SpecValue, bits_of}
 use Rattle.spec_model.specs.WellFormed.{IsWellFormed}
@@ -17,13 +15,12 @@ use Rattle.front_model.specs.declared.refusals.ProofWhy.{ProofWhy}
 use Rattle.front_model.specs.declared.refusals.ProofWhy.TheVariants.{BadStep, NoContradiction}
 use Rattle.front_model.specs.declared.refusals.Refused.{Refused}
 use Rattle.front_model.specs.declared.refusals.Verdict.TheVariants as verdicts
-use Rattle.front_model.specs.Judging.{Progress, begun, is_clash, after_derived, judged, judge_next, judge_numbers, judge_cover, take_if, take_line, refusal_at, verdict_if, verdict_of}
+use Rattle.front_model.specs.Judging.{Progress, begun, is_clash, judged, judge_next, judge_numbers, judge_cover, take_if, take_line, refusal_at, verdict_if, verdict_of}
 use Rattle.front_model.specs.Laws.{IsPiece, IsReached, IsKnown}
 use Rattle.front_model.proofs.Exact.{vector_long}
 use Rattle.front_model.proofs.Files.{begins_reached, reaches_on}
 use Rattle.front_model.proofs.Known.{begins_known, stays_known}
-use Rattle.proof_checker.specs.Answers.{AllLong, StepHalts, Halts, halt_of}
-use Rattle.proof_checker.specs.declared.faults.StepFault.{StepFault}
+use Rattle.proof_checker.specs.Answers.{AllLong, Halts}
 use Rattle.proof_checker.specs.declared.faults.StepFault.TheVariants as steps
 use Rattle.proof_checker.specs.declared.faults.Halt.{Halt}
 use Rattle.proof_checker.specs.declared.faults.Halt.TheVariants as halts
@@ -117,11 +114,3 @@ cover_refused s us o v w f is same h =
     subst (λ (p : Option (List ℕ)). Halts (judge_cover s us p) f) (sym is) (subst (λ (x : List ℕ). Halts (judge_numbers s us x) f) same h)
 
 -- ---- a derived line
-
--- an operation's fault is the line's
-pub step_halts : (g : Given) (o : Result Linear Fault) (f : StepFault) → StepHalts o f → Halts (after_derived g o) (halt_of f)
-step_halts g o (steps.Unknown n) h = ap (after_derived g) h
-step_halts g o steps.ZeroDivisor h = ap (after_derived g) h
-step_halts g o (steps.TooLarge n) h = ap (after_derived g) h
-step_halts g o steps.NoStep h = ap (after_derived g) h
-step_halts g o steps.NoMemory h = tt

@@ -2,7 +2,7 @@
 use Rattle.std.proofs.Common.{◌≡◌, ℕ, zero, suc, ◌+◌, ◌<◌, ◌≤◌, Bool, true, List, [], ◌∷◌, ◌++◌, length, map, take, drop, get_or, Option, Some, None, Result, Ok, refl, sym, ap, ◌∙◌, subst, arith, Bor}
 use Rattle.std.specs.Prelude.{All, ◌||◌}
 use Rattle.std.specs.List.{list_any}
-use Rattle.std.proofs.lemmas.List.{drop_more, drop_all, take_more, take_all, map_push, get_or-map, length-map}
+use Rattle.std.proofs.lemmas.List.{drop_more, drop_all, take_more, map_push, get_or-map, length-map}
 use Rattle.std.proofs.lemmas.List.Folds.{list_any_at}
 use Rattle.line_words.specs.Rules.{Words, said}
 use Rattle.pb_rules.specs.Linear.{Linear}
@@ -16,10 +16,9 @@ use Rattle.front_model.specs.Fronts.{vector_in}
 use Rattle.proof_log.specs.Files.{onto_said, with_said}
 use Rattle.front_model.specs.Judging.{judge_op, judge_words, numbers_of, is_at_most}
 use Rattle.spec_model.specs.Spec.{SpecValue}
-use Rattle.proof_checker.specs.Answers.{StepHalts, AllLong}
+use Rattle.proof_checker.specs.Answers.{AllLong}
 use Rattle.result_text.specs.Fronts.{IsShaped}
 use Rattle.proof_checker.specs.Checkers.{vectors_in}
-use Rattle.proof_checker.specs.declared.faults.StepFault.{StepFault}
 use Rattle.proof_checker.specs.declared.faults.StepFault.TheVariants as steps
 
 abbrev Lent : Type 0
@@ -28,14 +27,6 @@ Lent = Bor (List ℕ)
 abbrev Judged : Type 0
 Judged = Result (List Linear) Fault
 
--- a fault stays one, whatever would follow
-pub halts_on : {X Y : Type 0} (f : X → Result Y Fault) (o : Result X Fault) (fault : StepFault) → StepHalts o fault → StepHalts (and_then f o) fault
-halts_on f o (steps.Unknown n) h = ap (and_then f) h
-halts_on f o steps.ZeroDivisor h = ap (and_then f) h
-halts_on f o (steps.TooLarge n) h = ap (and_then f) h
-halts_on f o steps.NoStep h = ap (and_then f) h
-halts_on f o steps.NoMemory h = tt
-
 next_word : (context : Context) (ws : List Lent) (i : ℕ) (d : Lent) (st : List Linear) (whole : Judged) → i < length ws → judge_words context (said (drop i ws)) st ≡ whole
     → and_then (judge_words context (said (drop (i + 1) ws))) (judge_op context st (op_of (get_or ws i d).now)) ≡ whole
 next_word context ws i d st whole l e = sym (ap (λ (vs : List Lent). judge_words context (said vs) st) (drop_more ws i d l)) ∙ e
@@ -43,11 +34,6 @@ next_word context ws i d st whole l e = sym (ap (λ (vs : List Lent). judge_word
 pub word_taken : (context : Context) (ws : List Lent) (i : ℕ) (d : Lent) (st new : List Linear) (whole : Judged) → i < length ws → judge_words context (said (drop i ws)) st ≡ whole
     → judge_op context st (op_of (get_or ws i d).now) ≡ Ok new → judge_words context (said (drop (i + 1) ws)) new ≡ whole
 word_taken context ws i d st new whole l e q = sym (ap (and_then (judge_words context (said (drop (i + 1) ws)))) q) ∙ next_word context ws i d st whole l e
-
-pub word_refused : (context : Context) (ws : List Lent) (i : ℕ) (d : Lent) (st : List Linear) (whole : Judged) (f : StepFault) → i < length ws → judge_words context (said (drop i ws)) st ≡ whole
-    → StepHalts (judge_op context st (op_of (get_or ws i d).now)) f → StepHalts whole f
-word_refused context ws i d st whole f l e h =
-    subst (λ (o : Judged). StepHalts o f) (next_word context ws i d st whole l e) (halts_on (judge_words context (said (drop (i + 1) ws))) (judge_op context st (op_of (get_or ws i d).now)) f h)
 
 pub words_end : (context : Context) (ws : List Lent) (i : ℕ) (st : List Linear) (whole : Judged) → length ws ≤ i → judge_words context (said (drop i ws)) st ≡ whole → whole ≡ Ok st
 words_end context ws i st whole l e = sym e ∙ ap (λ (vs : List Lent). judge_words context (said vs) st) (drop_all i ws l)
@@ -86,9 +72,6 @@ number_missing (v ∷ ws) (suc i) d l q = ap (with_said (number_of v.now)) (numb
     go : (o : Option ℕ) → with_said o None ≡ None
     go None = refl
     go (Some n) = refl
-
-pub numbers_end : (ws : List Lent) (i : ℕ) (ns : List ℕ) → length ws ≤ i → numbers_of (said (take i ws)) ≡ Some ns → numbers_of (said ws) ≡ Some ns
-numbers_end ws i ns l e = sym (ap (λ (vs : List Lent). numbers_of (said vs)) (take_all i ws l)) ∙ e
 
 -- ---- entries
 

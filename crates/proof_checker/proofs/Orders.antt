@@ -41,9 +41,6 @@ of_after es e v some is h =
     let at : get_or (vectors_in es) (length (vectors_in es) - 1) [] ≡ e.vector = ap (λ (k : ℕ). get_or (vectors_in es) k []) n ∙ vector_at es (length es - 1) e [] (omega (arith, some)) is in
     subst (λ (u : List ℕ). StandsBefore u v) at (h [] (omega (arith, some, vectors_long es)))
 
-pub after_none : (es : List Entry) (v : List ℕ) → length es ≡ 0 → StandsAfter (vectors_in es) v
-after_none es v e d l = absurd (omega (arith, e, l, vectors_long es))
-
 -- ---- rising
 
 through : (u v w : List ℕ) → StandsBefore u v → StandsBefore v w → StandsBefore u w
@@ -93,9 +90,6 @@ module _ (s : SpecValue) (front : FrontValue) (fine : AllFine s front (length fr
 
   at : (k : ℕ) (d : List ℕ) (e : EntryValue) → k < length front.entries → get_or (vectors_of front) k d ≡ (get_or front.entries k e).vector
   at k d e l = get_or-map vector_in front.entries k e d l
-
-  none : EntryValue
-  none = record { design = []; vector = [] }
 
   next : (k : ℕ) (d : List ℕ) → k + 1 < length front.entries → StandsBefore (get_or (vectors_of front) k d) (get_or (vectors_of front) (k + 1) d)
   next k d l =

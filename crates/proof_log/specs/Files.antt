@@ -61,10 +61,6 @@ pub record OfFile (P : List Line → Type 0) (text : List ℕ) : Type 0 where
 abbrev pub AreLegal : Frame → List Line → Type 0
 AreLegal f ls = (g : Given) × (given_by f ls ≡ Some g)
 
--- each line of a file is legal at its place
-abbrev pub IsLegalFile : Frame → List ℕ → Type 0
-IsLegalFile f text = OfFile (AreLegal f) text
-
 -- a file is honest: its lines are legal, and each clause that they derive says something new
 abbrev pub IsHonestFile : Frame → List ℕ → Type 0
 IsHonestFile f text = OfFile (IsHonestLog f) text

@@ -10,7 +10,7 @@ use Rattle.pb_rules.specs.Linear.{Linear}
 use Rattle.pb_rules.specs.Partial.{open_weight}
 use Rattle.pb_rules.proofs.Rooms.{open_weight-le}
 use Rattle.propagate.specs.declared.occurrences.Occurrence.{Occurrence}
-use Rattle.propagate.specs.Counters.{number_of, value_of, linear_at, weight_of, weight_at, occurrences_of, IsLimited, IsQuietBut, IsBuilt, AreDistinct, IsInStep, IsGivenBack, GaveRooms, Woke}
+use Rattle.propagate.specs.Counters.{number_of, value_of, linear_at, weight_of, weight_at, occurrences_of, IsLimited, IsQuietBut, IsBuilt, AreDistinct, IsGivenBack, GaveRooms, Woke}
 use Rattle.propagate.proofs.Weights.{value_of-same, value_of-other, open_weight-falls, weight_of-term}
 use Rattle.propagate.proofs.Steps.{distinct-first, distinct-last}
 use Rattle.propagate.proofs.Tying.{last-below}
@@ -22,21 +22,8 @@ value-own off l x e = grind (arith, nat_tests)
 value-rest : (off : List Literal) (l : Literal) (x : ℕ) → l.var ≢ x → value_of (l ∷ off) x ≡ value_of off x
 value-rest off l x n = grind (arith, nat_tests)
 
-pub given-none : (n : ℕ) (slots : List (Option Linear)) (rooms : List ℕ) (w : List Bool) (ls : List Literal) → IsInStep n slots rooms w ls (value_of ls) → IsGivenBack n slots rooms w ls []
-given-none n slots rooms w ls s = record {
-  sums = s.sums;
-  distinct = s.distinct;
-  below = s.below;
-  off_below = λ k d h. absurd (omega arith);
-  quiet = λ i z. (let q = s.quiet i z in record { no_conflict = q.no_conflict; none_forced = λ k d h f g. q.none_forced k d h f });
 }
 
-pub given-all : (n : ℕ) (slots : List (Option Linear)) (rooms : List ℕ) (w : List Bool) (ls : List Literal) → IsGivenBack n slots rooms w ls [] → IsInStep n slots rooms w ls (value_of ls)
-given-all n slots rooms w ls s = record {
-  sums = s.sums;
-  distinct = s.distinct;
-  below = s.below;
-  quiet = λ i z. (let q = s.quiet i z in record { no_conflict = q.no_conflict; none_forced = λ k d h f. q.none_forced k d h f (λ e. cc) });
 }
 
 -- a constraint that was quiet, once a literal gave back what it took

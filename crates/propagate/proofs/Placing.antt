@@ -6,7 +6,7 @@ use Rattle.std.proofs.lemmas.Bool.{cases_eq}
 use Rattle.std.proofs.lemmas.Bool.Decides.{nat_tests}
 use Rattle.std.proofs.lemmas.List.{take_more, length-set}
 use Rattle.std.proofs.lemmas.List.Elements.{All-push, All-filter}
-use Rattle.std.proofs.lemmas.List.Sums.{sum_by_push, sum_by-cons, sum_by-take-le}
+use Rattle.std.proofs.lemmas.List.Sums.{sum_by_push, sum_by-cons}
 use Rattle.pb_rules.specs.declared.Term.{Term}
 use Rattle.pb_rules.specs.Literal.{Literal}
 use Rattle.pb_rules.specs.Linear.{Linear, VarsBelow, total}
@@ -43,9 +43,6 @@ hit a b e = grind (arith, nat_tests)
 
 pub miss : (a b : ℕ) → a ≢ b → eqb a b ≡ false
 miss a b n = grind (arith, nat_tests)
-
-pub Added-none : (slot : ℕ) (ts : List Term) (lists : List (List Occurrence)) → ((k : ℕ) → weight_at slot (occurrences_of lists k) ≡ 0) → Added slot (take 0 ts) lists lists
-Added-none slot ts lists h = record { same_length = refl; own = λ k. h k; others = λ i k n. refl; inside = λ n k l p. p }
 
 pub Added-more : (slot : ℕ) (ts : List Term) (i : ℕ) (t : Term) (lists mid new : List (List Occurrence)) → Added slot (take i ts) lists mid → i < length ts → t ≡ get_or ts i t
     → number_of t.lit < length lists → new ≡ set mid (number_of t.lit) (occurrences_of mid (number_of t.lit) ++ record { slot = slot; coef = t.coef } ∷ []) → Added slot (take (i + 1) ts) lists new
@@ -135,9 +132,6 @@ is_other-own slot o e = ap not (hit o.slot slot e)
 is_other-else : (slot i : ℕ) → i ≢ slot → (o : Occurrence) → o.slot ≡ i → is_other slot o ≡ true
 is_other-else slot i n o e = ap not (miss o.slot slot (λ z. n (sym e ∙ z)))
 
-pub Removed-none : (slot : ℕ) (ts : List Term) (lists : List (List Occurrence)) → ((k : ℕ) → weight_at slot (occurrences_of lists k) ≤ weight_of k ts) → Removed slot (drop 0 ts) lists lists
-Removed-none slot ts lists h = record { same_length = refl; own = λ k. h k; others = λ i k n. refl; inside = λ n k p. p }
-
 pub Removed-more : (slot : ℕ) (ts : List Term) (i : ℕ) (t : Term) (lists mid new : List (List Occurrence)) → Removed slot (drop i ts) lists mid → i < length ts → t ≡ get_or ts i t
     → number_of t.lit < length lists → new ≡ set mid (number_of t.lit) (filter (is_other slot) (occurrences_of mid (number_of t.lit))) → Removed slot (drop (i + 1) ts) lists new
 Removed-more slot ts i t lists mid new p h is lt e =
@@ -180,28 +174,7 @@ Removed-more slot ts i t lists mid new p h is lt e =
       ];
     })
 
--- the occurrences of the first terms are taken out again
-pub Added-undone : (slot : ℕ) (ts : List Term) (i : ℕ) (lists mid new : List (List Occurrence)) → ((k : ℕ) → weight_at slot (occurrences_of lists k) ≡ 0) → Added slot (take i ts) lists mid
-    → Removed slot [] mid new → Added slot [] lists new
-Added-undone slot ts i lists mid new none p r = record {
-  same_length = r.same_length ∙ p.same_length;
-  own = λ k. (let a = r.own k in omega (arith, a));
-  others = λ j k n. r.others j k n ∙ p.others j k n;
-  inside = λ n k l s. r.inside n k (p.inside n k l s);
 }
-
-weight_of-take : (ts : List Term) (i k : ℕ) → weight_of k (take i ts) ≤ weight_of k ts
-weight_of-take ts i k = sum_by-take-le (λ (u : Term). cond (eqb (number_of u.lit) k) u.coef 0) ts i
-
-pub Added-few : (slot : ℕ) (ts : List Term) (i : ℕ) (lists mid : List (List Occurrence)) → Added slot (take i ts) lists mid → (k : ℕ) → weight_at slot (occurrences_of mid k) ≤ weight_of k ts
-Added-few slot ts i lists mid p k = (let a = p.own k in let b = weight_of-take ts i k in omega (arith, a, b))
-
--- one more zero, or one more empty slot
-pub zeros-push : (xs : List ℕ) (i : ℕ) → get_or (xs ++ 0 ∷ []) i 0 ≡ get_or xs i 0
-zeros-push [] zero = refl
-zeros-push [] (suc i) = refl
-zeros-push (x ∷ xs) zero = refl
-zeros-push (x ∷ xs) (suc i) = zeros-push xs i
 
 pub empty-push : (slots : List (Option Linear)) (i : ℕ) → get_or (slots ++ empty ∷ []) i empty ≡ get_or slots i empty
 empty-push [] zero = refl
@@ -217,40 +190,6 @@ attached-push k (Some c ∷ slots) = ap (λ (us : List Attached). record { id = 
 pub on-ok : (r : Result (Unit {0}) AllocError) (a b : List (List Occurrence)) → is_err r ≡ false → OnOk r (a ≡ b) → a ≡ b
 on-ok (Ok x) a b h k = k
 on-ok (Err e) a b h k = absurd (cc)
-
--- what room for slots leaves
-pub built-grown : (n : ℕ) (slots slots' : List (Option Linear)) (limits limits' : List ℕ) (lists : List (List Occurrence)) → IsBuilt n slots limits lists
-    → ((i : ℕ) → get_or slots' i empty ≡ get_or slots i empty) → length slots ≤ length slots' → ((i : ℕ) → get_or limits' i 0 ≡ get_or limits i 0) → IsBuilt n slots' limits' lists
-built-grown n slots slots' limits limits' lists b s l m =
-    let V : Linear → Type 0 = λ k. VarsBelow n k.terms in
-    let T : Linear → Type 0 = λ k. total k.terms < 2 ^ 63 in
-    let is : (i : ℕ) → linear_at slots' i ≡ linear_at slots i = λ i. ap (λ (o : Option Linear). unwrap_or o nothing) (s i) in
-    record {
-      few = b.few;
-      wide = b.wide;
-      in_range = λ i. subst V (sym (is i)) (b.in_range i);
-      small = λ i. subst T (sym (is i)) (b.small i);
-      inside = λ k j d h. (let a = b.inside k j d h in omega arith);
-      weights = λ i k. b.weights i k ∙ ap (λ (c : Linear). weight_of k c.terms) (sym (is i));
-      limited = λ i. (
-          let P : ℕ → Type 0 = λ x. IsLimited x (linear_at slots i) in
-          let Q : Linear → Type 0 = λ c. IsLimited (get_or limits' i 0) c in
-          subst Q (sym (is i)) (subst P (sym (m i)) (b.limited i)));
-    }
-
-pub step-grown : (n : ℕ) (slots slots' : List (Option Linear)) (rooms rooms' : List ℕ) (w w' : List Bool) (ls : List Literal) (q : ℕ → Option Bool) → IsInStep n slots rooms w ls q
-    → ((i : ℕ) → get_or slots' i empty ≡ get_or slots i empty) → ((i : ℕ) → get_or rooms' i 0 ≡ get_or rooms i 0) → ((i : ℕ) → is_waiting w' i ≡ is_waiting w i) → IsInStep n slots' rooms' w' ls q
-step-grown n slots slots' rooms rooms' w w' ls q h s r e =
-    let is : (i : ℕ) → linear_at slots' i ≡ linear_at slots i = λ i. ap (λ (o : Option Linear). unwrap_or o nothing) (s i) in
-    record {
-      sums = λ i. r i ∙ h.sums i ∙ ap (λ (c : Linear). open_weight (value_of ls) c.terms) (sym (is i));
-      distinct = h.distinct;
-      below = h.below;
-      quiet = λ i z. (
-          let P : ℕ → Type 0 = λ x. IsQuiet x q (linear_at slots i) in
-          let Q : Linear → Type 0 = λ c. IsQuiet (get_or rooms' i 0) q c in
-          subst Q (sym (is i)) (subst P (sym (r i)) (h.quiet i (sym (e i) ∙ z))));
-    }
 
 pub slot-same : (slots : List (Option Linear)) (i : ℕ) (o : Option Linear) → i < length slots → get_or (set slots i o) i empty ≡ o
 slot-same slots i o h = get_or-set_same slots i o empty h
@@ -314,16 +253,3 @@ step-filled n i room c slots rooms w w' ls q s h h' is a =
 
 pub limited-nothing : (limit : ℕ) → IsLimited limit nothing
 limited-nothing limit = record { degree = omega arith; terms = λ k d h. absurd (omega arith) }
-
-pub step-emptied : (n i : ℕ) (slots : List (Option Linear)) (rooms : List ℕ) (w : List Bool) (ls : List Literal) (q : ℕ → Option Bool) → IsInStep n slots rooms w ls q → i < length slots
-    → i < length rooms → IsInStep n (set slots i empty) (set rooms i 0) w ls q
-step-emptied n i slots rooms w ls q s h h' =
-    let S : ℕ → Linear → Type 0 = λ j k. get_or (set rooms i 0) j 0 ≡ open_weight (value_of ls) k.terms in
-    let Q : ℕ → Linear → Type 0 = λ j k. is_waiting w j ≡ false → IsQuiet (get_or (set rooms i 0) j 0) q k in
-    record {
-      sums = at-each slots i empty S h (get_or-set_same rooms i 0 0 h') (λ j z. get_or-set_other rooms i j 0 0 z ∙ s.sums j);
-      distinct = s.distinct;
-      below = s.below;
-      quiet = at-each slots i empty Q h (λ z. record { no_conflict = omega arith; none_forced = λ k d g. absurd (omega arith) })
-          (λ j n z. (let P : ℕ → Type 0 = λ x. IsQuiet x q (linear_at slots j) in subst P (sym (get_or-set_other rooms i j 0 0 n)) (s.quiet j z)));
-    }

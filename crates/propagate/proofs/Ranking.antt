@@ -1,9 +1,9 @@
 -- Terms by falling coefficient.
 use Rattle.std.proofs.Common.{◌≡◌, ℕ, ◌+◌, ◌-◌, ◌<◌, ◌≤◌, ◌^◌, List, length, get_or, take, sym, ap, ◌∙◌, subst, arith, inl, inr, All}
 use Rattle.std.specs.List.Sorted.{IsNonDecreasingBy, IsPermutation}
-use Rattle.std.proofs.lemmas.List.Sorted.{IsPermutation-refl, All-permutation}
+use Rattle.std.proofs.lemmas.List.Sorted.{All-permutation}
 use Rattle.std.proofs.lemmas.List.Elements.{All-more}
-use Rattle.std.proofs.lemmas.List.{length-take-le, get_or-take, get_or_default, take_all}
+use Rattle.std.proofs.lemmas.List.{length-take-le, get_or-take, get_or_default}
 use Rattle.std.proofs.lemmas.Bool.{cases_lt}
 use Rattle.pb_rules.specs.declared.Term.{Term}
 use Rattle.pb_rules.specs.Linear.{total}
@@ -62,12 +62,6 @@ bound-more ts k last t h at bound le =
 
 pub falling-none : (ts : List Term) → IsFalling (take 0 ts)
 falling-none ts i j d le lt = absurd (omega arith)
-
-pub falling-all : (ts : List Term) (k : ℕ) → length ts ≤ k → IsFalling (take k ts) → IsFalling ts
-falling-all ts k h f = (let P : List Term → Type 0 = λ us. IsFalling us in subst P (take_all k ts h) f)
-
-pub ranking-same : (ts : List Term) → IsFalling ts → IsRanking ts ts
-ranking-same ts f = record { moved = IsPermutation-refl ts; falling = f }
 
 -- after a sort
 pub ranking-from : (ts ranked : List Term) → total ts < 2 ^ 63 → IsPermutation ts ranked → IsNonDecreasingBy below_greatest ranked → IsRanking ts ranked

@@ -19,10 +19,6 @@ other_number c d n z = n (ap (λ (b : ConId). b.0) z)
 same-constraint : (j k : Linear) → Some j ≡ Some k → j ≡ k
 same-constraint j k e = cc
 
--- a new propagator fits every store and every trail of its variables
-pub ready-new : (store : List Live) (t : TrailView) → IsReady (record { variables = t.variables; attached = []; counted = [] }) store t
-ready-new store t = record { variables = refl; live = λ c k h. absurd (cc); stored = λ c k h. absurd (cc); counted = refl }
-
 -- after attaching a constraint of the store
 pub ready-attach : (p q : PropagatorView) (store : List Live) (t : TrailView) (c : ConId) → IsReady p store t → IsTrue (is_live store c)
     → ChangesOnly p.attached q.attached c (Some (constraint_of store c)) → q.variables ≡ p.variables → IsCounted q t → IsReady q store t

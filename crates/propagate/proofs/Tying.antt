@@ -1,5 +1,5 @@
 -- What the calls answer, tied to the fields.
-use Rattle.std.proofs.Common.{◌≡◌, ℕ, ◌+◌, ◌-◌, ◌<◌, ◌≤◌, Bool, false, Option, Some, None, List, [], ◌∷◌, ◌++◌, length, get_or, set, take, map, refl, sym, ap, ◌∙◌, subst, arith, is_some}
+use Rattle.std.proofs.Common.{◌≡◌, ℕ, ◌+◌, ◌-◌, ◌<◌, ◌≤◌, Bool, Option, Some, None, List, [], ◌∷◌, ◌++◌, length, get_or, set, take, map, refl, sym, ap, ◌∙◌, subst, arith}
 use Rattle.std.proofs.lemmas.List.{take_more, get_or-map, map-set, set-get_or, take-map, take_more_set, get_or_default, length-map, length_push, get_or_push}
 use Rattle.std.specs.Prelude.{All}
 use Rattle.pb_rules.specs.Literal.{Literal}
@@ -59,12 +59,6 @@ next-below es n k l below h at =
     let P : Literal → Type 0 = λ m. m.var < n in
     subst P (sym a) (below k e h)
 
--- one more of a trail's literals is counted
-pub next-counted : (ms ls : List Literal) (used : ℕ) (l : Literal) → take used ms ≡ take used ls → used < length ms → used < length ls → l ≡ get_or ls used l
-    → take (used + 1) (set ms used l) ≡ take (used + 1) ls
-next-counted ms ls used l same h k at =
-    take_more_set ms used l h ∙ ap (λ (us : List Literal). us ++ l ∷ []) same ∙ ap (λ (m : Literal). take used ls ++ m ∷ []) at ∙ sym (take_more ls used l k)
-
 pub last-counted : (ls : List Literal) (used : ℕ) (l : Literal) → 0 < used → used ≤ length ls → l ≡ get_or ls (used - 1) l → take used ls ≡ take (used - 1) ls ++ l ∷ []
 last-counted ls used l h k at =
     let e : used ≡ used - 1 + 1 = omega arith in
@@ -88,10 +82,6 @@ lists-set vs f lists k k' w os e q is =
 
 pub lists-same : (lists : List (List Occurrence)) (k : ℕ) → set lists k (occurrences_of lists k) ≡ lists
 lists-same lists k = (let none : List Occurrence = [] in set-get_or lists k none)
-
-pub none-some : (o : Option Bool) → is_some o ≡ false → o ≡ None
-none-some None h = refl
-none-some (Some b) h = absurd (cc)
 
 -- what is read in a slot
 pub slot-is : (slots : List (Option Linear)) (i : ℕ) (o : Option Linear) (c : Linear) → i < length slots → o ≡ get_or slots i o → o ≡ Some c → get_or slots i empty ≡ Some c

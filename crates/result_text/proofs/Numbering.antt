@@ -46,9 +46,6 @@ known_lt names word t = ltb-true (number_of names word) (length names) t
 
 -- ---- arcs
 
-no_arc : Arc
-no_arc = record { link = 0; tail = 0; head = 0 }
-
 eqb_self : (n : ℕ) → (n == n) ≡ true
 eqb_self n = grind (arith, nat_tests)
 

@@ -1,5 +1,5 @@
 -- A plan with an objective, a link or a message more is a plan.
-use Rattle.std.proofs.Common.{◌≡◌, ℕ, ◌-◌, ◌<◌, ◌≤◌, ◌^◌, Bool, true, false, List, [], ◌∷◌, ◌++◌, length, get_or, map, refl, sym, ap, ◌∙◌, subst, arith, All, Contains, ◌⊎◌, inl, inr, length-append}
+use Rattle.std.proofs.Common.{◌≡◌, ℕ, ◌-◌, ◌<◌, ◌≤◌, ◌^◌, Bool, true, false, List, [], ◌∷◌, ◌++◌, length, get_or, refl, sym, ap, ◌∙◌, subst, arith, All, Contains, ◌⊎◌, inl, inr, length-append}
 use Rattle.std.proofs.lemmas.List.{get_or_append_left, get_or-append_right, get_or_default}
 use Rattle.std.proofs.lemmas.List.Elements.{All-push, All-append, All-cons, All-nil}
 use Rattle.std.proofs.lemmas.Bool.{cases_lt}
@@ -9,9 +9,6 @@ use Rattle.spec_model.proofs.Chains.{still_none}
 use Rattle.spec_graph.specs.Plan.{arcs_of_link, with_link, with_message}
 use Rattle.task_order.specs.Order.{IsOrderOf, IsLed, comes_after, is_joined}
 use Rattle.task_order.proofs.Orders.{order_more}
-use Rattle.spec_graph.specs.Lists.{message_of, arc_value}
-use Rattle.spec_graph.specs.declared.numbers.Arc.{Arc as HeldArc}
-use Rattle.spec_graph.specs.declared.numbers.TaskNo.{TaskNo}
 use Rattle.spec_graph.specs.Refusals.{IsBig, HasBig, HasTwice, HasBigMessage}
 use Rattle.spec_graph.proofs.Growing.{apart_push, distinct_push, Grows, arcs_grow, options_grow, messages_grow, deadlines_grow, rows_push}
 
@@ -198,15 +195,6 @@ plan_message s name m p new sender receivers some once small free room =
     no_more n small' (inl b) = absurd (small' b)
     no_more n small' (inr b) = b
 
--- the messages with one more, whose receivers are a copy
-pub added_message : (old kept new : List Message) (sender : TaskNo) (receivers copy : List TaskNo) (hops delay quantity : ℕ) → kept ≡ old → copy ≡ receivers
-    → new ≡ kept ++ message_of sender copy hops delay quantity ∷ [] → new ≡ old ++ message_of sender receivers hops delay quantity ∷ []
-added_message old kept new sender receivers copy hops delay quantity e ec en = rw (en, e, ec)
-
 pub order_of_added : (rows next : List (List Bool)) (after : List Bool) (ms new : List Message) (m : Message) → IsOrderOf rows ms → IsLed after ms m.receivers
     → ((a b : ℕ) → comes_after next a b ≡ is_joined rows m.sender after a b) → new ≡ ms ++ m ∷ [] → IsOrderOf next new
 order_of_added rows next after ms new m o led joined e = subst (IsOrderOf next) (sym e) (order_more rows next after ms m o led joined)
-
-pub added_arcs : (old kept : List HeldArc) (new : List Arc) (n l a b : ℕ) (two_way : Bool) → kept ≡ old → n ≡ l → new ≡ map arc_value kept ++ arcs_of_link n a b two_way
-    → new ≡ map arc_value old ++ arcs_of_link l a b two_way
-added_arcs old kept new n l a b two_way e el en = rw (en, e, el)

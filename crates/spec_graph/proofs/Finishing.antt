@@ -13,7 +13,6 @@ use Rattle.spec_model.specs.Rules.{of_task}
 use Rattle.spec_model.specs.Vectors.{weight_in}
 use Rattle.spec_model.specs.WellFormed.{IsWellFormed, IsArcIn, IsMessageIn, message_size, option_count, size, most_hops, IsPlan}
 use Rattle.spec_model.proofs.Sums.{sum_by_map, sum_by_same, count_those}
-use Rattle.spec_model.proofs.Chains.{KeepsWay}
 use Rattle.spec_graph.specs.Lists.{arc_value, choice_value}
 use Rattle.spec_graph.specs.Plan.{finished, with_limit_at_most}
 use Rattle.spec_graph.specs.Refusals.{IsFinishAccepted, HasBigProduct, CarriesTooMuch}
@@ -102,9 +101,6 @@ product_tells s xs rows ms b e er es h =
     subst (λ (ks : List Message). IsTrue b ↔ Any (CarriesTooMuch s.traffic_weights s.arcs) ks) es
     (subst (λ (as' : List ArcValue). IsTrue b ↔ Any (CarriesTooMuch s.traffic_weights as') ms) e
     (subst (λ (rs : List (List ℕ)). IsTrue b ↔ Any (CarriesTooMuch rs (map arc_value xs)) ms) er h))
-
-limit_keeps : (n : ℕ) → KeepsWay (with_limit_at_most n)
-limit_keeps n = record { sender = λ m. refl; receivers = λ m. refl }
 
 products_small : (s : SpecValue) → ¬ HasBigProduct s → (m a j : ℕ) → m < length (finished s).messages → a < length s.arcs
     → weight_in s.traffic_weights j (arc_at s a).link * (message_at (finished s) m).quantity ≤ 2 ^ 40

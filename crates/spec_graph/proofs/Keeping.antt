@@ -1,5 +1,5 @@
 -- A loop that moves the messages that pass to the front, and the names that pass.
-use Rattle.std.proofs.Common.{◌≡◌, ℕ, ◌+◌, ◌<◌, ◌≤◌, Bool, true, false, cond, List, [], ◌∷◌, ◌++◌, length, get_or, set, map, take, refl, sym, ap, ◌∙◌, subst, arith, Contains, ◌⊎◌, inl, inr}
+use Rattle.std.proofs.Common.{◌≡◌, ℕ, ◌+◌, ◌<◌, ◌≤◌, Bool, true, false, cond, List, [], ◌∷◌, ◌++◌, length, get_or, set, map, take, sym, ap, ◌∙◌, subst, arith, Contains, ◌⊎◌, inl, inr}
 use Rattle.std.specs.List.{SwappedAt}
 use Rattle.std.proofs.lemmas.Bool.{cases_lt}
 use Rattle.std.proofs.lemmas.List.{get_or-map, length-map, map-append, append-nil, take-set-le, take_more_set, length-set}
@@ -23,9 +23,6 @@ pub record Keeping (p : ℕ → Bool) (old now : List Message) (kept m : ℕ) : 
   pub few : kept ≤ m
   pub done : take kept now ≡ messages_at old (those p m)
   pub rest : (k : ℕ) (d : Message) → m ≤ k → get_or now k d ≡ get_or old k d
-
-pub keeping_start : (p : ℕ → Bool) (old : List Message) → Keeping p old old 0 0
-keeping_start p old = record { long = refl; few = omega arith; done = refl; rest = λ k d l. refl }
 
 pub keeping_no : (p : ℕ → Bool) (old now : List Message) (kept m : ℕ) → p m ≡ false → Keeping p old now kept m → Keeping p old now kept (m + 1)
 keeping_no p old now kept m e h = record {

@@ -1,9 +1,9 @@
 -- Loops over messages that are listed, and the marks at these.
-use Rattle.std.proofs.Common.{◌≡◌, ℕ, ◌+◌, ◌<◌, ◌≤◌, Bool, true, false, not, List, length, get_or, map, take, refl, sym, ap, ◌∙◌, subst, arith, Contains}
+use Rattle.std.proofs.Common.{◌≡◌, ℕ, ◌+◌, ◌<◌, Bool, true, false, not, List, length, get_or, map, take, refl, sym, ap, ◌∙◌, subst, arith, Contains}
 use Rattle.std.specs.Prelude.{◌||◌, ◌==◌, fold}
 use Rattle.std.specs.List.{list_any}
 use Rattle.std.proofs.lemmas.Bool.{false≢true}
-use Rattle.std.proofs.lemmas.List.{get_or-map, length-map, take_all, get_or_default}
+use Rattle.std.proofs.lemmas.List.{get_or-map, length-map, get_or_default}
 use Rattle.std.proofs.lemmas.List.Sums.{fold_more}
 use Rattle.spec_model.specs.Spec.{Message}
 use Rattle.spec_model.proofs.Tests.{passing_member, member_passes, to_test, from_test}
@@ -31,10 +31,6 @@ fold_part f a ms listed i d message now next l lm e en ex =
     let parts = messages_at ms (map message_number listed) in
     let within : i < length parts = omega (arith, l, length-map listed message_number, length-map (map message_number listed) (message_in ms)) in
     ex ∙ (ap (λ y. f y message) en ∙ (ap (f (fold f a (take i parts))) (sym (part_at ms listed i d message l lm e)) ∙ sym (fold_more f a parts i message within)))
-
--- all messages listed
-pub all_parts : (ms : List Message) (listed : List MsgNo) (n : ℕ) → length listed ≤ n → take n (messages_at ms (map message_number listed)) ≡ messages_at ms (map message_number listed)
-all_parts ms listed n l = take_all n (messages_at ms (map message_number listed)) (omega (arith, l, length-map listed message_number, length-map (map message_number listed) (message_in ms)))
 
 -- ---- marks
 
@@ -75,9 +71,6 @@ fold_task xs ts i d now next l en ex =
     ex ∙ (ap (λ (ys : List ℕ). with_once ys (get_or ts i d).0) en
     ∙ (ap (with_once (with_all_once xs (take i (map task_number ts)))) (sym (get_or-map task_number ts i d 0 l))
     ∙ sym (fold_more with_once xs (map task_number ts) i 0 (omega (arith, l, length-map ts task_number)))))
-
-pub all_tasks : (ts : List TaskNo) (n : ℕ) → length ts ≤ n → take n (map task_number ts) ≡ map task_number ts
-all_tasks ts n l = take_all n (map task_number ts) (omega (arith, l, length-map ts task_number))
 
 -- the number of the message listed at a place
 pub number_listed : (listed : List MsgNo) (i : ℕ) (d : MsgNo) → i < length listed → (get_or listed i d).0 ≡ get_or (map message_number listed) i 0

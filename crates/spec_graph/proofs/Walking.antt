@@ -23,11 +23,6 @@ pub record Seeing (xs : List ℕ) (i : ℕ) (seen : List Bool) : Type 0 where
   pub has : (k : ℕ) → k < i → is_in seen (get_or xs k 0) ≡ true
   pub once : (j k : ℕ) → j < k → k < i → get_or xs j 0 ≡ get_or xs k 0 → ⊥
 
-pub seeing_start : (xs : List ℕ) (seen : List Bool) → ((t : ℕ) → is_in seen t ≡ false) → Seeing xs 0 seen
-seeing_start xs seen none = record {
-  holds = λ t h. absurd (false≢true (sym (none t) ∙ h));
-  has = λ k l. absurd (omega (arith, l));
-  once = λ j k l h e. absurd (omega (arith, h));
 }
 
 pub seeing_more : (xs : List ℕ) (i x : ℕ) (seen next : List Bool) → x ≡ get_or xs i 0 → is_in seen x ≡ false → ((t : ℕ) → is_in next t ≡ (is_in seen t || (t == x))) → Seeing xs i seen
@@ -59,10 +54,6 @@ seen_twice xs i x seen l ex e s =
 
 pub seen_once : (xs : List ℕ) (i : ℕ) (seen : List Bool) → length xs ≤ i → Seeing xs i seen → ¬ HasTwice xs
 seen_once xs i seen l s h = s.once h.first h.second h.before (omega (arith, h.within, l)) h.same
-
--- the number of the task at a place
-pub number_at : (ts : List TaskNo) (i : ℕ) (t : TaskNo) → i < length ts → t ≡ get_or ts i t → t.0 ≡ get_or (map task_number ts) i 0
-number_at ts i t l e = ap task_number e ∙ sym (get_or-map task_number ts i t 0 l)
 
 -- ---- the tasks to which chains lead from tasks that are gathered one by one
 

@@ -1,5 +1,5 @@
 -- What the builder refuses of a message is what its statement is refused for.
-use Rattle.std.proofs.Common.{◌≡◌, ℕ, List, map, sym, ap, subst, ◌∙◌, arith, All, Contains, ◌≤◌, ◌^◌, inl, inr}
+use Rattle.std.proofs.Common.{◌≡◌, ℕ, List, map, ap, subst, ◌∙◌, arith, All, Contains, ◌≤◌, ◌^◌, inl, inr}
 use Rattle.names.specs.Names.{IsNumberOf, number_of}
 use Rattle.spec_model.specs.Spec.{Name, Message as MessageValue}
 use Rattle.spec_graph.specs.Lists.{task_number, message_of}
@@ -7,14 +7,11 @@ use Rattle.spec_graph.specs.declared.numbers.TaskNo.{TaskNo}
 use Rattle.spec_graph.specs.Refusals.{HasBigMessage, IsMessageRepeated, IsMessageRefused, IsMessageAccepted}
 use Rattle.spec_graph.specs.declared.faults.BuildFault.{BuildFault}
 use Rattle.spec_graph.specs.declared.faults.BuildFault.TheVariants.{Repeated, SelfLink, Cyclic, TooBig, Limit, NoMemory}
-use Rattle.line_words.specs.declared.refusals.Stop.{Stop}
 use Rattle.line_words.specs.declared.refusals.Stop.TheVariants as stops
-use Rattle.line_words.specs.declared.refusals.Why.{Why}
-use Rattle.line_words.specs.declared.refusals.Why.TheVariants.{UnknownName}
 use Rattle.arch_reader.specs.declared.statement.Statement.TheVariants.{Message}
 use Rattle.spec_join.specs.Joining.{Joining, message_between}
-use Rattle.spec_join.specs.Refusals.{IsUnknown, IsRepeated, IsMissing, HasMissing}
-use Rattle.spec_join.specs.Stops.{stop_for, IsFirst, Refuses, IsAccepted, IsUnknownStop}
+use Rattle.spec_join.specs.Refusals.{IsUnknown, IsRepeated}
+use Rattle.spec_join.specs.Stops.{stop_for, Refuses, IsAccepted}
 use Rattle.spec_join.proofs.Refusing.{there_of}
 use Rattle.spec_join.proofs.Listing.{twice_of, twice_by, none_missing}
 
@@ -82,12 +79,3 @@ message_accepted s name sender receivers m r h =
       free = a.free;
       room = λ what x. omega (arith, a.room, x.1);
     }
-
--- a name that isn't there stops a message
-pub sender_missing : (s : Joining) (name sender : Name) (receivers : List Name) → IsMissing s.plan.tasks sender → Refuses s (Message name sender receivers) (stops.Broken UnknownName)
-sender_missing s name sender receivers h = (λ x. x, inl h)
-
-pub receiver_missing : (s : Joining) (name sender : Name) (receivers : List Name) (stop : Stop) → IsUnknownStop (HasMissing s.plan.tasks receivers) stop
-    → Refuses s (Message name sender receivers) stop
-receiver_missing s name sender receivers (stops.Broken why) h = subst (λ (w : Why). IsFirst s (Message name sender receivers) w) (sym h.0) (λ x. x, inr h.1)
-receiver_missing s name sender receivers stops.NoMemory h = tt

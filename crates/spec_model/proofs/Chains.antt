@@ -1,14 +1,9 @@
 -- Chains of messages: what one message more, or a change that keeps who sends to whom, makes of them.
-use Rattle.std.proofs.Common.{◌≡◌, ℕ, zero, suc, ◌+◌, ◌<◌, ◌≤◌, List, [], ◌∷◌, ◌++◌, length, get_or, map, arith, refl, sym, ◌∙◌, ap, subst, Contains, ◌⊎◌, inl, inr}
+use Rattle.std.proofs.Common.{◌≡◌, ℕ, zero, suc, ◌+◌, ◌<◌, List, [], ◌∷◌, ◌++◌, length, get_or, map, arith, refl, sym, ◌∙◌, ap, subst, Contains, ◌⊎◌, inl, inr}
 use Rattle.std.proofs.lemmas.List.{get_or-map, length-map}
 use Rattle.std.proofs.lemmas.List.Elements.{Contains-append_left, Contains-push, Contains-push_cases, Contains-get_or}
 use Rattle.spec_model.specs.Spec.{Message}
 use Rattle.spec_model.specs.WellFormed.{Sends, Chain, Reaches, Leads, Follows, HasCycle}
-
--- a chain and one message more
-chain_more : (ms : List Message) (n a b c : ℕ) → Chain ms n a b → Sends ms b c → Chain ms (suc n) a c
-chain_more ms zero a b c e x = (c, subst (λ (d : ℕ). Sends ms d c) (sym e) x, refl)
-chain_more ms (suc n) a b c p x = (p.0, p.1, chain_more ms n p.0 b c p.2 x)
 
 pub sends_before : (ms : List Message) (m : Message) (a b : ℕ) → Sends ms a b → Sends (ms ++ m ∷ []) a b
 sends_before ms m a b x = record { message = x.message; there = Contains-append_left ms (m ∷ []) x.message x.there; from = x.from; to = x.to }

@@ -1,7 +1,7 @@
 -- What holds of each item of a well-formed specification.
-use Rattle.std.proofs.Common.{ℕ, ◌<◌, ◌≤◌, length, All}
-use Rattle.spec_model.specs.Spec.{SpecValue, arc_at, option_at, message_at, deadline_at}
-use Rattle.spec_model.specs.WellFormed.{IsWellFormed, IsArcIn, IsOptionIn, IsMessageIn, IsDeadlineIn, most_hops}
+use Rattle.std.proofs.Common.{ℕ, ◌<◌, ◌≤◌, length}
+use Rattle.spec_model.specs.Spec.{SpecValue, arc_at, option_at, message_at}
+use Rattle.spec_model.specs.WellFormed.{IsWellFormed, IsArcIn, IsOptionIn, IsMessageIn, most_hops}
 
 pub arc_in : (s : SpecValue) (a : ℕ) → IsWellFormed s → a < length s.arcs → IsArcIn s (arc_at s a)
 arc_in s a w h = w.plan.arcs_in a _ h
@@ -14,6 +14,3 @@ message_in s m w h = w.plan.messages_in m _ h
 
 pub limit_in : (s : SpecValue) (m : ℕ) → IsWellFormed s → m < length s.messages → (message_at s m).limit ≤ most_hops s
 limit_in s m w h = w.limits m _ h
-
-pub deadline_in : (s : SpecValue) (i : ℕ) → IsWellFormed s → i < length s.deadlines → IsDeadlineIn s (deadline_at s i)
-deadline_in s i w h = w.plan.deadlines_in i _ h

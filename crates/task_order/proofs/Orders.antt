@@ -1,17 +1,13 @@
 -- What a table of followers tells as messages are added.
-use Rattle.std.proofs.Common.{◌≡◌, ℕ, zero, suc, ◌+◌, ◌<◌, ◌≤◌, Bool, true, false, List, [], ◌∷◌, ◌++◌, length, get_or, take, refl, sym, ap, ◌∙◌, subst, arith, ◌⊎◌, inl, inr, Contains, eq-eqb}
-use Rattle.std.specs.Prelude.{◌||◌, ◌&&◌, ◌==◌, ◌↔◌}
-use Rattle.std.proofs.lemmas.Bool.{false≢true}
+use Rattle.std.proofs.Common.{◌≡◌, ℕ, ◌+◌, ◌<◌, Bool, true, List, [], ◌∷◌, ◌++◌, length, get_or, take, sym, ap, ◌∙◌, subst, ◌⊎◌, inl, inr, Contains, eq-eqb}
+use Rattle.std.specs.Prelude.{◌||◌, ◌&&◌, ◌==◌}
 use Rattle.std.proofs.lemmas.List.{take_more}
 use Rattle.std.proofs.lemmas.List.Elements.{Contains-append_left, Contains-push, Contains-push_cases}
 use Rattle.spec_model.specs.Spec.{Message}
-use Rattle.spec_model.specs.WellFormed.{Sends, Chain, Reaches, Leads, Follows}
+use Rattle.spec_model.specs.WellFormed.{Sends, Reaches, Leads, Follows}
 use Rattle.spec_model.proofs.Chains.{reaches_cases, reaches_itself, reaches_from_follows, follows_cases, follows_before, follows_by, follows_within}
 use Rattle.task_order.specs.Order.{is_in, comes_after, is_gathered, is_joined, IsOrderOf, IsLed}
 use Rattle.task_order.proofs.Sets.{same_from, or_cases, or_left, or_right, and_both, and_from}
-
-pub order_empty : IsOrderOf [] []
-order_empty a b = (λ e. absurd (false≢true e), λ f. absurd (omega (arith, f.chain.1.there.1)))
 
 -- the same tests, the same order
 pub order_same : (rows next : List (List Bool)) (ms : List Message) → ((a b : ℕ) → comes_after next a b ≡ comes_after rows a b) → IsOrderOf rows ms → IsOrderOf next ms
@@ -20,9 +16,6 @@ order_same rows next ms e o a b = (λ h. (o a b).0 (sym (e a b) ∙ h), λ f. e 
 -- the same ways to go, the same order
 pub order_within : (rows : List (List Bool)) (ms ks : List Message) → ((a b : ℕ) → Sends ms a b → Sends ks a b) → ((a b : ℕ) → Sends ks a b → Sends ms a b) → IsOrderOf rows ms → IsOrderOf rows ks
 order_within rows ms ks to back o a b = (λ h. follows_within ms ks to a b ((o a b).0 h), λ f. (o a b).1 (follows_within ks ms back a b f))
-
-pub led_none : (set : List Bool) (ms : List Message) → ((b : ℕ) → is_in set b ≡ false) → IsLed set ms []
-led_none set ms none b = (λ h. absurd (false≢true (sym (none b) ∙ h)), λ l. absurd (omega (arith, l.among.1)))
 
 -- one task more from which chains lead
 led_push : (rows : List (List Bool)) (set next : List Bool) (ms : List Message) (ws : List ℕ) (w : ℕ) → IsOrderOf rows ms → IsLed set ms ws → ((b : ℕ) → is_in next b ≡ is_gathered rows set w b)

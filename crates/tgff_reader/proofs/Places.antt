@@ -1,21 +1,20 @@
 -- What finds a block, and stays right with each block more.
 use Rattle.std.proofs.Common.{◌≡◌, ℕ, ◌+◌, ◌<◌, ◌≤◌, Bool, true, false, cond, not, List, [], ◌∷◌, ◌++◌, length, get_or, Option, Some, None, refl, sym, ap, ◌∙◌, subst, arith, Contains, ◌⊎◌, inl, inr, length-append}
-use Rattle.std.specs.Prelude.{MatchOption, ◌||◌, ◌==◌, is_some}
+use Rattle.std.specs.Prelude.{MatchOption, ◌==◌, is_some}
 use Rattle.std.specs.List.{list_any}
 use Rattle.std.specs.Str.{bytes_eq}
 use Rattle.std.specs.HashMap.{HashMap}
 use Rattle.std.specs.Map.{lookup}
 use Rattle.std.proofs.lemmas.Bool.{cases_Bool, cases_lt, false≢true, eqb-true, eq-eqb, false_from_ne_true}
 use Rattle.std.proofs.lemmas.List.{get_or_append_left, get_or_push, get_or_default}
-use Rattle.std.proofs.lemmas.List.Elements.{All-nil, All-push, All-weaker, Contains-append_left}
-use Rattle.std.proofs.lemmas.List.Folds.{position_or_len_push, list_any_at, list_any_none, list_any-append}
+use Rattle.std.proofs.lemmas.List.Elements.{All-push, All-weaker, Contains-append_left}
+use Rattle.std.proofs.lemmas.List.Folds.{position_or_len_push, list_any_at, list_any_none}
 use Rattle.std.proofs.lemmas.List.Sums.{prefix_len_passes, prefix_len_stops, prefix_len-le-length}
 use Rattle.std.proofs.lemmas.Slice.Eq.{bytes_eq-Decides}
 use Rattle.task_order.proofs.Sets.{and_both, and_from}
 use Rattle.names.specs.Names.{number_of, IsNumberOf}
-use Rattle.tgff_reader.specs.Looking.{is_graph, is_table, table_at, IsTableAt, HasNoTable}
-use Rattle.tgff_reader.specs.Places.{is_pair, place_in, AreFound, AreIndices, HasAtMost}
-use Rattle.tgff_reader.specs.declared.file.Graph.{Graph}
+use Rattle.tgff_reader.specs.Looking.{is_table, table_at, IsTableAt, HasNoTable}
+use Rattle.tgff_reader.specs.Places.{is_pair, place_in, AreFound, HasAtMost}
 use Rattle.tgff_reader.specs.declared.file.Table.{Table}
 
 abbrev Name : Type 0
@@ -93,10 +92,6 @@ new_number names name h =
     record { within = within; same = get_or_push names name [] (length names) refl; first = omega (arith, least, most, length-append names (name ∷ [])) }
 
 -- ---- tables
-
--- nothing is found among no tables
-pub none_found : (place : ℕ × ℕ → Option ℕ) → ((p : ℕ × ℕ) → place p ≡ None) → AreFound [] place []
-none_found place e = record { named = All-nil _; found = λ name index h. absurd (omega (arith, h.1)); none = λ n index l. e (n, index) }
 
 -- a name more changes nothing
 pub found_with_name : (names new : List Name) (place : ℕ × ℕ → Option ℕ) (tables : List Table) (x : Name) → AreFound names place tables → HasAtMost names x new → AreFound new place tables
@@ -215,15 +210,3 @@ tells tables name index None h = sym (list_any_none (is_table name index) tables
         ∙ eqb-true (get_or tables i d).index index both.1 }))))
 
 -- ---- graphs
-
--- a graph more brings its index
-pub indices_with : (old new : List ℕ) (graphs : List Graph) (g : Graph) → AreIndices old graphs → ((q : ℕ) → list_any (λ k. q == k) new ≡ cond (g.index == q) true (list_any (λ k. q == k) old))
-    → AreIndices new (graphs ++ g ∷ [])
-indices_with old new graphs g h u i =
-    u i ∙ go (g.index == i) (list_any (λ k. i == k) old) ∙ ap (λ (b : Bool). b || ((g.index == i) || false)) (h i) ∙ sym (list_any-append (is_graph i) graphs (g ∷ []))
-  where
-    go : (b c : Bool) → cond b true c ≡ (c || (b || false))
-    go true true = refl
-    go true false = refl
-    go false true = refl
-    go false false = refl

@@ -1,8 +1,8 @@
 -- Rows that are found by their type.
-use Rattle.std.proofs.Common.{◌≡◌, ◌≢◌, ℕ, zero, suc, ◌+◌, ◌^◌, ◌<◌, ◌≤◌, inl, inr, true, false, ltb, List, [], ◌∷◌, ◌++◌, length, drop, get_or, Result, Ok, Err, sym, ap, subst, ◌∙◌, arith, All, Contains, append_assoc}
+use Rattle.std.proofs.Common.{◌≡◌, ◌≢◌, ℕ, zero, suc, ◌+◌, ◌^◌, ◌<◌, ◌≤◌, inl, inr, true, false, ltb, List, [], ◌∷◌, length, get_or, Result, Ok, Err, ap, subst, ◌∙◌, arith, All, Contains}
 use Rattle.std.specs.List.Sorted.{IsPermutation, IsNonDecreasingBy, IsPartitionPoint}
 use Rattle.std.proofs.lemmas.Bool.{cases_lt, eqb-true, false≢true, false_from_ne_true, ltb-true, ltb-false}
-use Rattle.std.proofs.lemmas.List.{append-nil, drop_more, drop_all, get_or_default}
+use Rattle.std.proofs.lemmas.List.{get_or_default}
 use Rattle.std.proofs.lemmas.List.Elements.{All-nil, All-append, All-cons, Contains-append_left, Contains-append_right}
 use Rattle.std.proofs.lemmas.List.Sorted.{All-permutation, Contains-permutation}
 use Rattle.line_words.specs.Numbers.{whole_of}
@@ -15,26 +15,7 @@ use Rattle.tgff_reader.specs.declared.rows.RowKind.{RowKind}
 abbrev pub entry : ℕ → ℕ → RowKind
 entry kind place = record { kind = kind; place = place }
 
-abbrev no_row : Row
-no_row = record { words = [] }
-
 -- ---- the entries of rows, one by one
-
--- one more row has its entry
-pub kinds_step : (rows : List Row) (i : ℕ) (now next all : List RowKind) (row : Row) → now ++ kinds_from i (drop i rows) ≡ all → next ≡ now ++ entry_of i (kind_in row) → row ≡ get_or rows i row
-    → i < length rows
-    → next ++ kinds_from (i + 1) (drop (i + 1) rows) ≡ all
-kinds_step rows i now next all row so_far push is lt =
-    let more = kinds_from (i + 1) (drop (i + 1) rows) in
-    ap (λ (ks : List RowKind). ks ++ more) push
-    ∙ append_assoc now (entry_of i (kind_in row)) more
-    ∙ ap (λ (r : Row). now ++ (entry_of i (kind_in r) ++ more)) is
-    ∙ ap (λ (rs : List Row). now ++ kinds_from i rs) (sym (drop_more rows i row lt))
-    ∙ so_far
-
--- all rows have theirs
-pub kinds_end : (rows : List Row) (i : ℕ) (now all : List RowKind) → now ++ kinds_from i (drop i rows) ≡ all → length rows ≤ i → now ≡ all
-kinds_end rows i now all so_far ge = sym (append-nil now) ∙ ap (λ (rs : List Row). now ++ kinds_from i rs) (sym (drop_all i rows ge)) ∙ so_far
 
 -- ---- they are right, in whatever order
 

@@ -14,9 +14,6 @@ use Rattle.trail_state.proofs.Levels.{first-at, level_of-with_reason, level_in-w
 abbrev none_of_ℕ : Option ℕ
 none_of_ℕ = None
 
-abbrev none_of_ConId : Option ConId
-none_of_ConId = None
-
 pub pair_up-push : (ls : List Literal) (rs : List (Option ConId)) (l : Literal) (r : Option ConId) → length ls ≡ length rs
     → pair_up (ls ++ l ∷ []) (rs ++ r ∷ []) ≡ pair_up ls rs ++ record { lit = l; reason = r } ∷ []
 pair_up-push [] [] l r e = refl
@@ -267,18 +264,6 @@ same-at v zero x = refl
 same-at v (suc n) zero = refl
 same-at v (suc n) (suc x) = same-at v n x
 
--- fields without a place
-pub IsTrail-empty : IsTrail [] [] [] 0 0
-IsTrail-empty = record {
-  few = omega arith;
-  lits_room = omega arith;
-  reasons_room = omega arith;
-  counted = refl;
-  in_range = λ k d h. absurd (omega arith);
-  placed = λ k d h. absurd (omega arith);
-  within = λ x k h. absurd (cc);
-  same_var = λ x k d h. absurd (cc);
-  level_is = refl;
 }
 
 abbrev record_at : Literal → Option ConId → Entry

@@ -3,10 +3,8 @@ use Rattle.std.proofs.lemmas.Bool.Decides.{nat_tests}
 use Rattle.std.proofs.lemmas.Grind.{common_steps}
 use Rattle.std.proofs.lemmas.List.{take_more, take_all, take-append-le, length_push, get_or_push}
 use Rattle.std.proofs.lemmas.List.Sums.{sum_by-cons, sum_by_push, count_by-le-length}
-use Rattle.pb_rules.specs.Partial.{GoesOn}
 use Rattle.pb_constraints.specs.declared.ConId.{ConId}
 use Rattle.trail_state.specs.Trail.{Entry, is_decision, value_in, reason_in, level_of, level_in, upto_level, reasoned, with_reason}
-use Rattle.trail_state.proofs.Entries.{GoesOn-take}
 
 pub level-cons : (e : Entry) (es : List Entry) → level_of (e ∷ es) ≡ cond (is_decision e) 1 0 + level_of es
 level-cons e es = sum_by-cons (λ (f : Entry). cond (is_decision f) 1 0) e es
@@ -193,12 +191,6 @@ upto_level-take (suc n) (e ∷ es) = go (is_decision e) refl (upto_level-take n 
         → take (length (upto_level (suc n) (e ∷ es))) (e ∷ es) ≡ upto_level (suc n) (e ∷ es)
     go true q ih ih' = rw q (ap (λ (us : List Entry). e ∷ us) ih)
     go false q ih ih' = rw q (ap (λ (us : List Entry). e ∷ us) ih')
-
--- and the values go on from theirs
-pub GoesOn-upto_level : (n : ℕ) (es : List Entry) → GoesOn (value_in (upto_level n es)) (value_in es)
-GoesOn-upto_level n es =
-    let P : List Entry → Type 0 = λ us. GoesOn (value_in us) (value_in es) in
-    subst P (upto_level-take n es) (GoesOn-take es (length (upto_level n es)))
 
 -- what stands above a level begins with a decision
 pub record Splits (n : ℕ) (es : List Entry) : Type 0 where

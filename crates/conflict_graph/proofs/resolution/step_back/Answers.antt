@@ -1,12 +1,9 @@
-use Rattle.std.proofs.Common.{◌∙◌, sym, ap, arith, Bool, get_or, None, List, Option}
+use Rattle.std.proofs.Common.{◌∙◌, sym, ap, arith, get_or, List}
 use Rattle.pb_rules.specs.Literal.{Literal}
 use Rattle.conflict_graph.specs.Learning.{signs}
 use Rattle.conflict_graph.proofs.Resolving.{at-place, skip-place}
 use Rattle.conflict_graph.proofs.Writing.{none-of}
 use Rattle.conflict_graph.proofs.resolution.step_back.Goals as goal
-
-abbrev nothing : Option Bool
-nothing = None
 
 pub bounds-clause-var : goal.bounds-clause-var
 bounds-clause-var c =
