@@ -81,7 +81,6 @@ pub fault_on : (T : Type 0) (old now next : ProofLines) (bytes rest body after :
 fault_on T old now next bytes rest body after (lines.Refused r) cut takes follows = refused_on old now bytes rest body after r cut takes follows
 fault_on T old now next bytes rest body after lines.NoMemory cut takes follows = tt
 
-}
 
 -- ---- the end
 
@@ -98,7 +97,6 @@ refused_verdict p r e = ap (verdict_if p) e
 
 -- ---- the file
 
-}
   where
     none_found : (files : Option Files) → IfSome files (λ all. [] ≡ take 0 (content all name))
     none_found None = tt

@@ -10,7 +10,6 @@ use Rattle.evaluators.specs.Placed.{AreEnds, IsNoLater, EndsBy}
 use Rattle.evaluators.specs.declared.timetable.Timetable.{Timetable}
 use Rattle.evaluators.proofs.Greatest.{greatest-push, greatest-map_those_more}
 
-]
 
 -- a later bound
 pub later : (xs : List ℕ) (a b : ℕ) → a ≤ b → All (IsNoLater a) xs → All (IsNoLater b) xs

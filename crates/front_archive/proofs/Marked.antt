@@ -110,4 +110,3 @@ keeps_columns members columns ms are = record {
   widths = All-unmarked (HasWidth columns.width) ms members are.widths;
 }
 
-}

@@ -31,7 +31,6 @@ pub record IsFilled (clock : ℕ) (old : SpecValue) (gs : List Graph) (p : SpecV
   pub tasks : length p.tasks ≡ sum_by task_count gs
   pub messages : length p.messages ≡ sum_by arc_count gs
 
-}
 
 -- ---- one graph more
 

@@ -264,7 +264,6 @@ same-at v zero x = refl
 same-at v (suc n) zero = refl
 same-at v (suc n) (suc x) = same-at v n x
 
-}
 
 abbrev record_at : Literal → Option ConId → Entry
 record_at m o = record { lit = m; reason = o }
