@@ -1,12 +1,13 @@
 -- One number more: what a loop over the numbers below n adds.
-use Rattle.std.proofs.Common.{◌≡◌, ℕ, zero, suc, ◌+◌, ◌<◌, ◌≤◌, Bool, true, false, cond, List, [], ◌∷◌, ◌++◌, refl, sym, ap, ◌∙◌, arith, subst, ◌⊎◌, inl, inr, add-one, append_assoc}
+use Rattle.std.proofs.Common.{◌≡◌, ℕ, zero, suc, ◌+◌, ◌<◌, ◌≤◌, Bool, true, false, cond, List, [], ◌∷◌, ◌++◌, refl, sym, ap, ◌∙◌, arith, subst, ◌⊎◌, inl, inr, add-one, append_assoc, length}
 use Rattle.std.specs.Prelude.{map}
 use Rattle.std.specs.List.{range_with_len, filter, count_by, sum_by, flat_map}
 use Rattle.std.proofs.lemmas.List.Elements.{filter-append}
-use Rattle.std.proofs.lemmas.List.Sums.{sum_by-append, sum_by-cons}
+use Rattle.std.proofs.lemmas.List.Sums.{sum_by-append, sum_by-cons, length-filter, count_by-le-length}
 use Rattle.std.proofs.lemmas.Grind.{flat_map-append}
 use Rattle.std.proofs.lemmas.List.{append-nil, map-append}
 use Rattle.std.proofs.lemmas.Bool.{cases_lt}
+use Rattle.std.proofs.lemmas.List.FromFn.{length-range_with_len}
 use Rattle.spec_model.specs.Spec.{below, those}
 
 range-more : (n a : ℕ) → range_with_len a (suc n) ≡ range_with_len a n ++ (a + n) ∷ []
@@ -57,6 +58,10 @@ those-more_no p n xs ys e t h = h ∙ (e ∙ sym (those-more p n ∙ (ap (λ (b 
 
 pub family_more : {A : Type 0} (g : ℕ → List A) (n : ℕ) (start now next : List A) → now ≡ start ++ flat_map g (below n) → next ≡ now ++ g n → next ≡ start ++ flat_map g (below (n + 1))
 family_more g n start now next e h = h ∙ (ap (λ zs. zs ++ g n) e ∙ (append_assoc start (flat_map g (below n)) (g n) ∙ ap (λ zs. start ++ zs) (sym (flat_map-below_more g n))))
+
+-- at most all of them pass
+pub few_those : (p : ℕ → Bool) (n : ℕ) → length (those p n) ≤ n
+few_those p n = omega (arith, length-filter p (below n), count_by-le-length p (below n), length-range_with_len 0 n)
 
 -- the steps of a loop over the numbers below n
 pub ruleset those_steps = (count_by-those_more, sum_by-those_more, those-more, below-more, flat_map-below_more, those-more_yes, those-more_no, family_more)
