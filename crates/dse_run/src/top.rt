@@ -109,7 +109,7 @@ fn usage(alloc: Global) -> Result<Reply, AllocError>
     ensures { IfOk result (λ reply. reply ≡ record { status = Status.Usage; text = usage_text; writes = [] }) }
 {
     let mut text = Vec::new(alloc);
-    put_usage(&mut text)?;
+    put_usage(alloc, &mut text)?;
     Ok(Reply {
         status: Status::Usage,
         text,

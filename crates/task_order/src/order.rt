@@ -1,6 +1,6 @@
 //! The table of which tasks come after which.
 
-ghost use Rattle.std.specs.Prelude.{◌≡◌, ℕ, ◌+◌, ◌<◌, ◌≤◌, ◌||◌, ◌&&◌, ◌==◌, [], length, OnOk};
+ghost use Rattle.std.specs.Prelude.{◌≡◌, ℕ, ◌+◌, ◌<◌, ◌≤◌, ◌||◌, ◌&&◌, ◌==◌, [], length, OnOk, OnErr};
 ghost use Rattle.spec_model.specs.Limits.{most_tasks};
 ghost use Rattle.task_order.specs.Order.{is_in, comes_after, is_gathered, is_joined};
 
@@ -32,12 +32,14 @@ impl TaskOrder {
         }
     }
 
-    /// Makes room for a further task, before which and after which no task comes, where there is none.
+    /// Makes room for a further task, before which and after which no task comes, where there is none. Where memory runs
+    /// out, the table is as before.
     pub fn make_room(&mut self, alloc: Global, tasks: usize) -> Result<(), AllocError>
         requires { tasks ≤ length self.old + 1 }
         ensures room { OnOk result (tasks ≤ length self.new) }
         ensures kept { length self.old ≤ length self.new }
         ensures same { (a b : ℕ) → comes_after self.new a b ≡ comes_after self.old a b }
+        ensures err { OnErr result (self.new ≡ self.old) }
     {
         if tasks > self.rows.len() {
             let row = TaskSet::none(alloc)?;
