@@ -2,16 +2,15 @@
 use Rattle.std.proofs.Common.{◌≡◌, ℕ, zero, suc, ◌+◌, ◌<◌, ◌≤◌, Bool, true, false, cond, nat_eq, nat_lt, List, [], ◌∷◌, ◌++◌, length, get_or, take, refl, sym, ap, ap₂, ◌∙◌, subst, arith, add-one, append_assoc, inl, inr}
 use Rattle.std.specs.List.{flat_map}
 use Rattle.std.proofs.lemmas.Bool.Decides.{nat_tests}
-use Rattle.std.proofs.lemmas.Bool.{cases_Bool}
+use Rattle.std.proofs.lemmas.Bool.{cases_Bool, eqb-true}
 use Rattle.std.proofs.Math.Seq.{take-append_seam}
 use Rattle.std.proofs.lemmas.List.{length-append, append-nil}
 use Rattle.spec_model.specs.Spec.{SpecValue, below, those}
 use Rattle.spec_model.specs.Rules.{sender_of}
 use Rattle.spec_model.specs.WellFormed.{IsWellFormed}
 use Rattle.spec_model.specs.Schedule.{goes_to, ends_chain, depth, has_depth, tasks_of_depth, placing}
-use Rattle.spec_model.proofs.Those.{those-more, flat_map-below_more}
+use Rattle.spec_model.proofs.Those.{those-more, flat_map-below_more, few_those}
 use Rattle.spec_model.proofs.InRange.{message_in}
-use Rattle.impl_rules.proofs.Tests.{same_number}
 use Rattle.evaluators.specs.Marks.{AreChainMarks, AreDepthsBelow, AreDepths, is_marked, sender_marked, is_sent_to, depth_below}
 use Rattle.evaluators.proofs.Greatest.{greatest-those_more}
 use Rattle.evaluators.proofs.Marking.{any-those_agree}
@@ -50,7 +49,7 @@ placed_no p n start now fails e = e ∙ ap (λ (xs : List ℕ). start ++ xs) (sy
 
 -- numbers that aren't equal
 pub unequal : (a b : ℕ) → (a ≡ b → ⊥) → nat_eq a b ≡ false
-unequal a b apart = elim (cases_Bool (nat_eq a b)) [ inl e ↦ absurd (apart (same_number a b e)) | inr e ↦ e ]
+unequal a b apart = elim (cases_Bool (nat_eq a b)) [ inl e ↦ absurd (apart (eqb-true a b e)) | inr e ↦ e ]
 
 -- a task's depth by the list of depths
 pub depth_test : (s : SpecValue) (depths : List ℕ) (d t : ℕ) → AreDepths s depths → t < length s.tasks → has_depth s d t ≡ nat_eq (get_or depths t 0) d
@@ -64,14 +63,6 @@ is_less_deep s n t = nat_lt (depth s t) n
 
 less_deep : (a n : ℕ) → cond (nat_lt a n) 1 0 + cond (nat_eq a n) 1 0 ≡ cond (nat_lt a (n + 1)) 1 0
 less_deep a n = grind (arith, nat_tests)
-
-few_those : (p : ℕ → Bool) (n : ℕ) → length (those p n) ≤ n
-few_those p zero = omega arith
-few_those p (suc n) = subst (λ (k : ℕ). length (those p k) ≤ k) (add-one n) (omega (arith, ap length (those-more p n), length-append (those p n) (cond (p n) (n ∷ []) []), one (p n), few_those p n))
-  where
-    one : (b : Bool) → length (cond b (n ∷ []) []) ≤ 1
-    one true = omega arith
-    one false = omega arith
 
 length-those_more : (p : ℕ → Bool) (n : ℕ) → length (those p (n + 1)) ≡ length (those p n) + cond (p n) 1 0
 length-those_more p n = ap length (those-more p n) ∙ (length-append (those p n) (cond (p n) (n ∷ []) []) ∙ ap (λ (k : ℕ). length (those p n) + k) (one (p n)))

@@ -10,25 +10,17 @@ use Rattle.spec_model.specs.WellFormed.{AreDistinct, Sends, IsPlan, IsMessageIn}
 use Rattle.spec_model.proofs.Chains.{none_within}
 use Rattle.spec_model.proofs.Joined.{All-those}
 use Rattle.spec_model.proofs.Tests.{Contains-those}
-use Rattle.spec_model.proofs.Those.{cases_suc}
+use Rattle.spec_model.proofs.Those.{cases_suc, few_those}
+use Rattle.spec_model.proofs.Distinct.{distinct_push}
 use Rattle.task_order.specs.Order.{IsOrderOf}
 use Rattle.task_order.proofs.Orders.{order_within}
 use Rattle.spec_graph.specs.Lists.{message_in}
 use Rattle.spec_graph.specs.Merged.{is_number, is_unlisted, unlisted, with_once, with_all_once, with_receivers, messages_at, all_receivers, first_sender, merged, merged_message, merged_messages, merged_names, AreOfOneSender, IsNameOfOther}
 use Rattle.spec_graph.proofs.Changing.{plan_messages}
-use Rattle.spec_graph.proofs.Growing.{distinct_push}
 use Rattle.spec_graph.proofs.Keeping.{those_yes, those_no, name_new, name_free}
 use Rattle.spec_graph.proofs.Parts.{found, finds}
 
 -- ---- those that aren't listed
-
-few_those : (p : ℕ → Bool) (n : ℕ) → length (those p n) ≤ n
-few_those p zero = omega arith
-few_those p (suc n) = subst (λ (k : ℕ). length (those p k) ≤ k) (add-one n) (go (few_those p n) (p n) refl)
-  where
-    go : length (those p n) ≤ n → (b : Bool) → p n ≡ b → length (those p (n + 1)) ≤ n + 1
-    go h true e = omega (arith, ap length (those_yes p n e), length-append (those p n) (n ∷ []), h)
-    go h false e = omega (arith, ap length (those_no p n e), h)
 
 -- where one doesn't pass, there are fewer
 pub fewer_those : (p : ℕ → Bool) (n i : ℕ) → i < n → p i ≡ false → length (those p n) < n

@@ -18,3 +18,4 @@ pub mod Vectors
 pub mod Places
 pub mod Fronts
 pub mod Designs
+pub mod Distinct

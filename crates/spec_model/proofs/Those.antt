@@ -1,12 +1,13 @@
 -- One number more: what a loop over the numbers below n adds.
-use Rattle.std.proofs.Common.{◌≡◌, ℕ, zero, suc, ◌+◌, ◌<◌, ◌≤◌, Bool, true, false, cond, List, [], ◌∷◌, ◌++◌, refl, sym, ap, ◌∙◌, arith, subst, ◌⊎◌, inl, inr, add-one, append_assoc}
+use Rattle.std.proofs.Common.{◌≡◌, ℕ, zero, suc, ◌+◌, ◌<◌, ◌≤◌, Bool, true, false, cond, List, [], ◌∷◌, ◌++◌, refl, sym, ap, ◌∙◌, arith, subst, ◌⊎◌, inl, inr, add-one, append_assoc, length}
 use Rattle.std.specs.Prelude.{map}
 use Rattle.std.specs.List.{range_with_len, filter, count_by, sum_by, flat_map}
 use Rattle.std.proofs.lemmas.List.Elements.{filter-append}
-use Rattle.std.proofs.lemmas.List.Sums.{sum_by-append, sum_by-cons}
+use Rattle.std.proofs.lemmas.List.Sums.{sum_by-append, sum_by-cons, length-filter, count_by-le-length}
 use Rattle.std.proofs.lemmas.Grind.{flat_map-append}
 use Rattle.std.proofs.lemmas.List.{append-nil, map-append}
 use Rattle.std.proofs.lemmas.Bool.{cases_lt}
+use Rattle.std.proofs.lemmas.List.FromFn.{length-range_with_len}
 use Rattle.spec_model.specs.Spec.{below, those}
 
 range-more : (n a : ℕ) → range_with_len a (suc n) ≡ range_with_len a n ++ (a + n) ∷ []
@@ -22,6 +23,10 @@ below-more n =
 
 pub those-more : (p : ℕ → Bool) (n : ℕ) → those p (n + 1) ≡ those p n ++ cond (p n) (n ∷ []) []
 those-more p n = ap (filter p) (below-more n) ∙ filter-append p (below n) (n ∷ [])
+
+-- no more of those than there are numbers
+pub few_those : (p : ℕ → Bool) (n : ℕ) → length (those p n) ≤ n
+few_those p n = omega (arith, length-filter p (below n), count_by-le-length p (below n), length-range_with_len 0 n)
 
 pub sum_by-those_more : (f : ℕ → ℕ) (p : ℕ → Bool) (n : ℕ) → sum_by f (those p (n + 1)) ≡ sum_by f (those p n) + cond (p n) (f n) 0
 sum_by-those_more f p n = ap (sum_by f) (those-more p n) ∙ (sum_by-append f (those p n) (cond (p n) (n ∷ []) []) ∙ ap (λ x. sum_by f (those p n) + x) (one (p n)))
