@@ -90,7 +90,7 @@ weighable os later names scales ws en es u b = λ k d l. one (get_or ws k d) (an
     one w x y =
         let f = found os later w.key w.amount x y in
         subst (λ (ns : List Name). IsWeighable ns scales w) (sym en) (subst (λ (cs : List ℕ). IsWeighable (map objective_name (os ++ later)) cs w) (sym es)
-            (record { known = f.known; small = f.small }))
+        (record { known = f.known; small = f.small }))
 
 -- ---- the keys of a table line
 

@@ -6,8 +6,11 @@ use Rattle.genotype.proofs.ordering.Order.of.Goals as goal
 
 pub add_others-requires-clause-more : goal.add_others-requires-clause-more
 add_others-requires-clause-more c =
-    omega (arith, led_len c.genes.result.now c.in_ok-literals.literals.items c.in_ok-literals.ensures,
-    subst (λ (genes : List GeneValue). length genes ≤ c.args.variables) (sym c.genes.ensures.genes) c.requires)
+    omega (
+      arith,
+      led_len c.genes.result.now c.in_ok-literals.literals.items c.in_ok-literals.ensures,
+      subst (λ (genes : List GeneValue). length genes ≤ c.args.variables) (sym c.genes.ensures.genes) c.requires,
+    )
 
 pub invariant_of-result : goal.invariant_of-result
 invariant_of-result c =
