@@ -1,5 +1,5 @@
 -- The lists that the code of `held` makes, and what they hold.
-use Rattle.std.proofs.Common.{◌≡◌, ℕ, ◌+◌, ◌<◌, suc, zero, Bool, true, false, cond, List, [], ◌∷◌, ◌++◌, length, get_or, take, take_all, drop, ◌-◌, ◌≤◌, ◌↔◌, Option, Some, None, is_some, IsSome, unwrap_or, Result, Ok, Err, OnErr, refl, sym, ◌∙◌, ap, subst, arith}
+use Rattle.std.proofs.Common.{◌≡◌, ℕ, ◌+◌, ◌<◌, suc, zero, Bool, true, false, cond, List, [], ◌∷◌, ◌++◌, length, get_or, take, take_all, drop, ◌-◌, ◌≤◌, ◌↔◌, Option, Some, None, is_some, IsSome, unwrap_or, refl, sym, ◌∙◌, ap, subst, arith}
 use Rattle.std.proofs.Math.ListN.{set}
 use Rattle.std.proofs.Math.Seq.{map-set_same}
 use Rattle.std.specs.List.{position, position_from}
@@ -121,7 +121,3 @@ pub entries-set_same : (held : List HeldFile) (i : ℕ) (g f : HeldFile) → f �
 entries-set_same held i g f is name bytes =
     let same_entry : entry_of g ≡ entry_of (get_or held i f) = cc in
     map-set_same entry_of held i g f same_entry
-
-pub on_err : {T E P : Type 0} (r : Result T E) → P → OnErr r P
-on_err (Ok x) p = tt
-on_err (Err e) p = p

@@ -1,5 +1,5 @@
 -- Columns after an edit.
-use Rattle.std.proofs.Common.{◌≡◌, ℕ, ◌+◌, ◌<◌, ◌≤◌, List, [], ◌∷◌, ◌++◌, length, map, get_or, set, take, drop, replicate, zero, suc, Bool, true, false, cond, ap, ap₂, sym, ◌∙◌, refl, arith, Vec, Global, vec_len, vec_items, true≢false, Result, Ok, Err, is_ok, is_err, OnErr, add-one, append_assoc, append-nil}
+use Rattle.std.proofs.Common.{◌≡◌, ℕ, ◌+◌, ◌<◌, ◌≤◌, List, [], ◌∷◌, ◌++◌, length, map, get_or, set, take, drop, replicate, zero, suc, Bool, true, false, cond, ap, ap₂, sym, ◌∙◌, refl, arith, Vec, Global, vec_len, vec_items, true≢false, Result, Ok, Err, is_ok, is_err, add-one, append_assoc, append-nil}
 use Rattle.std.specs.List.{All}
 use Rattle.std.proofs.lemmas.List.{set_at, get_or_at, get_or-map, map_more, map_push, map-set, drop_more, length-map, length-take-le, length_push, take_at, take_all, take_more, take_more_set, drop-set-lt, drop-drop, get_or-drop, replicate_more}
 use Rattle.std.proofs.lemmas.List.Elements.{All-head, All-tail, All-cons, All-nil}
@@ -67,10 +67,6 @@ row_more f xs old v j x y h same k is pushed so =
     ∙ ap₂ (λ l a. set l j a) so (pushed ∙ ap (λ l. l ++ get_or v j 0 ∷ []) seen)
     ∙ sym (with_row_suc j old v (omega arith) k)
     ∙ ap (λ n. with_row old (take n v)) (sym (add-one j))
-
-pub on_err : {T E P : Type 0} (r : Result T E) → P → OnErr r P
-on_err (Ok _) p = tt
-on_err (Err _) p = p
 
 -- what a push to a column did to it
 pub push_made : {T E X : Type 0} (r : Result T E) (added old now : List X) → now ≡ cond (is_ok r) added old → false ≡ is_err r → now ≡ added

@@ -7,6 +7,7 @@ use Rattle.std.proofs.lemmas.Simd.{bitmask_splat, first_set_mask_l}
 use Rattle.std.proofs.lemmas.List.Sums.{prefix_len-le-length, prefix_len_passes, prefix_len_stops}
 use Rattle.std.proofs.lemmas.Bool.{not-true, not-false, eqb-true, eq-eqb, ne_eqb, cases_eq, cases_lt, and_right, le-leb, lt-leb, lt-ltb, ltb-true, ltb-false}
 use Rattle.std.proofs.lemmas.List.{get_or-map, get_or_past, get_or_default, length-map}
+use Rattle.std.proofs.Math.Bool.{and-true}
 use Rattle.spec_model.specs.Vectors.{IsAtMost}
 use Rattle.dominance_lanes.specs.Columns.{row_at}
 use Rattle.dominance_lanes.specs.Groups.{first_set, is_at_most_to, IsFirstZero, IsFirstBetween}
@@ -41,13 +42,9 @@ first_in_group p lanes at r each first lt = record {
 pub at_most_more : (n : ℕ) (u v : List ℕ) → is_at_most_to (n + 1) u v ≡ (is_at_most_to n u v && leb (get_or u n 0) (get_or v n 0))
 at_most_more n u v = subst (λ m. is_at_most_to m u v ≡ (is_at_most_to n u v && leb (get_or u n 0) (get_or v n 0))) (sym (add-one n)) refl
 
-and_true : (a : Bool) → (a && true) ≡ a
-and_true true = refl
-and_true false = refl
-
 -- a place at which the first is not above the second
 pub goes_on : (n : ℕ) (u v : List ℕ) → ltb (get_or v n 0) (get_or u n 0) ≡ false → is_at_most_to (n + 1) u v ≡ is_at_most_to n u v
-goes_on n u v le = at_most_more n u v ∙ ap (λ b. is_at_most_to n u v && b) (le-leb _ _ (ltb-false _ _ le)) ∙ and_true _
+goes_on n u v le = at_most_more n u v ∙ ap (λ b. is_at_most_to n u v && b) (le-leb _ _ (ltb-false _ _ le)) ∙ and-true _
 
 -- a place at which it is
 pub stops : (n : ℕ) (u v : List ℕ) → ltb (get_or v n 0) (get_or u n 0) ≡ true → is_at_most_to (n + 1) u v ≡ false

@@ -3,13 +3,13 @@ use Rattle.std.proofs.Common.{◌≡◌, ◌∙◌, ◌+◌, ◌<◌, ◌++◌, 
 use Rattle.std.proofs.lemmas.List.{take_more, map_push}
 use Rattle.run_words.specs.Values.{RequestValue, decode, explore, front, check}
 use Rattle.explore_run.specs.Tools.{ToolsValue}
-use Rattle.explore_run.proofs.Kept.{same_calls}
 use Rattle.dse_run.specs.Commands.{Calls, KeepsTools}
+use Rattle.evo_explore.proofs.Rounds.{none_rose}
 
 none_called : (asked : Option RequestValue) (calls : _) → Calls asked calls calls
 none_called None calls = refl
 none_called (Some (decode d)) calls = refl
-none_called (Some (explore e)) calls = same_calls e.rounds e.chosen calls
+none_called (Some (explore e)) calls = none_rose e.rounds e.chosen calls
 none_called (Some (front f)) calls = refl
 none_called (Some (check c)) calls = refl
 

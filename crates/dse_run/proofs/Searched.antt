@@ -19,7 +19,7 @@ use Rattle.sat_decoder.specs.declared.decoded.Decoded.TheVariants.{First, Nothin
 use Rattle.proof_files.specs.Proving.{AreDerived, IsBelow, IsWithin}
 use Rattle.proof_files.proofs.Refuting.{refute_all}
 use Rattle.dse_run.specs.Searching.{AreUsedUp, LinesAreWorth, IsSearched}
-use Rattle.dse_run.proofs.Budgets.{all_count}
+use Rattle.evo_explore.proofs.Logs.{all_count}
 
 -- the greatest budget
 abbrev pub most : ℕ

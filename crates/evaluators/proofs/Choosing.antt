@@ -3,7 +3,6 @@ use Rattle.std.proofs.Common.{◌≡◌, ℕ, ◌+◌, ◌<◌, Bool, true, fals
 use Rattle.std.specs.Prelude.{unwrap_or, ◌||◌}
 use Rattle.std.specs.List.{find, list_any}
 use Rattle.std.proofs.lemmas.Bool.{eqb-true, eq-eqb}
-use Rattle.std.proofs.lemmas.Bool.Decides.{nat_tests}
 use Rattle.spec_model.specs.Spec.{SpecValue, Bits, those, option_at, message_at}
 use Rattle.spec_model.specs.Rules.{IsOn, BoundOnce, of_task, options_of}
 use Rattle.spec_model.specs.Schedule.{chosen_option, resource_of, goes_to}
@@ -11,6 +10,7 @@ use Rattle.spec_graph.specs.declared.numbers.TaskNo.{TaskNo}
 use Rattle.spec_graph.specs.Lists.{task_number}
 use Rattle.impl_rules.proofs.Receivers.{has_number}
 use Rattle.evaluators.proofs.Finding.{find-those_here, find-those_none, count_by-none}
+use Rattle.plain_lists.proofs.Numbers.{eqb_comm}
 
 -- no chosen option of the task is below o, and o is one
 pub chosen_here : (s : SpecValue) (f : Bits) (t o : ℕ) → find f (those (of_task s t) o) ≡ None → o < length s.options → (option_at s o).task ≡ t → f o ≡ true → o ≡ chosen_option s f t
@@ -36,12 +36,9 @@ some_chosen s f t o e none once =
 
 -- ---- receivers
 
-number_back : (a b : ℕ) → nat_eq a b ≡ nat_eq b a
-number_back a b = grind (arith, nat_tests)
-
 any_back : (t : ℕ) (ts : List TaskNo) → list_any (has_number t) ts ≡ list_any (nat_eq t) (map task_number ts)
 any_back t [] = refl
-any_back t (x ∷ ts) = ap₂ (λ (a b : Bool). a || b) (number_back x.0 t) (any_back t ts)
+any_back t (x ∷ ts) = ap₂ (λ (a b : Bool). a || b) (eqb_comm x.0 t) (any_back t ts)
 
 pub goes_by : (s : SpecValue) (t m : ℕ) (ts : List TaskNo) (answer : Bool) → map task_number ts ≡ (message_at s m).receivers → answer ≡ list_any (has_number t) ts → answer ≡ goes_to s t m
 unfolding goes_to

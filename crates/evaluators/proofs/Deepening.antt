@@ -1,8 +1,7 @@
 -- Chains of one message more, and the order in which tasks of rising depths are placed.
-use Rattle.std.proofs.Common.{◌≡◌, ℕ, zero, suc, ◌+◌, ◌<◌, ◌≤◌, Bool, true, false, cond, nat_eq, nat_lt, List, [], ◌∷◌, ◌++◌, length, get_or, take, refl, sym, ap, ap₂, ◌∙◌, subst, arith, add-one, append_assoc, inl, inr}
+use Rattle.std.proofs.Common.{◌≡◌, ℕ, zero, suc, ◌+◌, ◌<◌, ◌≤◌, Bool, true, false, cond, nat_eq, nat_lt, List, [], ◌∷◌, ◌++◌, length, get_or, take, refl, sym, ap, ap₂, ◌∙◌, subst, arith, add-one, append_assoc}
 use Rattle.std.specs.List.{flat_map}
 use Rattle.std.proofs.lemmas.Bool.Decides.{nat_tests}
-use Rattle.std.proofs.lemmas.Bool.{cases_Bool, eqb-true}
 use Rattle.std.proofs.Math.Seq.{take-append_seam}
 use Rattle.std.proofs.lemmas.List.{length-append, append-nil}
 use Rattle.spec_model.specs.Spec.{SpecValue, below, those}
@@ -46,10 +45,6 @@ placed_yes p n start now passes e =
 
 pub placed_no : (p : ℕ → Bool) (n : ℕ) (start now : List ℕ) → p n ≡ false → now ≡ start ++ those p n → now ≡ start ++ those p (n + 1)
 placed_no p n start now fails e = e ∙ ap (λ (xs : List ℕ). start ++ xs) (sym (those-more p n ∙ (ap (λ (b : Bool). those p n ++ cond b (n ∷ []) []) fails ∙ append-nil (those p n))))
-
--- numbers that aren't equal
-pub unequal : (a b : ℕ) → (a ≡ b → ⊥) → nat_eq a b ≡ false
-unequal a b apart = elim (cases_Bool (nat_eq a b)) [ inl e ↦ absurd (apart (eqb-true a b e)) | inr e ↦ e ]
 
 -- a task's depth by the list of depths
 pub depth_test : (s : SpecValue) (depths : List ℕ) (d t : ℕ) → AreDepths s depths → t < length s.tasks → has_depth s d t ≡ nat_eq (get_or depths t 0) d

@@ -5,6 +5,7 @@ use Rattle.std.specs.List.{list_any}
 use Rattle.std.proofs.lemmas.Bool.{cases_Bool, eqb-true, eqb-false}
 use Rattle.std.proofs.lemmas.List.{get_or-set_same, get_or-set_other, get_or-map, length-map}
 use Rattle.std.proofs.lemmas.List.Folds.{list_any-append, list_any_more}
+use Rattle.std.proofs.Math.Bool.{or-false, or-true, or_assoc, and-true, and-false}
 use Rattle.spec_model.specs.Spec.{SpecValue, those, message_at}
 use Rattle.spec_model.specs.Schedule.{goes_to}
 use Rattle.spec_model.proofs.Those.{those-more}
@@ -12,24 +13,12 @@ use Rattle.spec_graph.specs.declared.numbers.TaskNo.{TaskNo}
 use Rattle.spec_graph.specs.Lists.{task_number}
 use Rattle.evaluators.specs.Marks.{IsBelow, is_marked, sender_marked, is_sent_to}
 
-or_false : (a : Bool) → (a || false) ≡ a
-or_false true = refl
-or_false false = refl
-
-or_true : (a : Bool) → (a || true) ≡ true
-or_true true = refl
-or_true false = refl
-
-or_assoc : (a b c : Bool) → ((a || b) || c) ≡ (a || (b || c))
-or_assoc true b c = refl
-or_assoc false b c = refl
-
 -- a mark more
 set_mark : (marks : List Bool) (i t : ℕ) → i < length marks → is_marked (set marks i true) t ≡ (is_marked marks t || nat_eq t i)
 set_mark marks i t l = elim (cases_Bool (nat_eq t i)) [
   | inl e ↦ subst (λ (k : ℕ). is_marked (set marks i true) k ≡ true) (sym (eqb-true t i e)) (get_or-set_same marks i true false l)
-      ∙ sym (ap (λ (b : Bool). is_marked marks t || b) e ∙ or_true (is_marked marks t))
-  | inr e ↦ get_or-set_other marks i t true false (eqb-false t i e) ∙ sym (ap (λ (b : Bool). is_marked marks t || b) e ∙ or_false (is_marked marks t))
+      ∙ sym (ap (λ (b : Bool). is_marked marks t || b) e ∙ or-true (is_marked marks t))
+  | inr e ↦ get_or-set_other marks i t true false (eqb-false t i e) ∙ sym (ap (λ (b : Bool). is_marked marks t || b) e ∙ or-false (is_marked marks t))
 ]
 
 -- one more task of a list is marked
@@ -61,7 +50,7 @@ pub any-those_more : (q p : ℕ → Bool) (n : ℕ) → list_any q (those p (n +
 any-those_more q p n = ap (list_any q) (those-more p n) ∙ (list_any-append q (those p n) (cond (p n) (n ∷ []) []) ∙ ap (λ (b : Bool). list_any q (those p n) || b) (one (p n)))
   where
     one : (b : Bool) → list_any q (cond b (n ∷ []) []) ≡ (b && q n)
-    one true = or_false (q n)
+    one true = or-false (q n)
     one false = refl
 
 pub any-those_agree : (q r p : ℕ → Bool) (n : ℕ) → ((k : ℕ) → k < n → q k ≡ r k) → list_any q (those p n) ≡ list_any r (those p n)
@@ -70,27 +59,19 @@ any-those_agree q r p (suc n) same =
     subst (λ (k : ℕ). list_any q (those p k) ≡ list_any r (those p k)) (add-one n)
     (any-those_more q p n ∙ (ap₂ (λ (a b : Bool). a || (p n && b)) (any-those_agree q r p n (λ k l. same k (omega (arith, l)))) (same n (omega arith)) ∙ sym (any-those_more r p n)))
 
-and_true : (a : Bool) → (a && true) ≡ a
-and_true true = refl
-and_true false = refl
-
-and_false : (a : Bool) → (a && false) ≡ false
-and_false true = refl
-and_false false = refl
-
 -- one message more, whose sender is marked: its receivers are marked too
 pub sent_more : (s : SpecValue) (marks now next : List Bool) (m : ℕ) → sender_marked s marks m ≡ true → ((t : ℕ) → is_marked now t ≡ is_sent_to s marks m t)
     → ((t : ℕ) → is_marked next t ≡ (is_marked now t || goes_to s t m)) → (t : ℕ) → is_marked next t ≡ is_sent_to s marks (m + 1) t
 sent_more s marks now next m sender before marked t =
     marked t ∙ (ap (λ (b : Bool). b || goes_to s t m) (before t) ∙ sym (any-those_more (sender_marked s marks) (goes_to s t) m
-        ∙ ap (λ (b : Bool). is_sent_to s marks m t || b) (ap (λ (b : Bool). goes_to s t m && b) sender ∙ and_true (goes_to s t m))))
+        ∙ ap (λ (b : Bool). is_sent_to s marks m t || b) (ap (λ (b : Bool). goes_to s t m && b) sender ∙ and-true (goes_to s t m))))
 
 -- one message more, whose sender isn't
 pub sent_same : (s : SpecValue) (marks now : List Bool) (m : ℕ) → sender_marked s marks m ≡ false → ((t : ℕ) → is_marked now t ≡ is_sent_to s marks m t) → (t : ℕ)
     → is_marked now t ≡ is_sent_to s marks (m + 1) t
 sent_same s marks now m sender before t =
     before t ∙ sym (any-those_more (sender_marked s marks) (goes_to s t) m ∙ (ap (λ (b : Bool). is_sent_to s marks m t || b)
-        (ap (λ (b : Bool). goes_to s t m && b) sender ∙ and_false (goes_to s t m)) ∙ or_false (is_sent_to s marks m t)))
+        (ap (λ (b : Bool). goes_to s t m && b) sender ∙ and-false (goes_to s t m)) ∙ or-false (is_sent_to s marks m t)))
 
 -- the mark of a message's sender
 pub sender_is : (s : SpecValue) (marks : List Bool) (m sender : ℕ) (b : Bool) → sender ≡ (message_at s m).sender → is_marked marks sender ≡ b → sender_marked s marks m ≡ b

@@ -1,6 +1,7 @@
 -- The length of a walk that is followed from its end.
-use Rattle.std.proofs.Common.{◌≡◌, ℕ, ◌+◌, ◌<◌, ◌≤◌, Bool, true, false, refl, sym, ap, ◌∙◌, arith, Option}
+use Rattle.std.proofs.Common.{◌≡◌, ℕ, ◌+◌, ◌<◌, ◌≤◌, true, false, sym, ap, ◌∙◌, arith, Option}
 use Rattle.std.specs.Prelude.{unwrap_or}
+use Rattle.std.proofs.lemmas.Bool.{false_from_ne_true}
 use Rattle.spec_model.specs.Spec.{SpecValue, Bits, message_at, arc_at}
 use Rattle.spec_model.specs.Rules.{IsOn, Uses, Walk, WalkBelow, sender_of}
 use Rattle.spec_model.specs.Walks.{walk_test}
@@ -9,13 +10,9 @@ use Rattle.spec_model.proofs.Decide.{Walk-from_test, walk_test-from}
 use Rattle.spec_model.proofs.Back.{IsBack, IsBack-none, IsBack-end}
 use Rattle.evaluators.proofs.Finding.{find-below_here, find-below_none}
 
-not_true : (b : Bool) → (b ≡ true → ⊥) → b ≡ false
-not_true true h = absurd (h refl)
-not_true false h = refl
-
 test_none : (s : SpecValue) (f : Bits) (m r n : ℕ) → ¬ Walk s f m r n → has_walk_of s f m r n ≡ false
 unfolding has_walk_of
-test_none s f m r n none = not_true (walk_test s f m n r) (λ e. none (Walk-from_test s f m n r e))
+test_none s f m r n none = false_from_ne_true (walk_test s f m n r) (λ e. none (Walk-from_test s f m n r e))
 
 test_some : (s : SpecValue) (f : Bits) (m r n : ℕ) → Walk s f m r n → has_walk_of s f m r n ≡ true
 unfolding has_walk_of

@@ -54,7 +54,7 @@ decodings_stay_shown s entries log p f g = all_shown s entries (no_lines s) log 
 -- ---- how many lines
 
 -- each derived line counts
-all_count : (ls : List Line) → All (λ l. is_derived l ≡ true) ls → count_by is_derived ls ≡ length ls
+pub all_count : (ls : List Line) → All (λ l. is_derived l ≡ true) ls → count_by is_derived ls ≡ length ls
 all_count [] h = refl
 all_count (l ∷ ls) h =
     let first : is_derived l ≡ true = h 0 l (omega arith) in

@@ -1,11 +1,13 @@
 -- What a run comes to as an outcome.
-use Rattle.std.proofs.Common.{◌≡◌, ◌∙◌, ◌+◌, ◌↔◌, [], ℕ, List, None, Some, All, length, refl, sym, ap, ap₂, subst, inl, inr}
+use Rattle.std.proofs.Common.{◌≡◌, ◌∙◌, ◌+◌, ◌↔◌, [], ℕ, List, None, All, length, refl, sym, ap, ap₂, subst, inl, inr}
 use Rattle.std.proofs.lemmas.List.{length-map}
 use Rattle.std.proofs.lemmas.List.Elements.{All-nil}
+use Rattle.std.proofs.lemmas.Option.{same_Some}
 use Rattle.rand_pcg.specs.Lcg.{Lcg}
 use Rattle.pb_rules.specs.Frames.{Line, Given, base_of}
 use Rattle.proof_log.specs.Log.{LogValue}
 use Rattle.proof_log.specs.Files.{LegalReadBack, AreLegal}
+use Rattle.proof_log.proofs.Legal.{of_lines}
 use Rattle.spec_model.specs.Spec.{SpecValue, Bits}
 use Rattle.encode_model.specs.Encoding.{encoding}
 use Rattle.encode_model.specs.Block.{cover_frame}
@@ -23,7 +25,7 @@ use Rattle.evo_explore.specs.declared.run.Run.{Run}
 use Rattle.evo_explore.specs.declared.run.End.{End}
 use Rattle.evo_explore.specs.declared.run.End.TheVariants.{Done, Infeasible}
 use Rattle.proof_files.specs.Writing.{files_of}
-use Rattle.proof_files.proofs.Files.{of_lines, refutes_file, written}
+use Rattle.proof_files.proofs.Files.{refutes_file, written}
 use Rattle.proof_files.proofs.Refuting.{refute_all}
 use Rattle.run_base.specs.declared.outcome.Outcome.{Outcome}
 use Rattle.explore_run.specs.Tools.{ToolsValue, tags_at, measured_by}
@@ -52,15 +54,12 @@ shows_each law s entries log frame of decodings = record {
   shown = subst (λ (l : LogValue). All (IsShownBy s (cover_frame s) l) entries) (same_log s log of) (law s entries log decodings (cover_frame s) frame);
 }
 
-one_given : (x y : Given) → Some x ≡ Some y → x ≡ y
-one_given x y q = cc
-
 -- the lines of a decoding that finds no valid design, of a log that had none
 refuted : (s : SpecValue) (genes : List _) (log : LogValue) → IsFrameOf s (cover_frame s) → IsShown s genes (no_lines s) log Nothing
     → IsRefutation (cover_frame s) (base_of (cover_frame s)) (encoding s) log.lines
 refuted s genes log frame shown =
     let here = shown (cover_frame s) frame in
-    subst (λ (g : Given). IsRefutation (cover_frame s) g (encoding s) log.lines) (one_given here.before (base_of (cover_frame s)) (sym here.legal_before)) here.lines
+    subst (λ (g : Given). IsRefutation (cover_frame s) g (encoding s) log.lines) (same_Some here.before (base_of (cover_frame s)) (sym here.legal_before)) here.lines
 
 -- the designs of the members have a bit for each design variable
 pub members_sized : (s : SpecValue) (measured : Bits → List ℕ) (start last : Lcg) (rounds : ℕ) (run : Run) (end : End) → EndsBy s word_of next_of measured start last run rounds end
@@ -90,7 +89,7 @@ finds back law s frame wanted tools calls last run Done outcome h causes of coun
       says = text ∙ ap₂ (λ (n : ℕ) (ms : List Member). explored_text s (tags_at tools.tags wanted.chosen) n ms Done) len h.best_are;
       counted = subst (λ (n : ℕ). RoseBy n wanted.chosen tools.calls calls) len counted;
       proof = written wanted.proof run.log outcome.writes _ writes
-          (of_lines back (LinesShowEach s h.entries) s run.log.lines (legal_in s run.log frame of) (shows_each law s h.entries run.log frame of h.decodings_are));
+          (of_lines back (LinesShowEach s h.entries) (cover_frame s) run.log.lines (legal_in s run.log frame of) (shows_each law s h.entries run.log frame of h.decodings_are));
     })
 finds back law s frame wanted tools calls last run Infeasible outcome h causes of counted ending text writes =
     let legal = legal_in s run.log frame of in

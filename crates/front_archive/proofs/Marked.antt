@@ -1,14 +1,15 @@
 -- Members and the columns of their vectors: which place covers an offer, and what the marks of an offer leave.
 use Rattle.std.proofs.Common.{◌≡◌, ℕ, zero, suc, ◌+◌, ◌<◌, ◌||◌, List, [], ◌∷◌, ◌++◌, length, set, ltb, Bool, true, false, cond, not, Option, Some, None, MatchOption, ap, ap₂, sym, ◌∙◌, subst, refl, arith}
 use Rattle.std.specs.List.{All, filter, list_any, position, position_or_len}
-use Rattle.std.proofs.lemmas.Bool.{lt-ltb}
+use Rattle.std.proofs.lemmas.Bool.{lt-ltb, false_from_ne_true}
 use Rattle.std.proofs.lemmas.List.{length-map, length_push}
 use Rattle.std.proofs.lemmas.List.Elements.{All-head, All-tail, All-cons, All-nil}
+use Rattle.std.specs.Cmp.{both_ways}
 use Rattle.spec_model.specs.Vectors.{IsAtMost}
 use Rattle.dominance_lanes.specs.Columns.{Vectors, vector_at, NoneBelow, IsFirstBelow, MarksAbove, unmarked}
 use Rattle.front_archive.specs.declared.member.Member.{Member}
 use Rattle.front_archive.specs.Members.{covers, vectors_of, HasWidth, AreColumnsOf}
-use Rattle.front_archive.proofs.Bests.{same_bool, is_false, any_position}
+use Rattle.front_archive.proofs.Bests.{any_position}
 use Rattle.front_archive.proofs.Places.{each_place, by_places}
 
 -- ---- the first place
@@ -18,7 +19,7 @@ module _ (m : Member) (w : ℕ) (long : length m.vector ≡ w) where
   covering x wide h = by_places x.vector m.vector (wide ∙ sym long) h
 
   not_covering : (x : Member) → (IsAtMost x.vector m.vector → ⊥) → covers x m ≡ false
-  not_covering x isnt = is_false (covers x m) (λ is. isnt (each_place x.vector m.vector is))
+  not_covering x isnt = false_from_ne_true (covers x m) (λ is. isnt (each_place x.vector m.vector is))
 
   place_of : (members : List Member) (k : ℕ) → All (HasWidth w) members → k < length members → IsAtMost (vector_at (vectors_of members) k) m.vector → NoneBelow (vectors_of members) m.vector k
       → position_or_len (λ x. covers x m) members ≡ k
@@ -84,7 +85,7 @@ module _ (m : Member) (w : ℕ) (long : length m.vector ≡ w) where
   uncovered (x ∷ xs) (b ∷ ms) wide count marks =
       let here = marks zero (omega arith) in
       let same = long ∙ sym (All-head (HasWidth w) x xs wide) in
-      let is = same_bool b (covers m x) (λ on. by_places m.vector x.vector same (here.0 on)) (λ at. here.1 (each_place m.vector x.vector at)) in
+      let is = both_ways b (covers m x) (λ on. by_places m.vector x.vector same (here.0 on)) (λ at. here.1 (each_place m.vector x.vector at)) in
       let rest = uncovered xs ms (All-tail (HasWidth w) x xs wide) (omega arith) (λ k h. marks (suc k) (omega arith)) in
       chosen b (covers m x) x m _ (filter (λ x. not (covers m x)) xs) is rest
 

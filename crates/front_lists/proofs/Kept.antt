@@ -4,14 +4,14 @@ use Rattle.std.specs.Prelude.{Contains}
 use Rattle.std.proofs.lemmas.Bool.{cases_lt}
 use Rattle.std.proofs.lemmas.List.{length-map, get_or-map}
 use Rattle.std.proofs.lemmas.List.Elements.{Contains-get_or}
-use Rattle.spec_model.specs.Spec.{SpecValue, Bits, bits_of}
+use Rattle.spec_model.specs.Spec.{SpecValue, Bits}
 use Rattle.spec_model.specs.Rules.{IsValid}
 use Rattle.spec_model.specs.Vectors.{vector_of, IsAtMost}
 use Rattle.result_text.specs.Answers.{EntryValue}
 use Rattle.front_model.specs.Fronts.{vector_in, StandsBefore, IsEntry, Rise, AreApart}
 use Rattle.front_model.specs.Proofs.{HasBelow}
 use Rattle.spec_model.proofs.Vectors.{at_most_through}
-use Rattle.front_model.proofs.Exact.{below_or_none, vector_long, claim_is_front}
+use Rattle.front_model.proofs.Exact.{below_or_none, claim_is_front, entry_long}
 use Rattle.front_lists.specs.Lists.{AreLong, IsNext, FoundPrefix, FoundWhole, vectors_in, IsUndominated, IsKept, AreUndominated, front_with}
 use Rattle.front_lists.specs.Laws.{FoundHaveBelow, UndominatedAreClaim, WholeIsFront}
 use Rattle.front_lists.proofs.Least.{least}
@@ -40,9 +40,6 @@ pub found_entry : (s : SpecValue) (found : List EntryValue) (e : EntryValue) →
 found_entry s found e p c =
     let n : IsNext s (vectors_in (take c.0 found)) e = subst (IsNext s (vectors_in (take c.0 found))) c.2 (p c.0 e c.1) in
     record { valid = n.first.meets.valid; stated = n.stated }
-
-entry_long : (s : SpecValue) (e : EntryValue) → IsEntry s e → length e.vector ≡ length s.objectives
-entry_long s e h = sym (ap length h.stated) ∙ vector_long s (bits_of e.design)
 
 pub vectors_long : (s : SpecValue) (found : List EntryValue) → FoundPrefix s found → AreLong (length s.objectives) (vectors_in found)
 vectors_long s found p k d l =

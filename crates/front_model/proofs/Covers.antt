@@ -1,8 +1,8 @@
 -- The tests of a cover.
-use Rattle.std.proofs.Common.{◌≡◌, ℕ, zero, suc, ◌+◌, ◌<◌, ◌≤◌, Bool, true, false, leb, ltb, List, [], ◌∷◌, length, get_or, refl, sym, subst, arith, inl, inr}
+use Rattle.std.proofs.Common.{◌≡◌, ℕ, zero, suc, ◌+◌, ◌<◌, ◌≤◌, Bool, true, false, ltb, List, [], ◌∷◌, length, get_or, refl, sym, subst, arith, inl, inr}
 use Rattle.std.specs.Prelude.{slice_index}
 use Rattle.std.specs.List.{list_any, list_all, position_or_len, range_with_len}
-use Rattle.std.proofs.lemmas.Bool.{cases_lt, cases_Bool, ltb-false, le-ltb, leb-true, leb-false, and_parts}
+use Rattle.std.proofs.lemmas.Bool.{cases_lt, cases_Bool, ltb-false, le-ltb, leb-true, le-leb, and_parts}
 use Rattle.std.proofs.lemmas.List.{get_or_past}
 use Rattle.spec_model.specs.Spec.{SpecValue}
 use Rattle.spec_model.specs.Vectors.{IsAtMost}
@@ -36,20 +36,6 @@ at_most_of u v h j =
     elim (cases_lt j (length u)) [
       | inl l ↦ (let e : 0 + j ≡ j = omega arith in leb-true (slice_index u j) (slice_index v j) (subst (λ (k : ℕ). is_at_most_at u v k ≡ true) e (all_at (is_at_most_at u v) (length u) 0 j h l)))
       | inr l ↦ omega (arith, get_or_past u j 0 l)
-    ]
-
-le-leb : (a b : ℕ) → a ≤ b → leb a b ≡ true
-le-leb a b h =
-    elim (cases_Bool (leb a b)) [
-      | inl t ↦ t
-      | inr f ↦ absurd (omega (arith, h, leb-false a b f))
-    ]
-
-pub gt-leb : (a b : ℕ) → b < a → leb a b ≡ false
-gt-leb a b h =
-    elim (cases_Bool (leb a b)) [
-      | inl t ↦ absurd (omega (arith, h, leb-true a b t))
-      | inr f ↦ f
     ]
 
 pub of_at_most : (u v : List ℕ) → IsAtMost u v → is_at_most v u ≡ true

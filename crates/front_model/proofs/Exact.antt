@@ -31,6 +31,10 @@ use Rattle.front_model.specs.Laws.{ClaimIsFront, AcceptedIsFront, AcceptedTextIs
 pub vector_long : (s : SpecValue) (f : Bits) → length (vector_of s f) ≡ length s.objectives
 vector_long s f = length-map-range_with_len (vector_at s f) 0 (length s.objectives)
 
+-- and so has that of an entry
+pub entry_long : (s : SpecValue) (e : EntryValue) → IsEntry s e → length e.vector ≡ length s.objectives
+entry_long s e h = sym (ap length h.stated) ∙ vector_long s (bits_of e.design)
+
 -- ---- some vector of a list is at most a given one, or none is
 
 pub before_all : (u : List ℕ) (us : List (List ℕ)) (w : List ℕ) → Contains us w → Contains (u ∷ us) w

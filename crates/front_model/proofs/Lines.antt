@@ -4,8 +4,7 @@ use Rattle.std.specs.Prelude.{All, codes, ◌==◌, ◌||◌, option_map}
 use Rattle.std.specs.Result.{result_ok}
 use Rattle.std.specs.List.{list_any, list_all}
 use Rattle.std.specs.Str.{bytes_eq}
-use Rattle.std.proofs.lemmas.Bool.{eqb-true, ltb-true, lt-ltb, and_parts}
-use Rattle.std.proofs.lemmas.Bool.Decides.{nat_tests}
+use Rattle.std.proofs.lemmas.Bool.{eqb-true, ltb-true, lt-ltb, eq-eqb, and_parts}
 use Rattle.std.proofs.lemmas.List.Elements.{All-head, All-tail}
 use Rattle.line_words.specs.Rules.{Words}
 use Rattle.pb_rules.specs.declared.Op.{Op}
@@ -177,12 +176,9 @@ line_of_piece s us g stand piece e =
 
 -- ---- and the other way round
 
-same_count : (n : ℕ) → (n == n) ≡ true
-same_count n = grind (arith, nat_tests)
-
 numbers_judged : (s : SpecValue) (us : List (List ℕ)) (v : List ℕ) → MayCover s us v → judge_numbers s us v ≡ Ok v
 numbers_judged s us v h =
-    let one : (length v == length s.objectives) ≡ true = subst (λ (n : ℕ). (length v == n) ≡ true) h.one_each (same_count (length v)) in
+    let one : (length v == length s.objectives) ≡ true = eq-eqb (length v) (length s.objectives) h.one_each in
     rw (one, of_within s v h.within, any_of_below us v h.dominated) refl
 
 -- what a legal line leaves is what is judged of it

@@ -6,6 +6,7 @@ use Rattle.std.proofs.lemmas.Bool.{cases_lt}
 use Rattle.std.proofs.lemmas.List.Edits.{length-insert, get_or-insert_at, get_or-insert_below, get_or-insert_above}
 use Rattle.std.proofs.lemmas.List.Elements.{Contains-get_or}
 use Rattle.front_model.specs.Fronts.{StandsBefore, Rise}
+use Rattle.front_model.proofs.Rising.{through}
 use Rattle.front_lists.specs.Lists.{AreLong}
 use Rattle.front_search.specs.Turns.{IsPlaceFor}
 
@@ -42,30 +43,6 @@ before_or_same (x ∷ u) (y ∷ v) e =
                 | inr b ↦ inr (inr (ahead y x v u (sym same) b))
               ]
             ]
-      ]
-    ]
-
-through : (u v w : List ℕ) → StandsBefore u v → StandsBefore v w → StandsBefore u w
-through u v w a b =
-    elim (cases_lt a.place b.place) [
-      | inl l ↦ record {
-        place = a.place;
-        same = λ j k. a.same j k ∙ b.same j (omega (arith, k, l));
-        less = omega (arith, a.less, b.same a.place l);
-      }
-      | inr g ↦ elim (cases_lt b.place a.place) [
-        | inl l ↦ record {
-          place = b.place;
-          same = λ j k. a.same j (omega (arith, k, l)) ∙ b.same j k;
-          less = omega (arith, a.same b.place l, b.less);
-        }
-        | inr h ↦
-            let e : b.place ≡ a.place = omega (arith, g, h) in
-            record {
-              place = a.place;
-              same = λ j k. a.same j k ∙ b.same j (omega (arith, k, e));
-              less = omega (arith, a.less, subst (λ (p : ℕ). slice_index v p < slice_index w p) e b.less);
-            }
       ]
     ]
 

@@ -11,7 +11,7 @@ use Rattle.pb_rules.specs.Linear.{Linear}
 use Rattle.pb_rules.specs.Operations.{line_gives, small_number}
 use Rattle.pb_rules.specs.Clauses.{contradiction}
 use Rattle.pb_rules.specs.Frames.{Line, derived, cover, Frame, Given, context_of, base_of, with_block, with_derived, given_by, given_from, under, blocks_from, blocks_by, derived_from, derived_by, derived_count, is_derived, ids_in, ids_of}
-use Rattle.pb_rules.proofs.Given.{under-at, Goes, by_ops, by_block, goes, first-line, given-append, given-front, given-cover, given-stays, given-ids, derived-append, derived-push}
+use Rattle.pb_rules.proofs.Given.{under-at, Goes, by_ops, by_block, goes, first-line, given-append, given-front, given-cover, given-ids, derived-append, derived-push}
 use Rattle.constraint_store.specs.Live.{Content}
 use Rattle.proof_log.specs.Log.{LogValue, next_id}
 use Rattle.spec_model.specs.Spec.{SpecValue, bits_of}
@@ -30,6 +30,8 @@ use Rattle.front_model.specs.Fronts.{vector_in}
 use Rattle.ordered_solver.specs.Solver.{SolverValue, Agrees, StandsIn, constraints_of, numbered, is_derived_id, IsGivenId}
 use Rattle.ordered_solver.proofs.Agreeing.{numbered-push}
 use Rattle.ordered_solver.specs.Answers.{IsRefutation, AreHonestSteps}
+use Rattle.ordered_solver.proofs.Numbered.{numbered_back}
+use Rattle.ordered_solver.proofs.KeptOn.{stands-on}
 use Rattle.front_lists.specs.Lists.{FoundPrefix, IsNext, vectors_in, covers_of}
 use Rattle.front_lists.specs.Laws.{searched}
 use Rattle.front_lists.proofs.Searching.{next_is_found}
@@ -215,10 +217,6 @@ refutes s found old new ls g h base stand e each legal whole r = go r.last r.spl
 
 -- ---- after a cover and its block
 
-pub same_numbered : (id : ℕ) (cs : List Linear) → constraints_of (numbered id cs) ≡ cs
-same_numbered id [] = refl
-same_numbered id (c ∷ cs) = ap (λ (ds : List Linear). c ∷ ds) (same_numbered (id + 1) cs)
-
 -- constraints that were given last stand under the ids from the next one on
 numbered-stand : (g : Given) (id : ℕ) (early cs : List Linear) → g.constraints ≡ early ++ cs → id ≡ length early + 1 → id + length cs ≤ 2 ^ 63 → All (StandsIn (context_of g)) (numbered id cs)
 numbered-stand g id early [] is e h k d l = absurd (omega arith)
@@ -226,9 +224,6 @@ numbered-stand g id early (c ∷ cs) is e h zero d l = record { small = omega ar
 numbered-stand g id early (c ∷ cs) is e h (suc k) d l =
     let len = length_push early c in
     numbered-stand g (id + 1) (early ++ c ∷ []) cs (is ∙ sym (append_assoc early (c ∷ []) cs)) (omega arith) (omega arith) k d (omega arith)
-
-stand-on : (f : Frame) (g h : Given) (ls : List Line) (given : List Content) → given_from f g ls ≡ Some h → All (StandsIn (context_of g)) given → All (StandsIn (context_of h)) given
-stand-on f g h ls given e all k d l = given-stays f g h ls (get_or given k d).proof_id (get_or given k d).constraint e (all k d l)
 
 -- numbers within the weights are small
 small_numbers : (s : SpecValue) (v : List ℕ) → IsWellFormed s → IsWithinWeights s v → list_all small_number v ≡ true
@@ -272,7 +267,7 @@ searching_covered s found e id old new wf h next x =
     let blocks : block_of s (g.covers + 1) v ≡ block = ap (λ (n : ℕ). block_of s (n + 1) v) covers in
     let place : id ≡ length g.constraints + 1 = omega (arith, x.next, a.fits, given-ids f (base_of f) g old.log.lines a.frame a.legal) in
     let sized : length block ≡ length v + 1 = a.frame.sized (b + 1) v in
-    let old_stand : All (StandsIn (context_of after)) old.given = stand-on f g after (cover v ∷ []) old.given (given-cover f g g [] v refl small) a.stand in
+    let old_stand : All (StandsIn (context_of after)) old.given = stands-on f g after (cover v ∷ []) old.given (given-cover f g g [] v refl small) a.stand in
     let new_there : All (StandsIn (context_of after)) (numbered id block) = numbered-stand after id g.constraints block (ap (λ (cs : List Linear). g.constraints ++ cs) blocks) place
         (omega (arith, x.small, sized)) in
     let len : length (found ++ e ∷ []) ≡ length found + 1 = length_push found e in
@@ -280,7 +275,7 @@ searching_covered s found e id old new wf h next x =
     record {
       variables_are = x.variables_more ∙ omega (arith, h.variables_are, mul-suc (length found) (length s.objectives), ap (λ (n : ℕ). n * length s.objectives) len);
       given_are =
-          ap constraints_of x.given_more ∙ (map-append (λ (c : Content). c.constraint) old.given (numbered id block) ∙ (ap₂ (λ (cs ds : List Linear). cs ++ ds) h.given_are (same_numbered id block)
+          ap constraints_of x.given_more ∙ (map-append (λ (c : Content). c.constraint) old.given (numbered id block) ∙ (ap₂ (λ (cs ds : List Linear). cs ++ ds) h.given_are (numbered_back id block)
           ∙ (append_assoc (encoding s) (blocks_by f old.log.lines) block ∙ sym (ap (λ (cs : List Linear). encoding s ++ cs)
               (ap (blocks_from f 0) lines_are ∙ (blocks-cover f 0 old.log.lines v ∙ ap (λ (n : ℕ). blocks_from f 0 old.log.lines ++ block_of s n v) number))))));
       covers_are = ap covers_of lines_are ∙ (covers-append old.log.lines (cover v ∷ []) ∙ (ap (λ (us : List (List ℕ)). us ++ v ∷ []) h.covers_are ∙ sym (map-append vector_in found (e ∷ []))));

@@ -27,6 +27,7 @@ use Rattle.ordered_solver.specs.Solver.{SolverValue, constraints_of, numbered}
 use Rattle.ordered_solver.specs.Answers.{IsFirst, AnswerSays, CountSays, GoesOnDerived, AnswersInFrames, AreHonestSteps, IsRefutation, new_lines}
 use Rattle.ordered_solver.specs.declared.answer.Answer.{Answer}
 use Rattle.ordered_solver.specs.declared.answer.Answer.TheVariants as answers
+use Rattle.ordered_solver.proofs.Numbered.{numbered_back}
 use Rattle.front_lists.specs.Lists.{IsNext, FoundWhole, vectors_in, covers_of}
 use Rattle.front_lists.specs.Laws.{searched}
 use Rattle.front_lists.proofs.Few.{found_are_few}
@@ -35,7 +36,7 @@ use Rattle.front_search.specs.declared.ending.SearchEnd.TheVariants as ends
 use Rattle.front_search.specs.Searches.{EndSays, most_lines}
 use Rattle.front_search.specs.Turns.{IsSearching, IsUnfinished, IsFoundNext}
 use Rattle.proof_log.proofs.Solves.{begins_honest}
-use Rattle.front_search.proofs.Steps.{HasSolved, count_solved, honest_solved, honest_log, covers_stand, searching_solved, refutes, same_numbered, mul-suc}
+use Rattle.front_search.proofs.Steps.{HasSolved, count_solved, honest_solved, honest_log, covers_stand, searching_solved, refutes, mul-suc}
 
 -- what is known after a solve, whatever it answered
 pub solved_of : (s : SpecValue) (found : List EntryValue) (old new : SolverValue) (order : List Literal) (answer : Answer) → IsSearching s found old → GoesOnDerived old.log new.log
@@ -154,7 +155,7 @@ starts_searching s variables cs solver wf ev ec few e =
     let short : length (encoding s) + 1 < 2 ^ 62 = subst (λ (ds : List Linear). length ds + 1 < 2 ^ 62) ec few in
     subst (IsSearching s []) (sym is) (record {
       variables_are = omega (arith, ev);
-      given_are = same_numbered 1 (encoding s) ∙ sym (append-nil (encoding s));
+      given_are = numbered_back 1 (encoding s) ∙ sym (append-nil (encoding s));
       covers_are = refl;
       agrees = agrees-new (cover_frame s) variables false (blocks_make_frame s wf) short;
       prefix = λ i d l. absurd (omega (arith, l));

@@ -16,6 +16,7 @@ use Rattle.spec_model.specs.Genotypes.{GeneValue, plain_gene, gene_at, StandsBef
 use Rattle.genotype.specs.Genes.{HasPriority}
 use Rattle.genotype.specs.Order.{var_of, IsOrder, IsOrderOf}
 use Rattle.genotype.specs.Placing.{literal_at, other_literal, literals_of, lateness, IsLed}
+use Rattle.plain_lists.proofs.Numbers.{eqb_comm}
 
 -- ---- the variables of the literals
 
@@ -47,16 +48,13 @@ distinct_range : (a n : ℕ) → IsDistinct eqb (range_with_len a n)
 distinct_range a zero = distinct_none
 distinct_range a (suc n) = IsDistinct-cons eqb a (range_with_len (a + 1) n) (apart a (a + 1) n (omega arith)) (distinct_range (a + 1) n)
 
-flips : (a b : ℕ) → eqb a b ≡ eqb b a
-flips a b = grind (arith, nat_tests)
-
 differ : (genes : List GeneValue) (order : List Literal) → IsPermutation (literals_of genes) order → (i j : ℕ) (d : Literal) → i < j → j < length order
     → var_of (get_or order i d) ≢ var_of (get_or order j d)
 differ genes order p i j d lt within e =
     let vars = map var_of order in
     let own = literals_of genes in
     let start : IsDistinct eqb (map var_of own) = subst (IsDistinct eqb) (sym (vars_of (literal_at genes) (λ v. refl) 0 (length genes))) (distinct_range 0 (length genes)) in
-    let distinct = IsDistinct-IsPermutation eqb flips (map var_of own) vars (IsPermutation-map var_of own order p) start in
+    let distinct = IsDistinct-IsPermutation eqb eqb_comm (map var_of own) vars (IsPermutation-map var_of own order p) start in
     let len : length vars ≡ length order = length_map order in
     AllPairs-from_IsDistinct Decides-eqb vars distinct i j 0 lt (omega (arith, len, within))
     (get_or-map var_of order i d 0 (omega (arith, lt, within)) ∙ e ∙ sym (get_or-map var_of order j d 0 within))

@@ -19,6 +19,7 @@ use Rattle.arch_reader.specs.declared.seen.Seen.{Seen}
 use Rattle.arch_reader.specs.declared.statement.Statement.TheVariants.{Objective}
 use Rattle.spec_join.specs.Joining.{Joining, start}
 use Rattle.spec_join.specs.Reading.{after_all, JoinReads}
+use Rattle.spec_join.proofs.Breaking.{none_plain}
 use Rattle.spec_make.specs.Streams.{Stream, later, taking}
 use Rattle.spec_make.specs.Mesh.{side_of, resources_of, tasks_of, all_ends, messages_of}
 use Rattle.spec_make.specs.Made.{resource_lines, link_lines, task_lines, message_lines, map_lines, words_of_seed, made_text}
@@ -32,7 +33,7 @@ use Rattle.made_laws.proofs.Whole.{IsMesh, mesh, parts_of, nothing, later_lines,
 use Rattle.made_laws.proofs.Numbers.{words_small, some_side, few_side, made_read}
 use Rattle.made_laws.proofs.Forward.{IsForward}
 use Rattle.made_laws.proofs.Made.{Made, IsLow, IsNamedBelow, IsOfTaskBelow}
-use Rattle.made_laws.proofs.Accepted.{plain_none, objective_fine}
+use Rattle.made_laws.proofs.Accepted.{objective_fine}
 use Rattle.made_laws.proofs.Carried.{Carries, carries_on, none_of, at_last, none_in_file, made_of_file}
 use Rattle.made_laws.proofs.Carrying.{resources_carry, link_carries, links_carry, tasks_carry, messages_carry, options_carry}
 use Rattle.made_laws.proofs.Ended.{none_at_end}
@@ -103,8 +104,8 @@ lines_accepted side words some few h =
     let energy = Objective (codes "energy") None false in
     let carried : Carries s (later_lines side words) (MadeAll side) = (
       cost,
-      record { form = cost_formed; none = plain_none s cost (objective_fine s (codes "cost") None false) },
-      (energy, record { form = energy_formed; none = plain_none s energy (objective_fine s (codes "energy") None false) }, parts_carry side words some few m h s made),
+      record { form = cost_formed; none = none_plain s cost (objective_fine s (codes "cost") None false) },
+      (energy, record { form = energy_formed; none = none_plain s energy (objective_fine s (codes "energy") None false) }, parts_carry side words some few m h s made),
     ) in
     let few_messages : tasks_of side ≤ 50 = omega (arith, m.few_tasks) in
     let few_options : 3 * tasks_of side ≤ 150 = omega (arith, m.few_tasks) in

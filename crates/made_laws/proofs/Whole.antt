@@ -4,7 +4,8 @@ use Rattle.std.specs.Prelude.{nat_lt, nat_le, codes}
 use Rattle.std.specs.List.{list_all, enumerate_from, flat_map}
 use Rattle.std.specs.Fmt.{digits}
 use Rattle.std.specs.Str.{bytes_eq}
-use Rattle.std.proofs.lemmas.Bool.{and_parts, ltb-true, leb-true}
+use Rattle.std.proofs.lemmas.Bool.{and_parts, ltb-true, leb-true, not-true}
+use Rattle.std.proofs.Math.Nat.{zero-add}
 use Rattle.line_words.specs.Limits.{most_file_bytes}
 use Rattle.line_words.specs.Rules.{Words}
 use Rattle.spelled_lines.specs.Lines.{spelled}
@@ -24,7 +25,6 @@ use Rattle.made_laws.specs.Reading.{BreakNone, IsReadBack}
 use Rattle.made_laws.specs.Unbroken.{AreOf32Bits, arch_tests}
 use Rattle.made_laws.proofs.Spelled.{spelled_is_read}
 use Rattle.made_laws.proofs.Short.{AreShortLines, IsShortLine, line_of_short, text_length}
-use Rattle.made_laws.proofs.Small.{not_true}
 use Rattle.made_laws.proofs.Steps.{Step, Goes, goes_on, one_step, break_none, short_lines}
 use Rattle.made_laws.proofs.Lines.{having, declared, AreJoined, link_between, link_step, traffic_step, hops_step}
 use Rattle.made_laws.proofs.Parts.{later_words, drawn, resources_go, links_go, tasks_go, may_receive, messages_go, options_go}
@@ -44,7 +44,7 @@ joined_of r a b h =
     let one = and_parts (nat_lt r 26) (nat_lt a r && (nat_lt b r && not same)) h in
     let two = and_parts (nat_lt a r) (nat_lt b r && not same) one.1 in
     let three = and_parts (nat_lt b r) (not same) two.1 in
-    record { few = ltb-true r 26 one.0; first = ltb-true a r two.0; second = ltb-true b r three.0; two = not_true same three.1 }
+    record { few = ltb-true r 26 one.0; first = ltb-true a r two.0; second = ltb-true b r three.0; two = not-true same three.1 }
 
 -- what a mesh has
 pub record IsMesh (side : ℕ) : Type 0 where
@@ -118,20 +118,17 @@ parts_of side words =
     ++ taking 1 (message_lines (tasks_of side)) (later messages_from words) messages
     ++ taking 7 (map_lines side) (later maps_from words) (below (tasks_of side))
 
-zero_more : (n : ℕ) → 0 + n ≡ n
-zero_more n = omega arith
-
 resources_part : (side : ℕ) (words : Stream) → IsMesh side → AreOf32Bits words → Goes (having 0 0 false) (taking 1 resource_lines words (below (resources_of side)))
     (having (resources_of side) 0 false)
 resources_part side words m h =
-    subst (λ k. Goes (having 0 0 false) (taking 1 resource_lines words (below (resources_of side))) (having k 0 false)) (zero_more (resources_of side))
+    subst (λ k. Goes (having 0 0 false) (taking 1 resource_lines words (below (resources_of side))) (having k 0 false)) (zero-add (resources_of side))
     (resources_go words 0 (resources_of side) h (omega (arith, m.few_resources)))
 
 links_part : (side : ℕ) (words : Stream) → IsMesh side → AreOf32Bits words
     → Goes (having (resources_of side) 0 false) (taking 1 link_lines words (enumerate_from 0 (all_ends side))) (having (resources_of side) (length (all_ends side)) false)
 links_part side words m h =
     let r = resources_of side in
-    subst (λ k. Goes (having r 0 false) (taking 1 link_lines words (enumerate_from 0 (all_ends side))) (having r k false)) (zero_more (length (all_ends side)))
+    subst (λ k. Goes (having r 0 false) (taking 1 link_lines words (enumerate_from 0 (all_ends side))) (having r k false)) (zero-add (length (all_ends side)))
     (links_go link_lines (λ j. are_joined r j.first j.second) r (λ ws e j so few good. link_pair r ws e j.first j.second so few good) words 0 (all_ends side) h (omega (arith, m.few_links)) m.joined)
 
 tasks_part : (side r l : ℕ) → side ≤ 5 → IsMesh side → Goes (having r l false) (task_lines side) (having r l false)

@@ -5,7 +5,7 @@ use Rattle.std.specs.Global.{Global}
 use Rattle.std.proofs.lemmas.Bool.{ne_eqb}
 use Rattle.pb_rules.specs.Linear.{Linear}
 use Rattle.std.proofs.lemmas.List.Elements.{All-weaker, All-map}
-use Rattle.spec_model.specs.Spec.{SpecValue, bits_of}
+use Rattle.spec_model.specs.Spec.{SpecValue}
 use Rattle.spec_model.specs.WellFormed.{IsWellFormed}
 use Rattle.result_text.specs.Answers.{EntryValue}
 use Rattle.result_text.specs.Fronts.{FrontValue}
@@ -16,7 +16,7 @@ use Rattle.front_model.specs.declared.refusals.Refused.{Refused}
 use Rattle.front_model.specs.declared.refusals.Verdict.TheVariants as verdicts
 use Rattle.front_model.specs.Judging.{Progress, begun, is_clash, judged, judge_next, judge_numbers, judge_cover, take_if, take_line, refusal_at, verdict_if, verdict_of}
 use Rattle.front_model.specs.Laws.{IsPiece, IsReached, IsKnown}
-use Rattle.front_model.proofs.Exact.{vector_long}
+use Rattle.front_model.proofs.Exact.{entry_long}
 use Rattle.front_model.proofs.Files.{begins_reached, reaches_on}
 use Rattle.front_model.proofs.Known.{begins_known, stays_known}
 use Rattle.proof_checker.specs.Answers.{AllLong, Halts}
@@ -27,9 +27,6 @@ use Rattle.proof_checker.specs.declared.lines.Taken.{Taken}
 use Rattle.proof_checker.specs.Takings.{given_of, stand_of}
 use Rattle.proof_checker.specs.declared.lines.Taken.TheVariants.{Header, Derived, Block}
 use Rattle.proof_checker.specs.Checkers.{IsChecker, progress_of}
-
-entry_long : (s : SpecValue) (e : EntryValue) → IsEntry s e → length e.vector ≡ length s.objectives
-entry_long s e h = sym (ap length h.stated) ∙ vector_long s (bits_of e.design)
 
 -- the vectors of a front have a number for each objective
 pub claim_long : (s : SpecValue) (front : FrontValue) → IsClaim s front → AllLong (length s.objectives) (vectors_of front)

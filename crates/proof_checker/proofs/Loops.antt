@@ -12,11 +12,9 @@ use Rattle.spelled_lines.specs.Lines.{is_empty}
 use Rattle.result_text.specs.Answers.{EntryValue, as_seen}
 use Rattle.result_text.specs.declared.entries.Entry.{Entry}
 use Rattle.spelled_lines.proofs.Saying.{any_said}
-use Rattle.front_model.specs.Fronts.{vector_in}
 use Rattle.proof_log.specs.Files.{onto_said, with_said}
 use Rattle.front_model.specs.Judging.{judge_op, judge_words, numbers_of, is_at_most}
 use Rattle.spec_model.specs.Spec.{SpecValue}
-use Rattle.proof_checker.specs.Answers.{AllLong}
 use Rattle.result_text.specs.Fronts.{IsShaped}
 use Rattle.proof_checker.specs.Checkers.{vectors_in}
 use Rattle.proof_checker.specs.declared.faults.StepFault.TheVariants as steps
@@ -74,14 +72,6 @@ number_missing (v ∷ ws) (suc i) d l q = ap (with_said (number_of v.now)) (numb
     go (Some n) = refl
 
 -- ---- entries
-
-pub item_long : (n : ℕ) (es : List Entry) (i : ℕ) (e : Entry) → AllLong n (vectors_in es) → i < length es → e ≡ get_or es i e → length e.vector ≡ n
-item_long n es i e h l is =
-    let one : i < length (map as_seen es) = omega (arith, l, length-map es as_seen) in
-    let two : i < length (vectors_in es) = omega (arith, one, length-map (map as_seen es) vector_in) in
-    let there : get_or (vectors_in es) i [] ≡ e.vector = get_or-map vector_in (map as_seen es) i (as_seen e) [] one
-        ∙ (ap vector_in (get_or-map as_seen es i e (as_seen e) l) ∙ ap (λ (x : Entry). x.vector) (sym is)) in
-    sym (ap length there) ∙ h i [] two
 
 any_entries : (p : List ℕ → Bool) (es : List Entry) → list_any p (vectors_in es) ≡ list_any (λ (e : Entry). p e.vector) es
 any_entries p [] = refl

@@ -1,7 +1,7 @@
 -- Vectors that rise, and entries without fault.
 use Rattle.std.proofs.Common.{◌≡◌, ℕ, zero, suc, ◌+◌, ◌-◌, ◌<◌, ◌≤◌, true, false, eqb, List, [], ◌∷◌, length, map, take, get_or, refl, sym, ap, ◌∙◌, subst, arith, inl, inr}
-use Rattle.std.specs.Prelude.{All, slice_index, slice_index_or}
-use Rattle.std.proofs.lemmas.Bool.{cases_lt, cases_eq}
+use Rattle.std.specs.Prelude.{All, slice_index_or}
+use Rattle.std.proofs.lemmas.Bool.{cases_lt}
 use Rattle.std.proofs.lemmas.List.{get_or-map, length-map, get_or-take, length-take}
 use Rattle.spec_model.specs.Spec.{SpecValue}
 use Rattle.spec_model.specs.Vectors.{IsAtMost}
@@ -13,6 +13,7 @@ use Rattle.std.proofs.lemmas.List.Elements.{All-map, All-take}
 use Rattle.front_model.specs.declared.refusals.FrontWhy.{FrontWhy}
 use Rattle.front_model.specs.declared.refusals.FrontWhy.TheVariants.{Invalid, VectorDiffers, NotRising, CoveredBy, Open}
 use Rattle.front_model.specs.Faults.{StandsAfter, IsFine, HasFault, IsFaultAt, FaultOf, earlier}
+use Rattle.front_model.proofs.Rising.{through}
 use Rattle.proof_checker.specs.Answers.{AllLong}
 use Rattle.proof_checker.specs.Checkers.{vectors_in}
 
@@ -42,37 +43,6 @@ of_after es e v some is h =
     subst (λ (u : List ℕ). StandsBefore u v) at (h [] (omega (arith, some, vectors_long es)))
 
 -- ---- rising
-
-through : (u v w : List ℕ) → StandsBefore u v → StandsBefore v w → StandsBefore u w
-through u v w a b =
-    elim (cases_lt a.place b.place) [
-      | inl l ↦ record {
-        place = a.place;
-        same = λ j k. a.same j k ∙ b.same j (omega (arith, k, l));
-        less = omega (arith, a.less, b.same a.place l);
-      }
-      | inr g ↦ elim (cases_eq a.place b.place) [
-        | inl e ↦ record {
-          place = a.place;
-          same = λ j k. a.same j k ∙ b.same j (omega (arith, k, e));
-          less = omega (arith, a.less, subst (λ (p : ℕ). slice_index v p < slice_index w p) (sym e) b.less);
-        }
-        | inr n ↦
-            let l : b.place < a.place = below b.place a.place g n in
-            record {
-              place = b.place;
-              same = λ j k. a.same j (omega (arith, k, l)) ∙ b.same j k;
-              less = omega (arith, a.same b.place l, b.less);
-            }
-      ]
-    ]
-  where
-    below : (p q : ℕ) → p ≤ q → (q ≡ p → ⊥) → p < q
-    below p q h n =
-        elim (cases_lt p q) [
-          | inl l ↦ l
-          | inr g ↦ absurd (n (omega (arith, h, g)))
-        ]
 
 not_back : (u v : List ℕ) → StandsBefore u v → ¬ IsAtMost v u
 not_back u v a h = omega (arith, a.less, h a.place)

@@ -1,5 +1,5 @@
 -- What the solver's answer says, said of the decoder's answer that stands for it.
-use Rattle.std.proofs.Common.{◌≡◌, ℕ, ◌+◌, ◌<◌, ◌^◌, Bool, true, false, Some, List, [], ◌∷◌, ◌++◌, length, refl, sym, ap, ◌∙◌, subst, arith}
+use Rattle.std.proofs.Common.{◌≡◌, ℕ, ◌+◌, ◌<◌, ◌^◌, Bool, true, false, Some, List, [], ◌++◌, length, refl, sym, ap, ◌∙◌, subst, arith}
 use Rattle.std.specs.Prelude.{All}
 use Rattle.std.proofs.lemmas.List.Elements.{All-append}
 use Rattle.pb_rules.specs.Literal.{Literal}
@@ -17,17 +17,13 @@ use Rattle.ordered_solver.specs.declared.answer.Answer.TheVariants as answers
 use Rattle.ordered_solver.specs.Answers.{IsFirst, AnswerSays, AnswersInFrames, CountSays, GoesOnDerived, LinesSay, new_lines}
 use Rattle.ordered_solver.specs.Solver.{SolverValue, Agrees, constraints_of, numbered}
 use Rattle.ordered_solver.proofs.Agreeing.{agrees-new}
+use Rattle.ordered_solver.proofs.Numbered.{numbered_back}
 use Rattle.sat_decoder.specs.declared.decoded.Decoded.{Decoded}
 use Rattle.sat_decoder.specs.declared.decoded.Decoded.TheVariants.{First, Nothing, Budget}
 use Rattle.sat_decoder.specs.Decoder.{IsFrameOf, IsLogOf, IsSolverOf}
 use Rattle.sat_decoder.specs.Decoding.{DecodedSays, LineCountSays, NewLinesSay, IsShown}
 use Rattle.sat_decoder.specs.Models.{MayHaveModel, StandsFor}
 use Rattle.sat_decoder.proofs.Firsts.{first_valid, no_valid, shows_design}
-
--- constraints that were numbered, without their numbers
-numbered_back : (id : ℕ) (cs : List Linear) → constraints_of (numbered id cs) ≡ cs
-numbered_back id [] = refl
-numbered_back id (c ∷ cs) = ap (λ (ds : List Linear). c ∷ ds) (numbered_back (id + 1) cs)
 
 -- the given constraints of a solver of a specification
 encoding_given : (s : SpecValue) (solver : SolverValue) → IsSolverOf s solver → constraints_of solver.given ≡ encoding s

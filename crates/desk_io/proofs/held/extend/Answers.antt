@@ -1,8 +1,9 @@
 use Rattle.std.proofs.Common.{ℕ, List, ◌++◌, refl, sym, ap, ◌∙◌}
 use Rattle.std.specs.List.{position}
 use Rattle.desk_io.specs.MemoryState.{has_name}
-use Rattle.desk_io.proofs.HeldLemmas.{written_in_place, written_at_end, content_there, content_absent, entries-set_same, on_err}
+use Rattle.desk_io.proofs.HeldLemmas.{written_in_place, written_at_end, content_there, content_absent, entries-set_same}
 use Rattle.desk_io.proofs.held.extend.Goals as goal
+use Rattle.plain_lists.proofs.Results.{on_err}
 
 pub returns-in_err-extend_from_slice-in-Some-clause-err :
     goal.returns-in_err-extend_from_slice-in-Some-clause-err

@@ -2,9 +2,9 @@ use Rattle.std.proofs.Common.{ℕ, List, [], ◌∷◌, ◌++◌, ◌≡◌, ◌
 use Rattle.std.proofs.lemmas.List.{with_items_is, length-map}
 use Rattle.dominance_lanes.specs.Columns.{Vectors, AreColumns}
 use Rattle.dominance_lanes.specs.Groups.{with_row}
-use Rattle.dominance_lanes.proofs.ColumnEdits.{on_err}
 use Rattle.dominance_lanes.proofs.Rows.{seen, completed_by, rows-with_row, are-with_row}
 use Rattle.dominance_lanes.proofs.Columns.push.Goals as goal
+use Rattle.plain_lists.proofs.Results.{on_err}
 
 pub returns-in_err-complete-clause-err : goal.returns-in_err-complete-clause-err
 returns-in_err-complete-clause-err c =

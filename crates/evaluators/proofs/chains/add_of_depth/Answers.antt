@@ -1,9 +1,9 @@
 use Rattle.std.proofs.Common.{rules, ◌≡◌, ◌++◌, [], ◌∷◌, ◌∙◌, All, arith, length, subst, sym}
-use Rattle.std.proofs.lemmas.Bool.{eq-eqb}
 use Rattle.std.proofs.lemmas.List.Elements.{All-push}
+use Rattle.std.proofs.lemmas.Bool.{ne_eqb, eq-eqb}
 use Rattle.spec_model.specs.Schedule.{has_depth}
 use Rattle.evaluators.specs.Marks.{IsBelow}
-use Rattle.evaluators.proofs.Deepening.{placed_yes, placed_no, depth_test, unequal}
+use Rattle.evaluators.proofs.Deepening.{placed_yes, placed_no, depth_test}
 use Rattle.evaluators.proofs.chains.add_of_depth.Goals as goal
 use Rattle.evaluators.proofs.chains.add_of_depth.Goals.{then-depths-t+in_ok-push, else-depths-t}
 
@@ -23,7 +23,7 @@ loop-t-preserved c =
           let same : c.if-depths-t.order.items ≡ c.loop-t.order.items = search rules in
           record {
             added = λ s are. same ∙ placed_no (has_depth s c.args.d) c.loop-t.t c.args.order.now.items c.loop-t.order.items
-                (depth_test s c.args.depths.now c.args.d c.loop-t.t are (omega (arith, are.each)) ∙ unequal _ _ w.if-depths-t.false) (c.loop-t.invariant.added s are);
+                (depth_test s c.args.depths.now c.args.d c.loop-t.t are (omega (arith, are.each)) ∙ ne_eqb _ _ w.if-depths-t.false) (c.loop-t.invariant.added s are);
             tasks = λ all. subst (All (IsBelow (length c.args.depths.now))) (sym same) (c.loop-t.invariant.tasks all);
           }
     ]
