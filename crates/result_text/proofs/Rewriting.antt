@@ -157,7 +157,8 @@ item_back s w (k ∷ a ∷ []) e =
         | inl t ↦
             let tests : item_tests s (k ∷ a ∷ []) ≡ name_tests s.links a = rw (f, t) refl in
             let variable : item_variable s (k ∷ a ∷ []) ≡ link_var s (number_of s.links a) = rw f refl in
-            item_by s (k ∷ a ∷ []) (codes "wire" ∷ a ∷ []) _ _ (cons_same k (codes "wire") (a ∷ []) (a ∷ []) ((bytes_eq-Decides k (codes "wire")).0 t) refl) variable (wire_back s a (sym (ap first_broken tests) ∙ e))
+            item_by s (k ∷ a ∷ []) (codes "wire" ∷ a ∷ []) _ _ (cons_same k (codes "wire") (a ∷ []) (a ∷ []) ((bytes_eq-Decides k (codes "wire")).0 t) refl) variable
+                (wire_back s a (sym (ap first_broken tests) ∙ e))
         | inr g ↦ absurd (let tests : item_tests s (k ∷ a ∷ []) ≡ misshapen = rw (f, g) refl in misshapen_not (sym (ap first_broken tests) ∙ e))
       ]
     ]
@@ -174,7 +175,8 @@ item_back s w (k ∷ a ∷ b ∷ c ∷ d ∷ []) e =
     elim (cases_Bool (bytes_eq k (codes "use"))) [
       | inl t ↦
           let tests : item_tests s (k ∷ a ∷ b ∷ c ∷ d ∷ []) ≡ use_tests s a b c d = rw t refl in
-          item_by s (k ∷ a ∷ b ∷ c ∷ d ∷ []) (codes "use" ∷ a ∷ b ∷ c ∷ d ∷ []) _ _ (cons_same k (codes "use") (a ∷ b ∷ c ∷ d ∷ []) (a ∷ b ∷ c ∷ d ∷ []) ((bytes_eq-Decides k (codes "use")).0 t) refl) refl
+          item_by s (k ∷ a ∷ b ∷ c ∷ d ∷ []) (codes "use" ∷ a ∷ b ∷ c ∷ d ∷ []) _ _
+              (cons_same k (codes "use") (a ∷ b ∷ c ∷ d ∷ []) (a ∷ b ∷ c ∷ d ∷ []) ((bytes_eq-Decides k (codes "use")).0 t) refl) refl
               (use_back s w a b c d (sym (ap first_broken tests) ∙ e))
       | inr f ↦ absurd (let tests : item_tests s (k ∷ a ∷ b ∷ c ∷ d ∷ []) ≡ misshapen = rw f refl in misshapen_not (sym (ap first_broken tests) ∙ e))
     ]
