@@ -1,8 +1,9 @@
 -- The numbers of several words, read one by one.
 use Rattle.std.proofs.Common.{◌≡◌, ℕ, ◌+◌, ◌<◌, Bool, false, ◌||◌, List, [], ◌∷◌, ◌++◌, length, map, take, get_or, refl, sym, ap, ◌∙◌, Bor}
 use Rattle.std.proofs.lemmas.List.{map_push}
+use Rattle.std.proofs.Math.Bool.{or-false}
 use Rattle.line_words.specs.Rules.{Words, said}
-use Rattle.file_bricks.proofs.Deciding.{or_false, or_or}
+use Rattle.file_bricks.proofs.Deciding.{or_or}
 use Rattle.arch_reader.specs.Numbers.{fine, both, all_misread}
 use Rattle.arch_reader.specs.declared.numbers.Misread.{Misread}
 use Rattle.file_bricks.proofs.Said.{said-more}
@@ -14,7 +15,7 @@ made_same : (a b c d : Bool) → a ≡ b → c ≡ d → made a c ≡ made b d
 made_same a b c d e f = ap (λ (x : Bool). made x c) e ∙ ap (λ (x : Bool). made b x) f
 
 both_fine : (m : Misread) → both m fine ≡ m
-both_fine m = made_same (m.bad || false) m.bad (m.big || false) m.big (or_false m.bad) (or_false m.big)
+both_fine m = made_same (m.bad || false) m.bad (m.big || false) m.big (or-false m.bad) (or-false m.big)
 
 both_assoc : (a b c : Misread) → both a (both b c) ≡ both (both a b) c
 both_assoc a b c = made_same (a.bad || (b.bad || c.bad)) ((a.bad || b.bad) || c.bad) (a.big || (b.big || c.big)) ((a.big || b.big) || c.big) (or_or a.bad b.bad c.bad) (or_or a.big b.big c.big)

@@ -3,7 +3,7 @@ use Rattle.std.proofs.Common.{◌≡◌, ℕ, zero, suc, ◌+◌, ◌-◌, ◌*�
 use Rattle.std.specs.Prelude.{All, slice_index}
 use Rattle.std.specs.List.{sum_by, range_with_len}
 use Rattle.std.proofs.lemmas.Bool.{ltb-true}
-use Rattle.std.proofs.lemmas.List.Elements.{All-append, All-cons, All-from_recursion}
+use Rattle.std.proofs.lemmas.List.Elements.{All-append, All-cons, All-from_recursion, All-map}
 use Rattle.std.proofs.lemmas.List.Sums.{sum_by-cons, sum_by-append}
 use Rattle.pb_rules.specs.declared.Term.{Term}
 use Rattle.pb_rules.specs.Linear.{Linear, IsNormal, VarsBelow, total}
@@ -11,7 +11,7 @@ use Rattle.pb_constraints.specs.Sets.{IsBelow}
 use Rattle.spec_model.specs.Spec.{SpecValue, below, those, design_variables, all_variables}
 use Rattle.spec_model.specs.Vectors.{weight}
 use Rattle.spec_model.specs.WellFormed.{IsWellFormed}
-use Rattle.spec_model.proofs.Joined.{All-ones, All-from_map, All-those}
+use Rattle.spec_model.proofs.Joined.{All-ones, All-those}
 use Rattle.spec_model.proofs.Sums.{sum_by_map}
 use Rattle.spec_model.proofs.Those.{sum_by-those_more, sum_by-below_more}
 use Rattle.encode_model.specs.Rising.{TermsWithin}
@@ -111,7 +111,7 @@ unfolding weighted all_variables
 number_up_to s b j m n l =
     at_least-each (IsUpTo n) (gap s j m) (unused_terms s j ++ not_below s b j m ∷ [])
     (All-append (IsUpTo n) (unused_terms s j) (not_below s b j m ∷ [])
-    (All-from_map (IsUpTo n) (weighted (weight s j) false) (those (has_weight (weight s j)) (design_variables s))
+    (All-map (IsUpTo n) (weighted (weight s j) false) (those (has_weight (weight s j)) (design_variables s))
         (All-those (λ (x : ℕ). x < n) (has_weight (weight s j)) (design_variables s) (λ x h e. omega (arith, l, h))))
     (All-from_recursion (IsUpTo n) (not_below s b j m ∷ []) (omega (arith, l), tt)))
 

@@ -8,6 +8,7 @@ use Rattle.pb_rules.specs.declared.Term.{Term}
 use Rattle.pb_rules.specs.Linear.{Linear, VarsBelow}
 use Rattle.pb_rules.specs.Operations.{mentions}
 use Rattle.pb_rules.specs.Frames.{any_mentions, Line, derived, cover, HasNumbers, CoversHave, blocks_from, blocks_by}
+use Rattle.pb_rules.proofs.Known.{mentions-append}
 use Rattle.pb_constraints.specs.Sets.{IsBelow}
 use Rattle.spec_model.specs.Spec.{SpecValue, below, all_variables}
 use Rattle.spec_model.specs.WellFormed.{IsWellFormed}
@@ -33,14 +34,6 @@ not_known x n [] h l = refl
 not_known x n (c ∷ cs) h l =
     ap (λ (b : Bool). cond b true (any_mentions cs x)) (not_mentioned x n c.terms (All-head (IsBelow n) c cs h) l) ∙ not_known x n cs (All-tail (IsBelow n) c cs h) l
 
-any_mentions-append : (x : ℕ) (cs ds : List Linear) → any_mentions (cs ++ ds) x ≡ cond (any_mentions cs x) true (any_mentions ds x)
-any_mentions-append x [] ds = refl
-any_mentions-append x (c ∷ cs) ds = ap (λ (b : Bool). cond (mentions x c.terms) true b) (any_mentions-append x cs ds) ∙ at (mentions x c.terms)
-  where
-    at : (b : Bool) → cond b true (cond (any_mentions cs x) true (any_mentions ds x)) ≡ cond (cond b true (any_mentions cs x)) true (any_mentions ds x)
-    at true = refl
-    at false = refl
-
 -- the variables of the encoding
 pub encoding_known : (s : SpecValue) → IsWellFormed s → KnowsBelow (encoding s) (all_variables s)
 encoding_known s wf x =
@@ -63,7 +56,7 @@ own_known s b j v l =
 pub block_known : (s : SpecValue) (b : ℕ) (v : List ℕ) (cs : List Linear) → length v ≡ length s.objectives → KnowsBelow cs (variables_to s b)
     → KnowsBelow (cs ++ block_of s (b + 1) v) (variables_to s (b + 1))
 block_known s b v cs long h x =
-    any_mentions-append x cs (block_of s (b + 1) v) ∙ (ap (λ (t : Bool). cond t true (any_mentions (block_of s (b + 1) v) x)) (h x)
+    mentions-append cs (block_of s (b + 1) v) x ∙ (ap (λ (t : Bool). cond t true (any_mentions (block_of s (b + 1) v) x)) (h x)
     ∙ at (cases_lt x (variables_to s b)) (cases_lt x (variables_to s (b + 1))))
   where
     at : (x < variables_to s b) ⊎ (variables_to s b ≤ x) → (x < variables_to s (b + 1)) ⊎ (variables_to s (b + 1) ≤ x)

@@ -1,19 +1,15 @@
-use Rattle.std.proofs.Common.{◌≡◌, ◌≢◌, ℕ, ◌+◌, ◌<◌, ◌≤◌, Bool, true, false, cond, eqb, Option, Some, None, List, refl, sym, ap, ◌∙◌, subst, arith, inl, inr, zero, suc}
+use Rattle.std.proofs.Common.{◌≡◌, ◌≢◌, ℕ, ◌+◌, ◌<◌, ◌≤◌, Bool, cond, eqb, Option, Some, None, List, refl, sym, ap, ◌∙◌, subst, arith, inl, inr, zero, suc}
 use Rattle.std.specs.Prelude.{count_by}
-use Rattle.std.proofs.lemmas.Bool.{cases_eq}
+use Rattle.std.proofs.lemmas.Bool.{cases_eq, cond_both}
 use Rattle.std.proofs.lemmas.List.Sums.{sum_by-cons}
 use Rattle.pb_rules.specs.declared.Term.{Term}
 use Rattle.conflict_graph.specs.Clauses.{with_literal, clause_row}
 use Rattle.trail_state.specs.Trail.{Entry, level_of, level_in}
 use Rattle.conflict_graph.specs.Learning.{current_at, currents}
 
-cond-one : (b : Bool) → cond b 1 0 ≤ 1
-cond-one true = omega arith
-cond-one false = omega arith
-
 pub current-le : (es : List Entry) (x : ℕ) (o : Option Bool) → current_at es x o ≤ 1
 current-le es x None = omega arith
-current-le es x (Some b) = cond-one (eqb (level_in es x) (level_of es))
+current-le es x (Some b) = cond_both (eqb (level_in es x) (level_of es)) 1 0 (λ (n : ℕ). n ≤ 1) (λ _. omega arith) (λ _. omega arith)
 
 pub currents-le : (n k : ℕ) (es : List Entry) (f : ℕ → Option Bool) → currents n k es f ≤ n
 currents-le zero k es f = omega arith

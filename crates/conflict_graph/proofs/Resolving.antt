@@ -1,8 +1,9 @@
 use Rattle.std.proofs.Common.{◌≡◌, ◌≢◌, ℕ, ◌+◌, ◌<◌, ◌^◌, Bool, true, false, not, cond, eqb, Option, Some, None, List, [], ◌∷◌, ◌++◌, length, get_or, take, refl, sym, ap, ◌∙◌, subst, arith, zero, suc, map, is_some, is_none}
-use Rattle.std.specs.Prelude.{All, Result, Ok, Err, OnOk}
+use Rattle.std.specs.Prelude.{All}
 use Rattle.std.proofs.Math.Path.{fun_ext}
 use Rattle.std.proofs.lemmas.List.{take_all, length-map}
 use Rattle.std.proofs.lemmas.Bool.Decides.{nat_tests}
+use Rattle.std.proofs.Math.Bool.{not-not}
 use Rattle.pb_constraints.specs.declared.ConId.{ConId}
 use Rattle.pb_rules.specs.declared.Term.{Term}
 use Rattle.pb_rules.specs.Literal.{Literal}
@@ -19,7 +20,7 @@ use Rattle.pb_rules.specs.Partial.{flipped, GoesOn}
 use Rattle.trail_state.proofs.Levels.{first-at, before-level}
 use Rattle.trail_state.proofs.Entries.{value-more_same}
 use Rattle.conflict_graph.proofs.Signs.{signs-false}
-use Rattle.conflict_graph.proofs.Steps.{not-not, IsResolvent, learning-resolve, learning-skip, decision-alone}
+use Rattle.conflict_graph.proofs.Steps.{IsResolvent, learning-resolve, learning-skip, decision-alone}
 
 pub lit-at : (es : List Entry) (p : ℕ) (l : Literal) (d : Entry) → p < length es → l ≡ get_or (map (λ (e : Entry). e.lit) es) p l → l ≡ (get_or es p d).lit
 lit-at [] p l d h e = absurd (omega arith)
@@ -123,10 +124,6 @@ skip-place live es n p l f count ops h e none learning =
     let d : Entry = record { lit = l; reason = None } in
     let q : l ≡ (get_or es p d).lit = lit-at es p l d h e in
     learning-skip live es n p d f count ops h (ap (λ (m : Literal). f m.var) (sym q) ∙ none) learning
-
-pub on-ok : {T E : Type 0} (r : Result T E) (P Q : Type 0) → (P → Q) → OnOk r P → OnOk r Q
-on-ok (Ok x) P Q f h = f h
-on-ok (Err e) P Q f h = tt
 
 pub start-same : (live : List Live) (es : List Entry) (n p k : ℕ) (f g : ℕ → Option Bool) (ops ops' : List Op) → p ≡ length es → f ≡ g → k ≡ currents n 0 es f → ops' ≡ ops
     → Learning live es n (length es) g (currents n 0 es g) ops → Learning live es n p f k ops'

@@ -2,14 +2,13 @@
 use Rattle.std.proofs.Common.{◌≡◌, ℕ, zero, suc, ◌+◌, ◌<◌, ◌≤◌, Bool, true, false, cond, List, [], ◌∷◌, ◌++◌, length, refl, subst, arith, ◌⊎◌, inl, inr}
 use Rattle.std.specs.Prelude.{map, not}
 use Rattle.std.specs.List.{count_by, flat_map}
-use Rattle.std.proofs.lemmas.Bool.{cases_lt, false≢true}
+use Rattle.std.proofs.lemmas.Bool.{cases_lt, false≢true, eq-eqb, eqb-true}
 use Rattle.pb_rules.specs.Linear.{Holds}
 use Rattle.spec_model.specs.Spec.{SpecValue, Bits, message_at, arc_at, option_at, arc_var, resource_var, link_var, covered_var}
 use Rattle.spec_model.specs.Rules.{Uses, Walk, WalkBelow, IsResourceNeeded, IsLinkNeeded, arcs_of, of_link, sender_of}
 use Rattle.spec_model.specs.WellFormed.{IsWellFormed}
 use Rattle.spec_model.proofs.InRange.{arc_in, option_in, message_in}
 use Rattle.spec_model.proofs.Once.{counted}
-use Rattle.spec_model.proofs.Tests.{to_test, from_test}
 use Rattle.spec_model.proofs.Counts.{bit, count-map, some_those, some_below, counted_below, some_piece, count-piece_le}
 use Rattle.encode_model.specs.Encoding.{negative, positives, on_resource, options_on, messages_of, cover_of, option_allocates, cover_allocates, resource_has_use, arc_allocates, link_arcs, link_has_use}
 use Rattle.pb_rules.proofs.Sums.{true_weight-cons}
@@ -59,7 +58,7 @@ module _ (s : SpecValue) (f : Bits) (parts : HasParts s) (walked : (m : ℕ) →
   unfolding on_resource
   option_of_use r l =
       let x = some_those f (on_resource s r) (length s.options) l in
-      inl (record { task = (option_at s x.0).task; in_range = parts.tasks x.0 x.1; on = record { choice = x.0; in_range = x.1; chosen = x.3; of_task = refl; on_resource = from_test _ _ x.2 } })
+      inl (record { task = (option_at s x.0).task; in_range = parts.tasks x.0 x.1; on = record { choice = x.0; in_range = x.1; chosen = x.3; of_task = refl; on_resource = eqb-true _ _ x.2 } })
 
   cover_of_use : (r : ℕ) → r < length s.resources → 1 ≤ count_by f (map (cover_of s r) (messages_of s)) → IsResourceNeeded s f r
   unfolding cover_of
@@ -101,7 +100,7 @@ module _ (s : SpecValue) (f : Bits) (parts : HasParts s) (walked : (m : ℕ) →
       let sum : 1 ≤ count_by f us = omega (arith, all, true_weight-append f (positives us) (negative v ∷ []), true_weight-cons f (negative v) [], weight-positives f us, not_bit (f v) wi) in
       let x = some_piece f (link_arcs s l) (length s.messages) sum in
       let y = some_those (λ a. f (arc_var s x.0 a)) (of_link s l) (length s.arcs) (omega (arith, x.2, count-map f (arc_var s x.0) (arcs_of s l))) in
-      record { message = x.0; in_range = x.1; arc = y.0; used = record { in_range = y.1; bit = y.3 }; of_link = from_test _ _ y.2 }
+      record { message = x.0; in_range = x.1; arc = y.0; used = record { in_range = y.1; bit = y.3 }; of_link = eqb-true _ _ y.2 }
 
   pub link_of_needed : IsAllocationModel s f → (l : ℕ) → IsLinkNeeded s f l → f (link_var s l) ≡ true
   unfolding arc_allocates
@@ -112,7 +111,7 @@ module _ (s : SpecValue) (f : Bits) (parts : HasParts s) (walked : (m : ℕ) →
   use_of_needed : (r : ℕ) → r < length s.resources → ((m a : ℕ) → m < length s.messages → Uses s f m a → WalkBelow s f m (arc_at s a).tail (message_at s m).limit) → IsResourceNeeded s f r
       → 1 ≤ count_by f (options_on s r) + count_by f (map (cover_of s r) (messages_of s))
   unfolding on_resource cover_of
-  use_of_needed r hr has_walk (inl x) = omega (arith, counted f (on_resource s r) (length s.options) x.on.choice x.on.in_range (to_test x.on.on_resource) x.on.chosen)
+  use_of_needed r hr has_walk (inl x) = omega (arith, counted f (on_resource s r) (length s.options) x.on.choice x.on.in_range (eq-eqb _ _ x.on.on_resource) x.on.chosen)
   use_of_needed r hr has_walk (inr x) =
       let t = x.touched in
       let c = covered_of_touch x.message r t.arc x.in_range t.used (has_walk x.message t.arc x.in_range t.used) t.at_end in
@@ -144,7 +143,7 @@ module _ (s : SpecValue) (f : Bits) (parts : HasParts s) (walked : (m : ℕ) →
       sum false e = omega arith
       sum true e =
           let x = (routed.link_use l hl).0 e in
-          let one = counted (λ a. f (arc_var s x.message a)) (of_link s l) (length s.arcs) x.arc x.used.in_range (to_test x.of_link) x.used.bit in
+          let one = counted (λ a. f (arc_var s x.message a)) (of_link s l) (length s.arcs) x.arc x.used.in_range (eq-eqb _ _ x.of_link) x.used.bit in
           omega (arith, one, count-map f (arc_var s x.message) (arcs_of s l), count-piece_le f (link_arcs s l) (length s.messages) x.message x.in_range)
 
   pub allocation_of : IsRouted s f → IsAllocationModel s f

@@ -3,9 +3,10 @@ use Rattle.std.proofs.Common.{ℕ, ◌<◌, List, ◌++◌, length}
 use Rattle.std.specs.Prelude.{map, All}
 use Rattle.std.specs.List.{flat_map}
 use Rattle.std.proofs.lemmas.List.Elements.{All-append}
+use Rattle.plain_lists.proofs.Joined.{All-right}
 use Rattle.pb_rules.specs.Linear.{Holds, IsModel}
 use Rattle.spec_model.specs.Spec.{SpecValue, Bits, below}
-use Rattle.spec_model.proofs.Joined.{All-left, All-right, All-piece, All-pieces, All-one, All-ones}
+use Rattle.spec_model.proofs.Joined.{All-left, All-piece, All-pieces, All-one, All-ones}
 use Rattle.encode_model.specs.Encoding.{one_option, sender_start, receivers_covered, covered_once, one_arc_in, arc_carries, steps_have_cause, no_dangling, routes_of, route_part, message_part, options_chosen, messages_of, resources_of, option_allocates, cover_allocates, covers_allocate, resource_has_use, arc_allocates, arcs_allocate, link_has_use, allocation, encoding, route_encoding}
 
 -- the families of a message but for receivers covered

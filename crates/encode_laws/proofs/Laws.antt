@@ -3,16 +3,16 @@ use Rattle.std.proofs.Common.{◌≡◌, ℕ, zero, suc, ◌+◌, ◌<◌, ◌�
 use Rattle.std.specs.Prelude.{All, Contains}
 use Rattle.std.specs.List.{sum_by}
 use Rattle.std.proofs.lemmas.List.{take_all}
-use Rattle.std.proofs.lemmas.List.Elements.{All-contains_itself}
-use Rattle.std.proofs.lemmas.Bool.{lt-ltb, false≢true}
+use Rattle.std.proofs.lemmas.List.Elements.{All-contains_itself, All-map}
+use Rattle.std.proofs.lemmas.Bool.{lt-ltb, false≢true, eq-eqb, eqb-true}
 use Rattle.pb_rules.specs.Linear.{Holds, IsModel}
 use Rattle.spec_model.specs.Spec.{SpecValue, Bits, bits_of, message_at, arc_at, option_at, further, base, design_variables, all_variables, covered_var}
 use Rattle.spec_model.specs.Rules.{IsOn, Uses, Walk, WalkBelow, IsRouted, IsValid, IsUnreached, options_of, of_task}
 use Rattle.spec_model.specs.Genotypes.{IsSameDesign}
 use Rattle.spec_model.specs.WellFormed.{IsWellFormed}
 use Rattle.spec_model.proofs.Decide.{passes_some, some_passes-from, Walk-from_test, walk_test-from}
-use Rattle.spec_model.proofs.Tests.{from_test, to_test, Contains-those}
-use Rattle.spec_model.proofs.Joined.{All-piece_of, All-pieces_of, All-of_map, All-from_map, All-those}
+use Rattle.spec_model.proofs.Tests.{Contains-those}
+use Rattle.spec_model.proofs.Joined.{All-piece_of, All-pieces_of, All-of_map, All-those}
 use Rattle.spec_model.proofs.Along.{same_back, Walk-along, reached-along, IsRouted-along, IsValid-along, IsUnreached-along}
 use Rattle.encode_model.specs.Encoding.{encoding, route_encoding, receiver_covered, option_covers, view}
 use Rattle.encode_model.proofs.Weights.{if_then, from_if_then, exactly_one}
@@ -74,15 +74,15 @@ module _ (s : SpecValue) (f : Bits) (m w : ℕ) (hm : m < length s.messages) (pa
   pub covered_of_holds : All (Holds f) (receiver_covered s m w) → IsCovered
   unfolding option_covers of_task
   covered_of_holds h r on =
-      let here = All-of_map (Holds f) (option_covers s m) (options_of s w) on.choice h (Contains-those (of_task s w) (length s.options) on.choice on.in_range (to_test on.of_task)) in
+      let here = All-of_map (Holds f) (option_covers s m) (options_of s w) on.choice h (Contains-those (of_task s w) (length s.options) on.choice on.in_range (eq-eqb _ _ on.of_task)) in
       subst (λ (q : ℕ). f (covered_var s m q) ≡ true) on.on_resource (if_then f on.choice (covered_var s m (option_at s on.choice).resource) here on.chosen)
 
   pub holds_of_covered : IsCovered → All (Holds f) (receiver_covered s m w)
   unfolding option_covers of_task
   holds_of_covered h =
-      All-from_map (Holds f) (option_covers s m) (options_of s w) (All-those (λ o. Holds f (option_covers s m o)) (of_task s w) (length s.options)
+      All-map (Holds f) (option_covers s m) (options_of s w) (All-those (λ o. Holds f (option_covers s m o)) (of_task s w) (length s.options)
           (λ o l e. from_if_then f o (covered_var s m (option_at s o).resource) (λ c. h (option_at s o).resource
-          (record { choice = o; in_range = l; chosen = c; of_task = from_test _ _ e; on_resource = refl }))))
+          (record { choice = o; in_range = l; chosen = c; of_task = eqb-true _ _ e; on_resource = refl }))))
 
   pub reached_of_covered : IsCovered → (r : ℕ) → IsOn s f w r → (n : ℕ) × Walk s f m r n
   reached_of_covered h r on = let x = walks.short_walk r (on_in_range r on) (h r on) in (x.0, x.2)

@@ -4,12 +4,12 @@ use Rattle.std.specs.Prelude.{map, not, nat_eq, All}
 use Rattle.std.specs.List.{count_by}
 use Rattle.std.proofs.lemmas.List.{length-map}
 use Rattle.std.proofs.lemmas.List.Elements.{All-append, All-from_recursion}
-use Rattle.std.proofs.lemmas.Bool.{cases_lt, and_from, false_from_ne_true}
+use Rattle.std.proofs.lemmas.Bool.{cases_lt, and_from, false_from_ne_true, eq-eqb, eqb-true}
 use Rattle.pb_rules.specs.Linear.{Holds}
 use Rattle.spec_model.specs.Spec.{SpecValue, Bits, below, message_at, arc_at, option_at, arc_var, step_var, covered_var}
 use Rattle.spec_model.specs.Rules.{IsOn, Uses, Walk, WalkBelow, BoundOnce, GoesOnFrom, options_of, of_task, of_task_on, goes_into, leaves, arc_bit, uses_into, arcs_into, arcs_from, sender_of}
 use Rattle.spec_model.proofs.Once.{counted}
-use Rattle.spec_model.proofs.Tests.{to_test, from_test, member_passes, Contains-those}
+use Rattle.spec_model.proofs.Tests.{member_passes, Contains-those}
 use Rattle.std.proofs.lemmas.Bool.{and_parts}
 use Rattle.spec_model.proofs.Counts.{bit, count-map, some_those, some_below, counted_below, at_most_one, count-and_le}
 use Rattle.spec_model.proofs.Joined.{All-two, All-ones}
@@ -61,11 +61,11 @@ module _ (s : SpecValue) (f : Bits) (m : ℕ) (hm : m < length s.messages) (part
   start_option r l =
       let x = some_those f (of_task_on s (sender_of s m) r) (length s.options) l in
       let tests = and_parts _ _ x.2 in
-      record { choice = x.0; in_range = x.1; chosen = x.3; of_task = from_test _ _ tests.0; on_resource = from_test _ _ tests.1 }
+      record { choice = x.0; in_range = x.1; chosen = x.3; of_task = eqb-true _ _ tests.0; on_resource = eqb-true _ _ tests.1 }
 
   option_start : (r : ℕ) → IsOn s f (sender_of s m) r → 1 ≤ count_by f (option_on s (sender_of s m) r)
   unfolding of_task_on
-  option_start r x = counted f (of_task_on s (sender_of s m) r) (length s.options) x.choice x.in_range (and_from _ _ (to_test x.of_task) (to_test x.on_resource)) x.chosen
+  option_start r x = counted f (of_task_on s (sender_of s m) r) (length s.options) x.choice x.in_range (and_from _ _ (eq-eqb _ _ x.of_task) (eq-eqb _ _ x.on_resource)) x.chosen
 
   start_is : (r : ℕ) → r < length s.resources → count_by f (option_on s (sender_of s m) r) ≡ bit (f (step_var s m r 0))
   start_is r hr = at (f (step_var s m r 0)) refl
@@ -135,13 +135,13 @@ module _ (s : SpecValue) (f : Bits) (m : ℕ) (hm : m < length s.messages) (part
 
   used_into : (r a : ℕ) → Uses s f m a → (arc_at s a).head ≡ r → 1 ≤ uses_into s f m r
   unfolding uses_into arc_bit goes_into
-  used_into r a u e = counted (arc_bit s f m) (goes_into s r) (length s.arcs) a u.in_range (to_test e) u.bit
+  used_into r a u e = counted (arc_bit s f m) (goes_into s r) (length s.arcs) a u.in_range (eq-eqb _ _ e) u.bit
 
   into_used : (r : ℕ) → 1 ≤ uses_into s f m r → (a : ℕ) × Uses s f m a × ((arc_at s a).head ≡ r)
   unfolding uses_into arc_bit goes_into
   into_used r l =
       let x = some_those (arc_bit s f m) (goes_into s r) (length s.arcs) l in
-      (x.0, record { in_range = x.1; bit = x.3 }, from_test _ _ x.2)
+      (x.0, record { in_range = x.1; bit = x.3 }, eqb-true _ _ x.2)
 
   into_is : (r : ℕ) → r < length s.resources → uses_into s f m r ≡ steps_true s f m r 1
   into_is r hr =
@@ -234,7 +234,7 @@ module _ (s : SpecValue) (f : Bits) (m : ℕ) (hm : m < length s.messages) (part
           let w = walked.walk q (suc t) hq (omega (arith, ht)) (subst (λ (k : ℕ). f (step_var s m q k) ≡ true) (plus_one t) e) in
           let p = (arc_at s w.0).tail in
           let hp = (parts.ends w.0 w.1.in_range).0 in
-          let test = member_passes (leaves s p) (arcs_into s q) w.0 (Contains-those (goes_into s q) (length s.arcs) w.0 w.1.in_range (to_test w.2)) (to_test refl) in
+          let test = member_passes (leaves s p) (arcs_into s q) w.0 (Contains-those (goes_into s q) (length s.arcs) w.0 w.1.in_range (eq-eqb _ _ w.2)) (eq-eqb _ _ refl) in
           omega (arith, count-map f (step_at s m t) (neighbours s q), counted (λ r. f (step_var s m r t)) (leads_to s q) (length s.resources) p hp test (walked.step p t hp (omega (arith, ht)) w.3))
 
   -- no dangling branch
@@ -245,11 +245,11 @@ module _ (s : SpecValue) (f : Bits) (m : ℕ) (hm : m < length s.messages) (part
   end_sum r hr true e = of_walk (walked.short_walk r hr e)
     where
       of_end : GoesOnFrom s f m r → 1 ≤ count_by f (receiver_options s m r) + count_by f (arc_vars s m (arcs_from s r))
-      of_end (inl x) = omega (arith, count-map f (arc_var s m) (arcs_from s r), counted (λ a. f (arc_var s m a)) (leaves s r) (length s.arcs) x.arc x.used.in_range (to_test x.from) x.used.bit)
+      of_end (inl x) = omega (arith, count-map f (arc_var s m) (arcs_from s r), counted (λ a. f (arc_var s m a)) (leaves s r) (length s.arcs) x.arc x.used.in_range (eq-eqb _ _ x.from) x.used.bit)
       of_end (inr x) =
           let on = x.2 in
-          let member = member_passes (is_number (option_at s on.choice).task) (message_at s m).receivers x.0 x.1 (to_test (sym on.of_task)) in
-          omega (arith, counted f (for_receiver s m r) (length s.options) on.choice on.in_range (and_from _ _ member (to_test on.on_resource)) on.chosen)
+          let member = member_passes (is_number (option_at s on.choice).task) (message_at s m).receivers x.0 x.1 (eq-eqb _ _ (sym on.of_task)) in
+          omega (arith, counted f (for_receiver s m r) (length s.options) on.choice on.in_range (and_from _ _ member (eq-eqb _ _ on.on_resource)) on.chosen)
 
       of_walk : WalkBelow s f m r ((message_at s m).limit + 1) → 1 ≤ count_by f (receiver_options s m r) + count_by f (arc_vars s m (arcs_from s r)) + bit (f (step_var s m r 0)) + bit (not true)
       of_walk (zero, l, w) = omega (arith, ap bit (walked.step r 0 hr (omega arith) w))

@@ -1,12 +1,11 @@
 -- From a model to routes: used arcs, steps and walks of one message.
 use Rattle.std.proofs.Common.{◌≡◌, ℕ, zero, suc, ◌+◌, ◌-◌, ◌<◌, ◌≤◌, Bool, true, false, length, refl, sym, ap, ◌∙◌, subst, arith, inl, inr}
 use Rattle.std.specs.List.{count_by}
-use Rattle.std.proofs.lemmas.Bool.{false≢true, cases_lt}
+use Rattle.std.proofs.lemmas.Bool.{false≢true, cases_lt, eqb-true}
 use Rattle.spec_model.specs.Spec.{SpecValue, Bits, below, message_at, arc_at, step_var, covered_var}
 use Rattle.spec_model.specs.Rules.{IsOn, Uses, Walk, WalkBelow, goes_into, arc_bit, uses_into, sender_of}
 use Rattle.encode_model.specs.Encoding.{step_after}
 use Rattle.spec_model.proofs.Counts.{bit, count-map, some_below, counted_below, same_below, some_those, count-below_first, count-agree}
-use Rattle.spec_model.proofs.Tests.{from_test}
 use Rattle.encode_laws.proofs.Equations.{Equations, HasEnds, steps_true}
 
 bit-le : (b : Bool) → bit b ≤ 1
@@ -56,7 +55,7 @@ module _ (s : SpecValue) (f : Bits) (m : ℕ) (ends_in : HasEnds s) (eqs : Equat
   used_into r t hr ht e =
       let many = counted_below (λ k. f (step_var s m r (1 + k))) (message_at s m).limit t ht e in
       let x = some_those (arc_bit s f m) (goes_into s r) (length s.arcs) (omega (arith, many, steps_1 s f m r, eqs.into r hr)) in
-      (x.0, record { in_range = x.1; bit = x.3 }, from_test _ _ x.2)
+      (x.0, record { in_range = x.1; bit = x.3 }, eqb-true _ _ x.2)
 
   -- a step that is reached is the length of a walk
   pub walk_of : (t r : ℕ) → r < length s.resources → t ≤ (message_at s m).limit → f (step_var s m r t) ≡ true → Walk s f m r t

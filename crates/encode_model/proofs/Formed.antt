@@ -2,14 +2,14 @@
 use Rattle.std.proofs.Common.{ℕ, ◌+◌, ◌-◌, ◌<◌, ◌^◌, true, false, List, [], ◌∷◌, ◌++◌, length, get_or, refl, sym, subst, arith}
 use Rattle.std.specs.Prelude.{All, map}
 use Rattle.std.specs.List.{flat_map}
-use Rattle.std.proofs.lemmas.List.Elements.{All-append, All-from_recursion}
+use Rattle.std.proofs.lemmas.List.Elements.{All-append, All-from_recursion, All-map}
 use Rattle.pb_rules.specs.declared.Term.{Term}
 use Rattle.pb_rules.specs.Linear.{Linear, IsNormal, VarsBelow}
 use Rattle.spec_model.specs.Spec.{SpecValue, below, message_at, arc_at, option_at, all_variables, arc_var, resource_var, link_var, step_var, covered_var}
 use Rattle.spec_model.specs.Rules.{of_task, of_task_on, options_of, goes_into, arcs_into, arcs_from, sender_of}
 use Rattle.spec_model.specs.WellFormed.{IsWellFormed}
 use Rattle.spec_model.proofs.InRange.{arc_in, option_in, limit_in}
-use Rattle.spec_model.proofs.Joined.{All-pieces, All-ones, All-pieces_of, All-two, All-from_map, All-those}
+use Rattle.spec_model.proofs.Joined.{All-pieces, All-ones, All-pieces_of, All-two, All-those}
 use Rattle.spec_model.proofs.Those.{few_those}
 use Rattle.encode_model.specs.Encoding.{positive, negative, positives, negatives, put, at_least, option_on, options_on, receiver_options, arc_vars, steps_from, neighbours, step_at, resources_of, messages_of, cover_of, link_arcs, one_option, sender_start, option_covers, receiver_covered, receivers_covered, covered_once, one_arc_in, carries, arc_carries, has_cause, steps_have_cause, no_dangling, routes_of, message_part, option_allocates, cover_allocates, covers_allocate, resource_has_use, arc_allocates, arcs_allocate, link_has_use, allocation, options_chosen, encoding}
 use Rattle.encode_model.specs.Rising.{IsRising}
@@ -46,7 +46,7 @@ module _ (s : SpecValue) (wf : IsWellFormed s) (P : Linear → Type 0) (made : (
   receiver_each : (m : ℕ) → m < length s.messages → (w : ℕ) → All P (receiver_covered s m w)
   unfolding option_covers
   receiver_each m hm w =
-      All-from_map P (option_covers s m) (options_of s w) (All-those (λ o. P (option_covers s m o)) (of_task s w) (length s.options) (λ o l e.
+      All-map P (option_covers s m) (options_of s w) (All-those (λ o. P (option_covers s m o)) (of_task s w) (length s.options) (λ o l e.
       (let r : ℕ = (option_at s o).resource in
       clause (negative o ∷ (positive (covered_var s m r) ∷ [])) (shapes.option_cover s m hm o r false true l (option_in s o wf l).resource))))
 

@@ -2,17 +2,17 @@
 use Rattle.std.proofs.Common.{◌≡◌, ℕ, zero, suc, ◌+◌, ◌-◌, ◌*◌, ◌/◌, ◌%◌, ◌<◌, ◌≤◌, Bool, true, false, cond, eqb, ltb, List, [], ◌∷◌, ◌++◌, length, map, refl, sym, ap, ◌∙◌, subst, arith, ◌⊎◌, inl, inr}
 use Rattle.std.specs.Prelude.{All}
 use Rattle.std.specs.List.{sum_by, flat_map, range_with_len}
-use Rattle.std.proofs.lemmas.Bool.{cases_lt, cases_Bool, eqb-true, false≢true}
-use Rattle.std.proofs.lemmas.Bool.Decides.{nat_tests}
+use Rattle.std.proofs.lemmas.Bool.{eq-eqb, cases_lt, cases_Bool, eqb-true, false≢true}
 use Rattle.std.proofs.lemmas.Nat.{div-add-mod', div_below, mod_below}
 use Rattle.std.proofs.lemmas.List.{take_all}
 use Rattle.std.proofs.lemmas.List.Elements.{All-cons, All-nil}
+use Rattle.plain_lists.proofs.Joined.{All-right}
 use Rattle.pb_rules.specs.declared.Term.{Term}
 use Rattle.pb_rules.specs.Linear.{Linear}
 use Rattle.pb_rules.specs.Operations.{mentions}
 use Rattle.pb_rules.specs.Frames.{any_mentions}
 use Rattle.spec_model.specs.Spec.{SpecValue, below, message_at, arc_at, option_at, arc_var, resource_var, link_var, step_var, covered_var, design_variables, all_variables, base, further}
-use Rattle.spec_model.proofs.Joined.{All-left, All-right, All-piece, All-one, All-second}
+use Rattle.spec_model.proofs.Joined.{All-left, All-piece, All-one, All-second}
 use Rattle.spec_model.proofs.Places.{agree_at}
 use Rattle.encode_model.specs.Encoding.{positive, negative, positives, put, by_variable, at_least, options_on, step_after, steps_from, resources_of, messages_of, cover_of, link_arcs, covered_once, one_arc_in, arc_carries, steps_have_cause, no_dangling, sender_start, receivers_covered, routes_of, message_part, option_allocates, covers_allocate, resource_has_use, arc_allocates, arcs_allocate, link_has_use, allocation, options_chosen, encoding}
 
@@ -21,12 +21,9 @@ abbrev pub HasVariable : ℕ → List Term → Type 0
 HasVariable x [] = ⊥
 HasVariable x (t ∷ ts) = (t.lit.var ≡ x) ⊎ HasVariable x ts
 
-eqb_self : (n : ℕ) → eqb n n ≡ true
-eqb_self n = grind (arith, nat_tests)
-
 pub mentions_of : (x : ℕ) (ts : List Term) → HasVariable x ts → mentions x ts ≡ true
 mentions_of x [] h = absurd h
-mentions_of x (t ∷ ts) (inl e) = ap (λ (b : Bool). cond b true (mentions x ts)) (subst (λ (y : ℕ). eqb t.lit.var y ≡ true) e (eqb_self t.lit.var))
+mentions_of x (t ∷ ts) (inl e) = ap (λ (b : Bool). cond b true (mentions x ts)) (eq-eqb t.lit.var x e)
 mentions_of x (t ∷ ts) (inr h) = go (mentions_of x ts h) (eqb t.lit.var x)
   where
     go : mentions x ts ≡ true → (b : Bool) → cond b true (mentions x ts) ≡ true

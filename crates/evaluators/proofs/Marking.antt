@@ -2,7 +2,7 @@
 use Rattle.std.proofs.Common.{◌≡◌, ℕ, zero, suc, ◌+◌, ◌<◌, Bool, true, false, cond, nat_eq, List, [], ◌∷◌, length, map, take, get_or, set, All, refl, sym, ap, ap₂, ◌∙◌, subst, arith, add-one, inl, inr}
 use Rattle.std.specs.Prelude.{◌||◌, ◌&&◌}
 use Rattle.std.specs.List.{list_any}
-use Rattle.std.proofs.lemmas.Bool.{cases_Bool}
+use Rattle.std.proofs.lemmas.Bool.{cases_Bool, eqb-true, eqb-false}
 use Rattle.std.proofs.lemmas.List.{get_or-set_same, get_or-set_other, get_or-map, length-map}
 use Rattle.std.proofs.lemmas.List.Folds.{list_any-append, list_any_more}
 use Rattle.std.proofs.Math.Bool.{or-false, or-true, or_assoc, and-true, and-false}
@@ -11,15 +11,14 @@ use Rattle.spec_model.specs.Schedule.{goes_to}
 use Rattle.spec_model.proofs.Those.{those-more}
 use Rattle.spec_graph.specs.declared.numbers.TaskNo.{TaskNo}
 use Rattle.spec_graph.specs.Lists.{task_number}
-use Rattle.impl_rules.proofs.Tests.{same_number, other_number}
 use Rattle.evaluators.specs.Marks.{IsBelow, is_marked, sender_marked, is_sent_to}
 
 -- a mark more
 set_mark : (marks : List Bool) (i t : ℕ) → i < length marks → is_marked (set marks i true) t ≡ (is_marked marks t || nat_eq t i)
 set_mark marks i t l = elim (cases_Bool (nat_eq t i)) [
-  | inl e ↦ subst (λ (k : ℕ). is_marked (set marks i true) k ≡ true) (sym (same_number t i e)) (get_or-set_same marks i true false l)
+  | inl e ↦ subst (λ (k : ℕ). is_marked (set marks i true) k ≡ true) (sym (eqb-true t i e)) (get_or-set_same marks i true false l)
       ∙ sym (ap (λ (b : Bool). is_marked marks t || b) e ∙ or-true (is_marked marks t))
-  | inr e ↦ get_or-set_other marks i t true false (other_number t i e) ∙ sym (ap (λ (b : Bool). is_marked marks t || b) e ∙ or-false (is_marked marks t))
+  | inr e ↦ get_or-set_other marks i t true false (eqb-false t i e) ∙ sym (ap (λ (b : Bool). is_marked marks t || b) e ∙ or-false (is_marked marks t))
 ]
 
 -- one more task of a list is marked

@@ -1,10 +1,10 @@
 -- What is written reads as it was written: a line of words with a space between two.
-use Rattle.std.proofs.Common.{◌≡◌, ◌≢◌, ℕ, suc, ◌+◌, ◌^◌, ◌<◌, ◌≤◌, Bool, true, false, ◌||◌, eqb, leb, ltb, List, [], ◌∷◌, ◌++◌, length, take, drop, None, Some, Ok, refl, ap, ◌∙◌, arith, inl, inr}
+use Rattle.std.proofs.Common.{◌≡◌, ◌≢◌, ℕ, suc, ◌+◌, ◌^◌, ◌<◌, ◌≤◌, Bool, true, false, ◌||◌, eqb, leb, ltb, List, [], ◌∷◌, ◌++◌, length, take, drop, None, Some, Ok, refl, ap, ◌∙◌, arith}
 use Rattle.std.specs.Prelude.{decimal}
 use Rattle.std.specs.List.{AllByRecursion, list_any, list_all, position_or_len, onto_first}
 use Rattle.std.specs.Char.{is_ascii_digit}
 use Rattle.std.specs.Str.Parse.{digits_value}
-use Rattle.std.proofs.lemmas.Bool.{cases_Bool, le-leb, leb-true, lt-ltb, le-ltb, eqb-true}
+use Rattle.std.proofs.lemmas.Bool.{le-leb, leb-true, lt-ltb, le-ltb, and_parts, ne_eqb}
 use Rattle.std.proofs.lemmas.List.{take_all, drop_all}
 use Rattle.std.proofs.lemmas.Fmt.{digits_decimal, digits_value-decimal, decimal_nonempty}
 use Rattle.std.proofs.Math.Seq.{take-append_seam, drop-append_seam}
@@ -15,7 +15,6 @@ use Rattle.line_words.specs.Numbers.{is_digits, whole_of}
 use Rattle.line_words.specs.Run.{run}
 use Rattle.line_words.specs.Front.{is_lf}
 use Rattle.line_words.proofs.Digits.{own}
-use Rattle.line_words.proofs.Whys.{both}
 use Rattle.line_words.proofs.Runs.{words_from-run, words_from-blank, words_from-nil}
 use Rattle.line_words.proofs.Least.{run-cons, first_broken-append-none}
 
@@ -39,17 +38,14 @@ IsWritten w = AllByRecursion IsWordByte w
 abbrev pub IsLine : List ℕ → Type 0
 IsLine l = AllByRecursion IsLineByte l
 
-not_equal : (a b : ℕ) → a ≢ b → eqb a b ≡ false
-not_equal a b ne = elim (cases_Bool (eqb a b)) [ inl t ↦ absurd (ne (eqb-true a b t)) | inr f ↦ f ]
-
 not_blank : (b : ℕ) → IsWordByte b → is_blank b ≡ false
-not_blank b h = rw (not_equal b 9 (λ e. omega (arith, e, h.low)), not_equal b 13 (λ e. omega (arith, e, h.low)), not_equal b 32 (λ e. omega (arith, e, h.low))) refl
+not_blank b h = rw (ne_eqb b 9 (λ e. omega (arith, e, h.low)), ne_eqb b 13 (λ e. omega (arith, e, h.low)), ne_eqb b 32 (λ e. omega (arith, e, h.low))) refl
 
 not_lf : (b : ℕ) → IsLineByte b → is_lf b ≡ false
-not_lf b h = not_equal b 10 (λ e. omega (arith, e, h.low))
+not_lf b h = ne_eqb b 10 (λ e. omega (arith, e, h.low))
 
 not_bad : (b : ℕ) → IsLineByte b → is_bad b ≡ false
-not_bad b h = rw (not_equal b 9 (λ e. omega (arith, e, h.low)), not_equal b 13 (λ e. omega (arith, e, h.low)), le-leb 32 b h.low, le-leb b 126 h.high) refl
+not_bad b h = rw (ne_eqb b 9 (λ e. omega (arith, e, h.low)), ne_eqb b 13 (λ e. omega (arith, e, h.low)), le-leb 32 b h.low, le-leb b 126 h.high) refl
 
 pub word_line : (w : List ℕ) → IsWritten w → IsLine w
 word_line [] h = tt
@@ -113,7 +109,7 @@ is_hash b = eqb b 35
 content-line : (l : List ℕ) → IsLine l → content l ≡ l
 content-line [] h = refl
 content-line (b ∷ l) h =
-    let f : is_hash b ≡ false = not_equal b 35 h.0.other in
+    let f : is_hash b ≡ false = ne_eqb b 35 h.0.other in
     let n : position_or_len is_hash (b ∷ l) ≡ suc (position_or_len is_hash l) = rw f (omega arith) in
     let cut : content (b ∷ l) ≡ b ∷ content l = rw n refl in
     cut ∙ ap (λ (t : List ℕ). b ∷ t) (content-line l h.1)
@@ -150,14 +146,14 @@ goes_on statement end number before l ls ws s fine =
 
 digit_byte : (b : ℕ) → is_ascii_digit b ≡ true → IsWordByte b
 digit_byte b h =
-    let parts = both (leb 48 b) (leb b 57) h in
+    let parts = and_parts (leb 48 b) (leb b 57) h in
     let low : 48 ≤ b = leb-true 48 b parts.0 in
     let high : b ≤ 57 = leb-true b 57 parts.1 in
     record { low = omega (arith, low); high = omega (arith, high); other = λ e. absurd (omega (arith, e, low)) }
 
 digit_word : (w : List ℕ) → list_all is_ascii_digit w ≡ true → IsWritten w
 digit_word [] h = tt
-digit_word (b ∷ w) h = let parts = both (is_ascii_digit b) (list_all is_ascii_digit w) h in (digit_byte b parts.0, digit_word w parts.1)
+digit_word (b ∷ w) h = let parts = and_parts (is_ascii_digit b) (list_all is_ascii_digit w) h in (digit_byte b parts.0, digit_word w parts.1)
 
 pub decimal_word : (n : ℕ) → n < 2 ^ 64 → IsWritten (decimal n)
 decimal_word n lt = digit_word (decimal n) (digits_decimal own n lt)

@@ -18,6 +18,7 @@ use Rattle.clap.specs.declared.parser.matches.ArgMatches.{ArgMatches}
 use Rattle.clap.specs.declared.error.kind.ErrorKind.{ErrorKind}
 use Rattle.form_words.specs.Reads.{Reads}
 use Rattle.std.proofs.lemmas.List.Elements.{All-head, All-tail, All-nil, All-cons}
+use Rattle.std.proofs.Math.Bool.{and_assoc}
 use Rattle.clap.specs.declared.error.Error.{Error}
 use Rattle.clap.specs.declared.error.kind.ErrorKind.TheVariants as kind
 use Rattle.form_words.specs.Commands.{ParsesTo, is_nothing as none}
@@ -35,10 +36,6 @@ pub record Builds (R : List Rule) (f : Form) : Type 0 where
   pub places : HasPlaces R 1 f.places
   pub defaults : NoDefaults R
   pub needs : (g : Text → Bool) → not (list_any (λ a. a.required && not (g a.id)) R) ≡ (list_all g f.places && list_all g f.required)
-
-and_assoc : (a b c : Bool) → ((a && b) && c) ≡ (a && (b && c))
-and_assoc true b c = refl
-and_assoc false b c = refl
 
 passes_is : (s : Shape) (w : Walk) (words : List Text) → s.args_override_self ≡ false
     → (none (walk_fault s [] w words) && none (settle_fault s.rules false (fold (walked s.rules []) w words).held)) ≡ passes s w words

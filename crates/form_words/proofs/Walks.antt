@@ -10,6 +10,8 @@ use Rattle.std.proofs.lemmas.Str.{encodes-chars, chars_past_char}
 use Rattle.std.specs.List.{All}
 use Rattle.std.proofs.lemmas.List.Elements.{All-head, All-tail}
 use Rattle.std.specs.Str.{bytes_eq, chars}
+use Rattle.std.proofs.lemmas.Bool.{or_parts}
+use Rattle.std.proofs.Math.Bool.{and_assoc, and-true, and-false}
 use Rattle.clap.specs.Lexer.{long_of, short_of, usize_max}
 use Rattle.clap.specs.Kinds.{Kinds, or_else}
 use Rattle.clap.specs.Walk.{Held, Rule, Row, Walk, arg_by_id, arg_by_index, arg_by_long, arg_by_short, settled, walked, idle, option as waits_for, is_pending, settled_rows, Waiting, value, to_positional, pushed, has_row, more_values, at_row, with_values, without, used, reading_by}
@@ -43,15 +45,11 @@ pub fault_new : (id : Text) (long : Option Text) (index : Option ℕ) (required 
 fault_new id long index required v rows =
     elim (has_row id rows) as (λ b. none (or_else (cond (b && true) (kind.ArgumentConflict ∷ []) []) []) ≡ not b) [ true ↦ refl | false ↦ refl ]
 
-or_false : (a b : Bool) → (a || b) ≡ false → (a ≡ false) × (b ≡ false)
-or_false true b e = cc
-or_false false b e = (refl, e)
-
 -- a row that isn't there goes to the end
 row_at_end : (id : Text) (change : Row → List Row) (missing rows : List Row) → has_row id rows ≡ false → at_row id change missing rows ≡ rows ++ missing
 row_at_end id change missing [] e = refl
 row_at_end id change missing (r ∷ rs) e =
-    let both = or_false (bytes_eq r.id id) (has_row id rs) e in
+    let both = or_parts (bytes_eq r.id id) (has_row id rs) e in
     rw both.0 (ap (λ t. r ∷ t) (row_at_end id change missing rs both.1))
 
 pub append_nil : {X : Type 0} (xs : List X) → xs ++ [] ≡ xs
@@ -120,18 +118,6 @@ ByName R name false = arg_by_long R name ≡ None
 pub record Serves (R : List Rule) (options : List Text) : Type 0 where
   pub by_name : (name : Text) → ByName R name (has_text options name)
   pub by_short : (x : ℕ) → arg_by_short R x ≡ None
-
-and_true : (b : Bool) → (b && true) ≡ b
-and_true true = refl
-and_true false = refl
-
-and_false : (b : Bool) → (b && false) ≡ false
-and_false true = refl
-and_false false = refl
-
-and_assoc : (a b c : Bool) → ((a && b) && c) ≡ (a && (b && c))
-and_assoc true b c = refl
-and_assoc false b c = refl
 
 same_text : (t : Text) → bytes_eq t t ≡ true
 same_text t = (bytes_eq-Decides t t).1 refl
@@ -224,10 +210,10 @@ module _ (title : Text) (R : List Rule) (options : List Text) where
       → none (turn_fault s [] (state rows pending waiting false p) x)
       ≡ (settles rows pending && none (use_fault false (taker n long i required) (v ∷ []) (settled_rows R pending rows)))
   given_turn rows pending waiting p x n v long i required (inl w) e l a =
-      rw (w, e, l, a) (none-or_else (or_else (settle_fault R false (held rows pending)) (use_fault false (taker n long i required) (v ∷ []) (settled_rows R pending rows))) [] ∙ and_true _
+      rw (w, e, l, a) (none-or_else (or_else (settle_fault R false (held rows pending)) (use_fault false (taker n long i required) (v ∷ []) (settled_rows R pending rows))) [] ∙ and-true _
           ∙ none-or_else _ _)
   given_turn rows pending waiting p x n v long i required (inr w) e l a =
-      rw (w.1, e, l, a) (none-or_else (or_else (settle_fault R false (held rows pending)) (use_fault false (taker n long i required) (v ∷ []) (settled_rows R pending rows))) [] ∙ and_true _
+      rw (w.1, e, l, a) (none-or_else (or_else (settle_fault R false (held rows pending)) (use_fault false (taker n long i required) (v ∷ []) (settled_rows R pending rows))) [] ∙ and-true _
           ∙ none-or_else _ _)
 
   given_next : (rows : List Row) (pending : Pending) (waiting : Waiting) (p : ℕ) (x n v : Text) (long : Option Text) (i : Option ℕ) (required : Bool) → Asks waiting
@@ -241,8 +227,8 @@ module _ (title : Text) (R : List Rule) (options : List Text) where
   named_turn : (rows : List Row) (pending : Pending) (waiting : Waiting) (p : ℕ) (x n : Text) (long : Option Text) (i : Option ℕ) (required : Bool) → Asks waiting
       → bytes_eq x hyphens ≡ false → long_of x ≡ Some (n, None) → arg_by_long R n ≡ Some (taker n long i required)
       → none (turn_fault s [] (state rows pending waiting false p) x) ≡ settles rows pending
-  named_turn rows pending waiting p x n long i required (inl w) e l a = rw (w, e, l, a) (none-or_else (settle_fault R false (held rows pending)) [] ∙ and_true _)
-  named_turn rows pending waiting p x n long i required (inr w) e l a = rw (w.1, e, l, a) (none-or_else (settle_fault R false (held rows pending)) [] ∙ and_true _)
+  named_turn rows pending waiting p x n long i required (inl w) e l a = rw (w, e, l, a) (none-or_else (settle_fault R false (held rows pending)) [] ∙ and-true _)
+  named_turn rows pending waiting p x n long i required (inr w) e l a = rw (w.1, e, l, a) (none-or_else (settle_fault R false (held rows pending)) [] ∙ and-true _)
 
   named_next : (rows : List Row) (pending : Pending) (waiting : Waiting) (p : ℕ) (x n : Text) (long : Option Text) (i : Option ℕ) (required : Bool) → Asks waiting
       → bytes_eq x hyphens ≡ false → long_of x ≡ Some (n, None) → arg_by_long R n ≡ Some (taker n long i required)
@@ -296,7 +282,7 @@ module _ (title : Text) (R : List Rule) (options : List Text) where
   Lags ok later settled rows later_rows = (ok ≡ (settled && later)) × (ok ≡ true → rows ≡ later_rows)
 
   lag_fails : (ok later settled : Bool) (rows later_rows : List Row) → ok ≡ false → later ≡ false → Lags ok later settled rows later_rows
-  lag_fails ok later settled rows later_rows e l = (e ∙ sym (ap (λ b. settled && b) l ∙ and_false settled), λ t. let bad : false ≡ true = sym e ∙ t in cc)
+  lag_fails ok later settled rows later_rows e l = (e ∙ sym (ap (λ b. settled && b) l ∙ and-false settled), λ t. let bad : false ≡ true = sym e ∙ t in cc)
 
   abbrev LagsAt : List Row → Pending → Waiting → Bool → ℕ → List Text → Type 0
   LagsAt rows pending waiting t p words = Lags (passes s (state rows pending waiting t p) words) (passes s (state (settled_rows R pending rows) None waiting t p) words) (settles rows pending)
@@ -313,7 +299,7 @@ module _ (title : Text) (R : List Rule) (options : List Text) where
   )
 
   lag_ended : (words : List Text) (rows : List Row) (pending : Pending) (waiting : Waiting) (p : ℕ) (places : List Text) → HasPlaces R p places → LagsAt rows pending waiting true p words
-  lag_ended [] rows pending waiting p places has = (sym (and_true _), λ _. refl)
+  lag_ended [] rows pending waiting p places has = (sym (and-true _), λ _. refl)
   lag_ended (x ∷ xs) rows pending waiting p [] has =
       lag_fails _ _ _ _ _ (step_fails (state rows pending waiting true p) x xs (no_place p (held rows pending) has))
       (step_fails (state (settled_rows R pending rows) None waiting true p) x xs (no_place p (held (settled_rows R pending rows) None) has))
@@ -326,7 +312,7 @@ module _ (title : Text) (R : List Rule) (options : List Text) where
 
   lag_free : Serves R options → (words : List Text) → All IsUtf8 words → (rows : List Row) (pending : Pending) (p : ℕ) (places : List Text) → HasPlaces R p places
       → LagsAt rows pending idle false p words
-  lag_free serves [] utf8 rows pending p places has = (sym (and_true _), λ _. refl)
+  lag_free serves [] utf8 rows pending p places has = (sym (and-true _), λ _. refl)
   lag_free serves (x ∷ xs) utf8 rows pending p places has = by_look_of (look x) (looks x) places has
     where
       later : List Row

@@ -2,9 +2,8 @@
 use Rattle.std.proofs.Common.{◌≡◌, ℕ, zero, suc, ◌+◌, ◌<◌, ◌≤◌, Bool, true, false, ltb, List, [], ◌∷◌, length, get_or, refl, sym, subst, arith, inl, inr}
 use Rattle.std.specs.Prelude.{slice_index}
 use Rattle.std.specs.List.{list_any, list_all, position_or_len, range_with_len}
-use Rattle.std.proofs.lemmas.Bool.{cases_lt, cases_Bool, ltb-false, le-ltb, leb-true, le-leb}
+use Rattle.std.proofs.lemmas.Bool.{cases_lt, cases_Bool, ltb-false, le-ltb, leb-true, le-leb, and_parts}
 use Rattle.std.proofs.lemmas.List.{get_or_past}
-use Rattle.line_words.proofs.Whys.{both}
 use Rattle.spec_model.specs.Spec.{SpecValue}
 use Rattle.spec_model.specs.Vectors.{IsAtMost}
 use Rattle.encode_model.specs.Block.{total_weight, IsWithinWeights}
@@ -18,10 +17,10 @@ all_at : (p : ℕ → Bool) (n a i : ℕ) → list_all p (range_with_len a n) �
 all_at p zero a i h l = absurd (omega arith)
 all_at p (suc n) a zero h l =
     let e : a ≡ a + 0 = omega arith in
-    subst (λ (k : ℕ). p k ≡ true) e (both (p a) (list_all p (range_with_len (a + 1) n)) h).0
+    subst (λ (k : ℕ). p k ≡ true) e (and_parts (p a) (list_all p (range_with_len (a + 1) n)) h).0
 all_at p (suc n) a (suc i) h l =
     let e : (a + 1) + i ≡ a + suc i = omega arith in
-    subst (λ (k : ℕ). p k ≡ true) e (all_at p n (a + 1) i (both (p a) (list_all p (range_with_len (a + 1) n)) h).1 (omega arith))
+    subst (λ (k : ℕ). p k ≡ true) e (all_at p n (a + 1) i (and_parts (p a) (list_all p (range_with_len (a + 1) n)) h).1 (omega arith))
 
 at_all : (p : ℕ → Bool) (n a : ℕ) → ((i : ℕ) → i < n → p (a + i) ≡ true) → list_all p (range_with_len a n) ≡ true
 at_all p zero a h = refl

@@ -4,10 +4,9 @@ use Rattle.std.specs.Prelude.{All, codes, ◌==◌, ◌||◌, option_map}
 use Rattle.std.specs.Result.{result_ok}
 use Rattle.std.specs.List.{list_any, list_all}
 use Rattle.std.specs.Str.{bytes_eq}
-use Rattle.std.proofs.lemmas.Bool.{eqb-true, ltb-true, lt-ltb, eq-eqb}
+use Rattle.std.proofs.lemmas.Bool.{eqb-true, ltb-true, lt-ltb, eq-eqb, and_parts}
 use Rattle.std.proofs.lemmas.List.Elements.{All-head, All-tail}
 use Rattle.line_words.specs.Rules.{Words}
-use Rattle.line_words.proofs.Whys.{both}
 use Rattle.pb_rules.specs.declared.Op.{Op}
 use Rattle.pb_rules.specs.declared.Term.{Term}
 use Rattle.pb_rules.specs.Linear.{Linear}
@@ -102,7 +101,7 @@ pub record IsLine (s : SpecValue) (us : List (List ℕ)) (g : Given) (stand : St
 
 clash_of : (c : Linear) → is_clash c ≡ true → IsClash c
 clash_of c h =
-    let parts = both (length c.terms == 0) (ltb 0 c.degree) h in
+    let parts = and_parts (length c.terms == 0) (ltb 0 c.degree) h in
     record { no_terms = none c.terms (eqb-true (length c.terms) 0 parts.0); asks = ltb-true 0 c.degree parts.1 }
   where
     none : {X : Type 0} (xs : List X) → length xs ≡ 0 → xs ≡ []

@@ -1,7 +1,7 @@
 -- What is written reads as the genotype.
 use Rattle.std.proofs.Common.{◌≡◌, ℕ, suc, ◌+◌, ◌^◌, ◌<◌, ◌≤◌, ◌⊎◌, Bool, true, false, not, eqb, ltb, List, [], ◌∷◌, ◌++◌, length, Option, Some, None, Result, Ok, Err, refl, sym, ap, subst, ◌∙◌, arith, inl, inr, All, append_assoc, length-append}
 use Rattle.std.specs.Prelude.{decimal, codes, replicate, slice_set}
-use Rattle.std.proofs.lemmas.Bool.{cases_Bool, lt-leb, le-ltb, eqb-true}
+use Rattle.std.proofs.lemmas.Bool.{cases_Bool, lt-leb, le-ltb, eqb-true, and_parts}
 use Rattle.std.proofs.lemmas.Fmt.{decimal_nonempty, length-decimal-le}
 use Rattle.std.proofs.Math.Seq.{set-append_seam}
 use Rattle.line_words.specs.Text.{lines, words_from}
@@ -12,7 +12,6 @@ use Rattle.line_words.specs.Reads.{Reads}
 use Rattle.line_words.specs.declared.refusals.FileTag.TheVariants.{Genotype}
 use Rattle.line_words.specs.declared.refusals.ReadFault.{ReadFault}
 use Rattle.line_words.specs.declared.refusals.ReadFault.TheVariants as faults
-use Rattle.line_words.proofs.Whys.{both}
 use Rattle.line_words.proofs.FirstLine.{lines-nil}
 use Rattle.line_words.proofs.Least.{Outcome, run-nil, run_is}
 use Rattle.file_bricks.specs.Headed.{after_header, end_after_header}
@@ -101,7 +100,7 @@ gene_back priority false = refl
 
 plain_is : (g : GeneValue) → is_plain g ≡ true → g ≡ plain_gene
 plain_is g h =
-    let parts = both (eqb g.priority 0) (not g.phase) h in
+    let parts = and_parts (eqb g.priority 0) (not g.phase) h in
     plain_parts g.priority g.phase (eqb-true g.priority 0 parts.0) parts.1
   where
     plain_parts : (priority : ℕ) (phase : Bool) → priority ≡ 0 → not phase ≡ true → made priority phase ≡ plain_gene

@@ -7,14 +7,12 @@ use Rattle.spec_model.specs.WellFormed.{Sends, Chain, Leads, HasCycle}
 use Rattle.spec_model.proofs.Chains.{closes_one, none_within}
 use Rattle.tgff_reader.specs.Reaching.{messages_of, message_of as own_message}
 use Rattle.tgff_reader.specs.declared.file.TgffArc.{TgffArc}
+use Rattle.tgff_reader.proofs.Reached.{among_one}
 use Rattle.graph_plan.specs.Graphs.{message_of}
 use Rattle.graph_plan.specs.Room.{IsBefore}
 
 abbrev no_arc : TgffArc
 no_arc = record { name = []; from = 0; to = 0; kind = 0 }
-
-one_of : (x y : ℕ) → Contains (x ∷ []) y → x ≡ y
-one_of x y c = let z : c.0 ≡ 0 = omega (arith, c.1) in subst (λ (i : ℕ). get_or (x ∷ []) i y ≡ y) z c.2
 
 -- a message of the graph's goes where an arc goes
 pub record SendsBack (first : ℕ) (arcs : List TgffArc) (a b : ℕ) : Type 0 where
@@ -32,7 +30,7 @@ by_arc first arcs a b m t from to =
     let enters : Contains ((first + arc.to) ∷ []) b = subst (λ (k : Message). Contains k.receivers b) (sym e) to in
     record {
       task = arc.to;
-      is = sym (one_of (first + arc.to) b enters);
+      is = sym (among_one (first + arc.to) b enters);
       sends = record {
         message = own_message arc;
         there = (i, omega (arith, l, length-map arcs own_message), get_or-map own_message arcs i no_arc (own_message arc) l);
@@ -79,7 +77,7 @@ never_closes first older arcs i arc before none l at x =
     let so_far = take i arcs in
     let ms : List Message = messages_of so_far ++ own_message arc ∷ [] in
     let way : Chain (older ++ map (message_of first) so_far) x.reaches.hops (first + arc.to) (first + arc.from) =
-        subst (λ (s : ℕ). Chain (older ++ map (message_of first) so_far) x.reaches.hops s (first + arc.from)) (sym (one_of (first + arc.to) x.start x.among)) x.reaches.chain in
+        subst (λ (s : ℕ). Chain (older ++ map (message_of first) so_far) x.reaches.hops s (first + arc.from)) (sym (among_one (first + arc.to) x.start x.among)) x.reaches.chain in
     let lead : Leads (messages_of so_far) (arc.to ∷ []) arc.from = record {
       start = arc.to;
       among = (0, omega arith, refl);

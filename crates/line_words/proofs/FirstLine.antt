@@ -3,11 +3,11 @@ use Rattle.line_words.specs.declared.refusals.Why.TheVariants.{BadByte}
 use Rattle.line_words.specs.Rules.{line_fault, has_bad_byte}
 use Rattle.std.proofs.Common.{◌≡◌, ℕ, suc, ◌+◌, ◌<◌, Bool, true, false, eqb, List, [], ◌∷◌, length, drop, refl, sym, ap, ◌∙◌, arith, inl, inr, None}
 use Rattle.std.specs.List.{position_or_len, onto_first, before_first, list_all, list_any}
-use Rattle.std.proofs.lemmas.Bool.{cases_Bool}
+use Rattle.std.proofs.lemmas.Bool.{cases_Bool, or_parts}
 use Rattle.line_words.specs.Text.{lines, content, is_bad, is_content_byte}
 use Rattle.line_words.proofs.Spans.{content_byte}
 use Rattle.line_words.specs.Front.{is_lf, ends_content, line_of}
-use Rattle.line_words.proofs.Whys.{some, none, neither}
+use Rattle.line_words.proofs.Whys.{some, none}
 
 pub lines-nil : lines [] ≡ []
 unfolding lines
@@ -100,7 +100,7 @@ content_bytes (b ∷ bs) h =
       | inl t ↦ rw (before_first-stop is_hash b bs t) refl
       | inr f ↦
           let cut : content (b ∷ bs) ≡ b ∷ content bs = before_first-more is_hash b bs f in
-          let parts = neither (is_bad b) (list_any is_bad (content bs)) (rw cut at h) in
+          let parts = or_parts (is_bad b) (list_any is_bad (content bs)) (rw cut at h) in
           rw (cut, content_byte b parts.0 f) (content_bytes bs parts.1)
     ]
 

@@ -25,7 +25,7 @@ above_low low (t ∷ ts) v h i = elim i [
 first_here : (t : Test) (ts : List Test) → t.1 ≡ true → first_broken (t ∷ ts) ≡ some t.0
 first_here t ts e = rw e refl
 
-first_later : (t : Test) (ts : List Test) → t.1 ≡ false → first_broken (t ∷ ts) ≡ first_broken ts
+pub first_later : (t : Test) (ts : List Test) → t.1 ≡ false → first_broken (t ∷ ts) ≡ first_broken ts
 first_later t ts e = rw e refl
 
 first_is_least : (low : ℕ) (ts : List Test) (w : Why) → IsRanked low ts → first_broken ts ≡ some w → IsLeastOf ts w

@@ -1,13 +1,10 @@
 -- The words of a line, taken from its front.
 use Rattle.std.proofs.Common.{◌≡◌, inl, inr, ℕ, suc, ◌+◌, ◌<◌, ◌≤◌, true, false, cond, eqb, List, [], ◌∷◌, take, drop, refl, sym, ap, ◌∙◌, arith}
 use Rattle.std.specs.List.{prefix_len, position_or_len}
-use Rattle.std.proofs.lemmas.Bool.{cases_Bool}
+use Rattle.std.proofs.lemmas.Bool.{cases_Bool, eq-eqb}
 use Rattle.std.proofs.lemmas.Bool.Decides.{nat_tests}
 use Rattle.std.proofs.lemmas.List.{drop-drop}
 use Rattle.line_words.specs.Text.{is_blank, Piece, byte_word, onto_word, words_from}
-
-eqb_refl_true : (n : ℕ) → eqb n n ≡ true
-eqb_refl_true n = grind (arith, nat_tests)
 
 -- the first word starts at `at` or later
 abbrev StartsFrom : ℕ → List Piece → Type 0
@@ -65,7 +62,7 @@ words_from-blanks (b ∷ bs) at =
     ]
 
 one_more : (at b n e : ℕ) (bs : List ℕ) (ws : List Piece) → onto_word at b (record { start = at + 1; end = e; text = take n bs } ∷ ws) ≡ record { start = at; end = e; text = b ∷ take n bs } ∷ ws
-one_more at b n e bs ws = rw (eqb_refl_true (at + 1)) refl
+one_more at b n e bs ws = rw (eq-eqb (at + 1) (at + 1) refl) refl
 
 -- a run of other bytes is a word
 pub words_from-run : (bs : List ℕ) (at : ℕ) → 0 < position_or_len is_blank bs

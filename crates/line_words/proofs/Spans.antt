@@ -1,13 +1,13 @@
 -- The words of a line have rising spans, and their texts are the slices of it.
 use Rattle.std.proofs.Common.{◌≡◌, ℕ, suc, ◌+◌, ◌-◌, ◌<◌, ◌≤◌, inl, inr, true, false, eqb, List, [], ◌∷◌, length, take, drop, get_or, refl, sym, ap, subst, ◌∙◌, arith}
 use Rattle.std.specs.List.{slice_range, list_all}
-use Rattle.std.proofs.lemmas.Bool.{cases_Bool, cases_lt, eqb-true, eqb-false}
+use Rattle.std.proofs.lemmas.Bool.{cases_Bool, cases_lt, eqb-true, eqb-false, and_parts}
 use Rattle.std.proofs.lemmas.Bool.Decides.{nat_tests}
 use Rattle.std.proofs.lemmas.List.{drop_more, length-drop}
 use Rattle.line_words.specs.Text.{is_blank, Piece, byte_word, onto_word, words_from, words_in, AreSpans, is_bad, is_word_byte, is_content_byte, ArePlain}
 use Rattle.line_words.specs.Front.{has_word}
 use Rattle.line_words.proofs.Runs.{words_from-nil, words_from-blank, words_from-byte}
-use Rattle.line_words.proofs.Whys.{both, other}
+use Rattle.line_words.proofs.Whys.{other}
 
 AreSpans-earlier : (source : List ℕ) (place later : ℕ) (ws : List Piece) → place ≤ later → AreSpans source later ws → AreSpans source place ws
 AreSpans-earlier source place later [] le h = tt
@@ -120,7 +120,7 @@ onto_plain place b (w ∷ ws) t h =
 pub words_from-plain : (bs : List ℕ) (place : ℕ) → list_all is_content_byte bs ≡ true → ArePlain (words_from place bs)
 words_from-plain [] place h = rw words_from-nil tt
 words_from-plain (b ∷ bs) place h =
-    let parts = both (is_content_byte b) (list_all is_content_byte bs) h in
+    let parts = and_parts (is_content_byte b) (list_all is_content_byte bs) h in
     let more = words_from-plain bs (place + 1) parts.1 in
     elim (cases_Bool (is_blank b)) [
       | inl t ↦ subst ArePlain (sym (words_from-blank place b bs t)) more

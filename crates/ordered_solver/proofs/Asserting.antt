@@ -1,5 +1,5 @@
 -- A learned clause under the entries of lower levels: all but one of its literals are false at its level to jump back to, and it forces nothing below.
-use Rattle.std.proofs.Common.{◌≡◌, ◌≢◌, ℕ, ◌+◌, ◌-◌, ◌<◌, ◌≤◌, Bool, true, false, cond, eqb, Option, Some, None, List, [], ◌∷◌, length, get_or, refl, sym, ap, ◌∙◌, subst, arith, zero, suc, inl, inr, ◌⊎◌}
+use Rattle.std.proofs.Common.{◌≡◌, ◌≢◌, ℕ, ◌+◌, ◌-◌, ◌<◌, ◌≤◌, Bool, true, false, cond, eqb, Option, Some, List, [], ◌∷◌, length, get_or, refl, sym, ap, ◌∙◌, subst, arith, zero, suc, inl, inr, ◌⊎◌}
 use Rattle.std.specs.Prelude.{All, count_by, sum_by}
 use Rattle.std.proofs.lemmas.Bool.{cases_lt}
 use Rattle.std.proofs.lemmas.Bool.Decides.{nat_tests}
@@ -11,7 +11,7 @@ use Rattle.pb_rules.specs.Literal.{Literal}
 use Rattle.pb_rules.specs.Linear.{Linear, VarsBelow}
 use Rattle.pb_rules.specs.Partial.{falsifies, is_false, open_weight, InConflict, Forces, IsClosed}
 use Rattle.pb_rules.specs.Honest.{LeavesOne}
-use Rattle.pb_rules.proofs.Assignments.{FalseToo, open-cons, closed-conflict}
+use Rattle.pb_rules.proofs.Assignments.{FalseToo, open-cons, closed-conflict, falsifies-none}
 use Rattle.constraint_store.specs.Live.{Live}
 use Rattle.trail_state.specs.Trail.{Entry, value_in, level_of, level_in, upto_level}
 use Rattle.trail_state.proofs.Levels.{level_in-le, value_in-upto_level, none-upto_level}
@@ -86,9 +86,6 @@ back-below es ts back b h = elim b.attained [
 -- at the level to jump back to, a literal of a lower level is false as it is now
 stays-false : (es : List Entry) (back : ℕ) (l : Literal) → level_in es l.var ≤ back → is_false (value_in es) l ≡ true → is_false (value_in (upto_level back es)) l ≡ true
 stays-false es back l h f = ap (λ o. falsifies o l.yes) (value_in-upto_level back es l.var h) ∙ f
-
-not-false : (o : Option Bool) (y : Bool) → o ≡ None → falsifies o y ≡ false
-not-false o y e = ap (λ w. falsifies w y) e
 
 -- after the jump back the clause has one literal left
 pub leaves-one : (live : List Live) (es : List Entry) (c : Linear) (back : ℕ) → IsLearned live es c → IsLevelBelow es c.terms back → 0 < level_of es → LeavesOne (value_in (upto_level back es)) c
@@ -182,7 +179,7 @@ quiet-below live es c back n l b h lt =
           let n-s = lev-s.1 in
           let one : (k : ℕ) → k < length c.terms → n < level_in es (get_or c.terms k d).lit.var → f (get_or c.terms k d) ≡ 1 = λ k lk up.
           (let free = none-upto_level n es (get_or c.terms k d).lit.var up in
-          let nf : is_false p (get_or c.terms k d).lit ≡ false = not-false (p (get_or c.terms k d).lit.var) (get_or c.terms k d).lit.yes free in
+          let nf : is_false p (get_or c.terms k d).lit ≡ false = falsifies-none (p (get_or c.terms k d).lit.var) (get_or c.terms k d).lit.yes free in
           rw nf (l.clause.unit k d lk)) in
           let f-r = one r.0 r.1 (omega arith) in
           let f-s = one s.0 s.1 (omega arith) in

@@ -1,7 +1,7 @@
 -- The oldest kept clause taken out, and new ids for what is live.
 use Rattle.std.proofs.Common.{◌≡◌, ◌≢◌, ℕ, ◌<◌, Bool, true, false, not, cond, eqb, Option, Some, None, List, [], ◌∷◌, ◌++◌, length, get_or, map, refl, sym, ap, ◌∙◌, subst, arith, suc, unwrap_or, append_assoc}
 use Rattle.std.specs.Prelude.{All, filter, is_some}
-use Rattle.std.proofs.lemmas.Bool.{false≢true, ne_eqb}
+use Rattle.std.proofs.lemmas.Bool.{false≢true, ne_eqb, eq-eqb}
 use Rattle.std.proofs.lemmas.List.Elements.{All-map, All-filter}
 use Rattle.pb_constraints.specs.declared.ConId.{ConId}
 use Rattle.proof_log.specs.Log.{LogValue}
@@ -13,7 +13,7 @@ use Rattle.propagate.proofs.Ready.{ready-remap}
 use Rattle.ordered_solver.specs.Engines.{IsAttached, IsInRange, IsLoaded, IsKnown, HasKeptIds, is_kept, kept_in, given_in, kept_of, given_of, id_of, moved}
 use Rattle.ordered_solver.specs.Lessons.{HasDropped}
 use Rattle.ordered_solver.specs.Solver.{is_derived_id}
-use Rattle.ordered_solver.proofs.Loading.{itself, place-live, without-fresh}
+use Rattle.ordered_solver.proofs.Loading.{place-live, without-fresh, or-true}
 use Rattle.ordered_solver.proofs.Parts.{fails}
 
 -- an id that no other has isn't live among the others
@@ -26,10 +26,6 @@ not-live e (f ∷ live) h =
 head-apart : (e : Live) (live : List Live) → HasDistinctIds (e ∷ live) → is_live live e.id ≡ false
 head-apart e live h = not-live e live (λ k d l. h 0 (suc k) d (omega arith) (omega arith))
 
-or-true : (b : Bool) → cond b true true ≡ true
-or-true true = refl
-or-true false = refl
-
 heads : (x y : Live) (xs ys : List Live) → x ∷ xs ≡ y ∷ ys → (x ≡ y) × (xs ≡ ys)
 heads x y xs ys e = (cc, cc)
 
@@ -41,7 +37,7 @@ first-live p (f ∷ live) x xs e = go (p f) e (first-live p live x xs)
     go : (b : Bool) → cond b (f ∷ filter p live) (filter p live) ≡ x ∷ xs → (filter p live ≡ x ∷ xs → is_live live x.id ≡ true) → is_live (f ∷ live) x.id ≡ true
     go true q ih =
         let is : f ≡ x = (heads f x (filter p live) xs q).0 in
-        let here : eqb f.id.0 x.id.0 ≡ true = ap (λ (g : Live). eqb g.id.0 x.id.0) is ∙ itself x.id.0 in
+        let here : eqb f.id.0 x.id.0 ≡ true = ap (λ (g : Live). eqb g.id.0 x.id.0) is ∙ eq-eqb x.id.0 x.id.0 refl in
         ap (λ b. cond b true (is_live live x.id)) here
     go false q ih = ap (λ b. cond (eqb f.id.0 x.id.0) true b) (ih q) ∙ or-true (eqb f.id.0 x.id.0)
 
@@ -62,7 +58,8 @@ without-first p (f ∷ live) x xs distinct e = go (p f) refl e (without-first p 
 
     here : p f ≡ true → f ≡ x → filter p live ≡ xs → Goal
     here t is tail =
-        let out : without x.id (f ∷ live) ≡ without x.id live = ap (λ b. cond (not b) (f ∷ without x.id live) (without x.id live)) (ap (λ (g : Live). eqb g.id.0 x.id.0) is ∙ itself x.id.0) in
+        let out : without x.id (f ∷ live) ≡ without x.id live =
+            ap (λ b. cond (not b) (f ∷ without x.id live) (without x.id live)) (ap (λ (g : Live). eqb g.id.0 x.id.0) is ∙ eq-eqb x.id.0 x.id.0 refl) in
         let rest : without x.id live ≡ live = ap (λ (g : Live). without g.id live) (sym is) ∙ without-fresh live f.id apart in
         let failing : filter (fails p) (f ∷ live) ≡ filter (fails p) live = ap (λ b. cond (not b) (f ∷ filter (fails p) live) (filter (fails p) live)) t in
         (ap (filter p) (out ∙ rest) ∙ tail, ap (filter (fails p)) (out ∙ rest) ∙ sym failing)

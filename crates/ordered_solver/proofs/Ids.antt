@@ -11,6 +11,7 @@ use Rattle.proof_log.specs.Log.{LogValue, next_id}
 use Rattle.constraint_store.specs.Live.{Live, Content}
 use Rattle.ordered_solver.specs.Engines.{IsKnown, is_kept, kept_in, given_in}
 use Rattle.ordered_solver.specs.Solver.{IsGivenId, HasGivenId, is_derived_id, numbered}
+use Rattle.ordered_solver.proofs.Loading.{or-true}
 
 neither : (b : Bool) → b && false ≡ false
 neither true = refl
@@ -60,10 +61,6 @@ given-ids-new log cs given e g =
     record { from_one = omega arith; before_next = omega arith; not_derived = refl }) in
     let P : LogValue → List Content → Type 0 = λ v xs. All (HasGivenId v) xs in
     subst (λ (v : LogValue). P v given) (sym e) (subst (P fresh) (sym g) all)
-
-or-true : (b : Bool) → cond b true true ≡ true
-or-true true = refl
-or-true false = refl
 
 -- the next id is that of a derived line which comes next
 derived-next : (first : ℕ) (ls : List Line) (ops : List Op) (id : ℕ) → id ≡ first + ids_in ls → is_derived_id first (ls ++ derived ops ∷ []) id ≡ true

@@ -4,6 +4,7 @@ use Rattle.std.specs.Prelude.{All, slice_get, ◌&&◌}
 use Rattle.std.proofs.lemmas.List.{get_or_append_left, length_push, length-map, map-append}
 use Rattle.std.proofs.lemmas.List.Elements.{All-head, All-tail, All-nil, All-map, All-append, filter_passes}
 use Rattle.std.proofs.lemmas.List.Sums.{sum_by-cons, sum_by-append}
+use Rattle.plain_lists.proofs.Joined.{All-right}
 use Rattle.pb_rules.specs.Linear.{Linear, Holds, IsModel}
 use Rattle.pb_rules.specs.Frames.{Line, cover, Frame, IsFrame, FitsFrom, Given, context_of, base_of, under, given_by, given_from, derived_from, derived_by, derived_count, is_derived, ids_of, StandsUnder}
 use Rattle.pb_rules.proofs.Closed.{models-front, models-back}
@@ -177,10 +178,6 @@ last-all f start all ids ids_after old new g h known a legal later kp w =
     let L : List Content → Type 0 = λ cs. AreLastDerived f h new.lines cs in
     subst L (sym (kept-all start all ids ids_after old new known a)) (record { earlier = kp.earlier; last = whole ∙ parts ∙ joined; stand = stands })
 
-pub all-back : {X : Type 0} (P : X → Type 0) (xs ys : List X) → All P (xs ++ ys) → All P ys
-all-back P [] ys all = all
-all-back P (x ∷ xs) ys all = all-back P xs ys (All-tail P x (xs ++ ys) all)
-
 -- and after the oldest were dropped
 last-dropped : (f : Frame) (h : Given) (lines : List Line) (dropped kept : List Content) → AreLastDerived f h lines (dropped ++ kept) → AreLastDerived f h lines kept
 last-dropped f h lines dropped kept a =
@@ -189,7 +186,7 @@ last-dropped f h lines dropped kept a =
       earlier = a.earlier ++ constraints_of dropped;
       last =
           a.last ∙ ap (λ (cs : List Linear). a.earlier ++ cs) (map-append (λ (x : Content). x.constraint) dropped kept) ∙ sym (append_assoc a.earlier (constraints_of dropped) (constraints_of kept));
-      stand = all-back (StandsIn (context_of h)) dropped kept a.stand;
+      stand = All-right (StandsIn (context_of h)) dropped kept a.stand;
     }
 
 last-on : (start live : List Live) (old new : LogValue) → All (IsKnown old) start → All (HasGivenId old) (given_of old start) → AreKept (given_of old start) (kept_of old start) old

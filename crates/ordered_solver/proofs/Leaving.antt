@@ -1,10 +1,11 @@
 -- Constraints that are detached first and then removed.
 use Rattle.std.proofs.Common.{◌≡◌, ◌≢◌, ℕ, ◌+◌, ◌-◌, Bool, not, eqb, min, None, List, [], ◌∷◌, ◌++◌, length, get_or, take, refl, sym, ap, ◌∙◌, subst, arith, inl, inr, ◌⊎◌, zero, suc, add-one}
 use Rattle.std.specs.Prelude.{All, Contains}
-use Rattle.std.proofs.lemmas.Bool.{false≢true}
+use Rattle.std.proofs.lemmas.Bool.{false≢true, eq-eqb}
 use Rattle.std.proofs.lemmas.List.Elements.{All-head, All-tail, All-append, All-filter, filter_passes}
 use Rattle.std.proofs.lemmas.List.{take_min, get_or_append_left, length-append}
 use Rattle.std.proofs.lemmas.Map.Made.{Contains-tail}
+use Rattle.plain_lists.proofs.Joined.{All-right}
 use Rattle.pb_constraints.specs.declared.ConId.{ConId}
 use Rattle.constraint_store.specs.Live.{Live, without}
 use Rattle.trail_state.specs.Trail.{TrailView}
@@ -13,8 +14,6 @@ use Rattle.propagate.specs.Propagator.{PropagatorView, IsCounted}
 use Rattle.propagate.proofs.Dropping.{among, drops-gone}
 use Rattle.propagate.proofs.Ready.{ready-drop, ready-free}
 use Rattle.ordered_solver.specs.Engines.{IsAttached, IsInRange, IsLoaded, AreLeaving}
-use Rattle.ordered_solver.proofs.Loading.{itself}
-use Rattle.ordered_solver.proofs.KeptOn.{all-back}
 
 -- all of them were detached
 pub leaving-all : (live : List Live) (p q : PropagatorView) (t : TrailView) (ids : List ConId) → IsLoaded live p t → Drops ids p.attached q.attached → q.variables ≡ p.variables → IsCounted q t
@@ -36,7 +35,7 @@ drops-both ids others old mid new p q =
     record {
       gone = All-append G ids others (λ k c h. stays (get_or ids k c) (p.gone k c h)) q.gone;
       others = λ d n.
-          (q.others d (all-back (λ (c : ConId). c ≢ d) ids others n) ∙ p.others d (front d n));
+          (q.others d (All-right (λ (c : ConId). c ≢ d) ids others n) ∙ p.others d (front d n));
     }
   where
     front : (d : ConId) → All (λ (c : ConId). c ≢ d) (ids ++ others) → All (λ (c : ConId). c ≢ d) ids
@@ -82,7 +81,7 @@ leaving-fewer live after p t id ids e l =
       gone = All-tail G id ids l.gone;
       attached = λ k d h.
           (let x = get_or (without id live) k d in
-          let other : x.id ≢ id = λ z. false≢true (sym (ap (λ (i : ConId). not (eqb i.0 id.0)) z ∙ ap not (itself id.0)) ∙ filter_passes test live k d h) in
+          let other : x.id ≢ id = λ z. false≢true (sym (ap (λ (i : ConId). not (eqb i.0 id.0)) z ∙ ap not (eq-eqb id.0 id.0 refl)) ∙ filter_passes test live k d h) in
           still x other (All-filter test E live l.attached k d h));
       in_range = All-filter test (IsInRange t.variables) live l.in_range;
     })

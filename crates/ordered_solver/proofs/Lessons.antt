@@ -5,6 +5,7 @@ use Rattle.std.proofs.lemmas.Bool.{cases_eq, false≢true}
 use Rattle.std.proofs.lemmas.Bool.Decides.{nat_tests}
 use Rattle.std.proofs.lemmas.List.{take_all, length_push, map-append}
 use Rattle.std.proofs.lemmas.List.Elements.{All-push, All-append, All-cons, All-nil, All-map}
+use Rattle.std.proofs.lemmas.Option.{same_Some}
 use Rattle.pb_constraints.specs.declared.ConId.{ConId}
 use Rattle.pb_rules.specs.declared.Op.{Op}
 use Rattle.pb_rules.specs.Literal.{Literal}
@@ -37,9 +38,6 @@ use Rattle.ordered_solver.proofs.Asserting.{back-below, leaves-one, quiet-below}
 abbrev pub AreLive : List Live → List Attached → Type 0
 AreLive live held = (c : ConId) (k : Linear) → attached_at held c ≡ Some k → IsTrue (is_live live c)
 
-some-same : (j k : Linear) → Some j ≡ Some k → j ≡ k
-some-same j k e = cc
-
 -- what is attached goes on being so when a new id is
 pub attached-wider : (live : List Live) (held bs : List Attached) (id : ConId) (o : Option Linear) → AreLive live held → is_live live id ≡ false → ChangesOnly held bs id o → IsWider held bs
 attached-wider live held bs id o on fresh change c k h = change.others c (λ q. false≢true (sym fresh ∙ ap (is_live live) (sym q) ∙ on c k h)) ∙ h
@@ -54,7 +52,7 @@ ordered-learns live after held bs order es now log log_after id on h o l =
     let e : Entry = record { lit = l.lit; reason = Some l.clause.id } in
     let wider : IsWider held bs = attached-wider live held bs l.clause.id (Some c) on l.fresh l.attached in
     let closed : (m : ℕ) → m < l.back → AllClosed bs (upto_level m es) = λ m lt d k at. elim (cases_eq d.0 l.clause.id.0) [
-      | inl q ↦ (let is : c ≡ k = some-same c k (sym l.attached.here ∙ ap (attached_at bs) (sym (same_id d l.clause.id q)) ∙ at) in
+      | inl q ↦ (let is : c ≡ k = same_Some c k (sym l.attached.here ∙ ap (attached_at bs) (sym (same_id d l.clause.id q)) ∙ at) in
           let P : Linear → Type 0 = λ x. IsClosed (value_in (upto_level m es)) x in
           subst P is (quiet-below live es c l.back m l.learned l.level_below h lt))
       | inr n ↦ o.closed_below m (omega arith) d k (sym (l.attached.others d (λ z. n (ap (λ (b : ConId). b.0) z))) ∙ at)

@@ -1,8 +1,7 @@
 -- Store, propagator and trail stay together: after one more constraint, after its removal, and over another trail.
 use Rattle.std.proofs.Common.{◌≡◌, ◌≢◌, ℕ, ◌<◌, Bool, true, false, cond, eqb, Option, Some, None, List, [], ◌∷◌, ◌++◌, length, get_or, take, drop, map, refl, sym, ap, ◌∙◌, subst, arith, zero, suc}
 use Rattle.std.specs.Prelude.{All, is_some, IfNone}
-use Rattle.std.proofs.lemmas.Bool.{false≢true}
-use Rattle.std.proofs.lemmas.Bool.Decides.{nat_tests}
+use Rattle.std.proofs.lemmas.Bool.{false≢true, eq-eqb}
 use Rattle.std.proofs.lemmas.List.{take-append-le, take-append-drop, length-take, map-append}
 use Rattle.std.proofs.lemmas.List.Elements.{All-push}
 use Rattle.pb_constraints.specs.declared.ConId.{ConId}
@@ -17,15 +16,12 @@ use Rattle.propagate.proofs.Ready.{ready-attach, ready-add, ready-trail}
 use Rattle.ordered_solver.specs.Trails.{GoesOnFrom}
 use Rattle.ordered_solver.specs.Engines.{IsAttached, IsInRange, IsLoaded}
 
-pub itself : (n : ℕ) → eqb n n ≡ true
-itself n = grind (arith, nat_tests)
-
-or-true : (b : Bool) → cond b true true ≡ true
+pub or-true : (b : Bool) → cond b true true ≡ true
 or-true true = refl
 or-true false = refl
 
 pub live-added : (live : List Live) (x : Live) → is_live (live ++ x ∷ []) x.id ≡ true
-live-added live x = is_live_added live x x.id ∙ ap (λ b. cond (is_live live x.id) true b) (itself x.id.0) ∙ or-true (is_live live x.id)
+live-added live x = is_live_added live x x.id ∙ ap (λ b. cond (is_live live x.id) true b) (eq-eqb x.id.0 x.id.0 refl) ∙ or-true (is_live live x.id)
 
 pub constraint-added : (live : List Live) (x : Live) → is_live live x.id ≡ false → constraint_of (live ++ x ∷ []) x.id ≡ x.constraint
 constraint-added live x fresh = ap (λ (e : Live). e.constraint) (live_at_new live x fresh)
@@ -57,7 +53,7 @@ live-all P live c all h =
 -- an id in the list is live
 pub place-live : (live : List Live) (k : ℕ) (d : Live) → k < length live → is_live live (get_or live k d).id ≡ true
 place-live [] k d h = absurd (omega arith)
-place-live (e ∷ live) zero d h = rw (itself e.id.0) refl
+place-live (e ∷ live) zero d h = rw (eq-eqb e.id.0 e.id.0 refl) refl
 place-live (e ∷ live) (suc k) d h = ap (λ b. cond (eqb e.id.0 (get_or live k d).id.0) true b) (place-live live k d (omega arith)) ∙ or-true (eqb e.id.0 (get_or live k d).id.0)
 
 -- the ids of the others are other ones

@@ -41,7 +41,7 @@ falsifies-not : (b : Bool) → falsifies (Some (not b)) b ≡ true
 falsifies-not true = refl
 falsifies-not false = refl
 
-falsifies-none : (o : Option Bool) (b : Bool) → o ≡ None → falsifies o b ≡ false
+pub falsifies-none : (o : Option Bool) (b : Bool) → o ≡ None → falsifies o b ≡ false
 falsifies-none o b e = rw e refl
 
 flip-false : (p : ℕ → Option Bool) (l : Literal) (ts : List Term) → p l.var ≡ None → FalseToo p (flipped p l) ts

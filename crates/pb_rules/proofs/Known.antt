@@ -1,8 +1,7 @@
 -- A legal line gives a constraint whose variables were there before.
 use Rattle.std.proofs.Common.{◌≡◌, ℕ, ◌+◌, ◌-◌, Bool, true, false, cond, eqb, ltb, List, [], ◌∷◌, map, min, Some, refl, sym, ap, ◌∙◌, subst, arith, ◌⊎◌, inl, inr}
 use Rattle.std.specs.Prelude.{Ok, ◌++◌}
-use Rattle.std.proofs.lemmas.Bool.{eqb-true}
-use Rattle.std.proofs.lemmas.Bool.Decides.{nat_tests}
+use Rattle.std.proofs.lemmas.Bool.{eq-eqb, eqb-true}
 use Rattle.pb_rules.specs.declared.Term.{Term}
 use Rattle.pb_rules.specs.declared.Op.{Op}
 use Rattle.pb_rules.specs.Literal.{Literal}
@@ -18,11 +17,8 @@ use Rattle.pb_rules.proofs.Normal.{Merged, done, first, second, both, merged}
 abbrev Has : ℕ → List Term → Type 0
 Has x ts = mentions x ts ≡ true
 
-eqb_self : (n : ℕ) → eqb n n ≡ true
-eqb_self n = grind (arith, nat_tests)
-
 here : (x : ℕ) (t : Term) (ts : List Term) → t.lit.var ≡ x → Has x (t ∷ ts)
-here x t ts e = ap (λ (b : Bool). cond b true (mentions x ts)) (subst (λ (y : ℕ). eqb t.lit.var y ≡ true) e (eqb_self t.lit.var))
+here x t ts e = ap (λ (b : Bool). cond b true (mentions x ts)) (eq-eqb t.lit.var x e)
 
 later : (x : ℕ) (t : Term) (ts : List Term) → Has x ts → Has x (t ∷ ts)
 later x t ts h = go (eqb t.lit.var x)

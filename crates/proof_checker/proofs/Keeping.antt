@@ -4,10 +4,9 @@ use Rattle.std.specs.Prelude.{Option, Some, None, Ok, Err, Vec}
 use Rattle.std.specs.Global.{Global}
 use Rattle.std.proofs.lemmas.Bool.{ne_eqb}
 use Rattle.pb_rules.specs.Linear.{Linear}
-use Rattle.std.proofs.lemmas.List.Elements.{All-weaker}
+use Rattle.std.proofs.lemmas.List.Elements.{All-weaker, All-map}
 use Rattle.spec_model.specs.Spec.{SpecValue}
 use Rattle.spec_model.specs.WellFormed.{IsWellFormed}
-use Rattle.spec_model.proofs.Joined.{All-from_map}
 use Rattle.result_text.specs.Answers.{EntryValue}
 use Rattle.result_text.specs.Fronts.{FrontValue}
 use Rattle.front_model.specs.Fronts.{vector_in, vectors_of, IsEntry, IsClaim}
@@ -32,7 +31,7 @@ use Rattle.proof_checker.specs.Checkers.{IsChecker, progress_of}
 -- the vectors of a front have a number for each objective
 pub claim_long : (s : SpecValue) (front : FrontValue) → IsClaim s front → AllLong (length s.objectives) (vectors_of front)
 claim_long s front h =
-    All-from_map (λ (u : List ℕ). length u ≡ length s.objectives) vector_in front.entries (All-weaker (IsEntry s) (λ (e : EntryValue). length e.vector ≡ length s.objectives) (entry_long s)
+    All-map (λ (u : List ℕ). length u ≡ length s.objectives) vector_in front.entries (All-weaker (IsEntry s) (λ (e : EntryValue). length e.vector ≡ length s.objectives) (entry_long s)
     front.entries h.entries)
 
 pub new_checker : (s : SpecValue) (front : FrontValue) (p : Progress) → IsWellFormed s → IsClaim s front → p ≡ begun s → IsChecker s front p

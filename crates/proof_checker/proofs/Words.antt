@@ -1,11 +1,10 @@
 -- Words that are no text say nothing.
 use Rattle.std.proofs.Common.{◌≡◌, ℕ, zero, suc, ◌<◌, ◌≤◌, ◌^◌, Bool, true, cond, List, [], ◌∷◌, Option, Some, None, Result, Ok, Err, refl, sym, ap, ◌∙◌, subst, arith}
-use Rattle.std.proofs.lemmas.Bool.{lt-ltb, le-ltb}
+use Rattle.std.proofs.lemmas.Bool.{lt-ltb, le-ltb, and_parts}
 use Rattle.std.specs.List.{list_all}
 use Rattle.std.specs.Str.{IsAscii, IsUtf8}
 use Rattle.std.proofs.lemmas.Bool.Decides.{nat_tests}
 use Rattle.std.proofs.lemmas.Str.{IsUtf8-from_ascii}
-use Rattle.line_words.proofs.Whys.{both}
 use Rattle.spelled_lines.specs.Lines.{IsWord, is_word_byte}
 use Rattle.pb_rules.specs.declared.Op.{Op}
 use Rattle.pb_rules.specs.declared.Op.TheVariants.{Axiom}
@@ -27,8 +26,8 @@ small_byte b h = grind (arith, nat_tests)
 
 name_ascii : (w : List ℕ) → list_all is_word_byte w ≡ true → IsAscii w
 name_ascii [] h i = omega arith
-name_ascii (b ∷ w) h zero = small_byte b (both (is_word_byte b) (list_all is_word_byte w) h).0
-name_ascii (b ∷ w) h (suc i) = name_ascii w (both (is_word_byte b) (list_all is_word_byte w) h).1 i
+name_ascii (b ∷ w) h zero = small_byte b (and_parts (is_word_byte b) (list_all is_word_byte w) h).0
+name_ascii (b ∷ w) h (suc i) = name_ascii w (and_parts (is_word_byte b) (list_all is_word_byte w) h).1 i
 
 pub name_text : (w : List ℕ) → IsWord w → IsUtf8 w
 name_text w h = IsUtf8-from_ascii w (name_ascii w h.bytes)

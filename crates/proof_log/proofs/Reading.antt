@@ -30,9 +30,6 @@ pub data SaysLine (ws : Words) : Line → Type 0 where
   says_derived : {ops : List Op} (later : Words) → ws ≡ codes "p" ∷ later → each_said op_of later ≡ Some ops → SaysLine ws (derived ops)
   says_cover : {v : List ℕ} (later : Words) → ws ≡ codes "c" ∷ later → each_said number_of later ≡ Some v → SaysLine ws (cover v)
 
-same_word : (k w : List ℕ) → bytes_eq k w ≡ true → k ≡ w
-same_word k w e = (bytes_eq-Decides k w).0 e
-
 derived_said : (ws later : Words) (l : Line) → ws ≡ codes "p" ∷ later → option_map derived (each_said op_of later) ≡ Some l → SaysLine ws l
 derived_said ws later l is e = go (each_said op_of later) refl e
   where
@@ -53,8 +50,8 @@ words_say (k ∷ ws) l e = go (bytes_eq k (codes "p")) (bytes_eq k (codes "c")) 
   where
     go : (a b : Bool) → bytes_eq k (codes "p") ≡ a → bytes_eq k (codes "c") ≡ b → cond a (option_map derived (each_said op_of ws)) (cond b (option_map cover (each_said number_of ws)) None)
         ≡ Some l → SaysLine (k ∷ ws) l
-    go true b p q f = derived_said (k ∷ ws) ws l (ap (λ (w : List ℕ). w ∷ ws) (same_word k (codes "p") p)) f
-    go false true p q f = cover_said (k ∷ ws) ws l (ap (λ (w : List ℕ). w ∷ ws) (same_word k (codes "c") q)) f
+    go true b p q f = derived_said (k ∷ ws) ws l (ap (λ (w : List ℕ). w ∷ ws) ((bytes_eq-Decides k (codes "p")).0 p)) f
+    go false true p q f = cover_said (k ∷ ws) ws l (ap (λ (w : List ℕ). w ∷ ws) ((bytes_eq-Decides k (codes "c")).0 q)) f
     go false false p q f = absurd cc
 
 -- a piece says a line: it has its form, and its words say the line
@@ -184,7 +181,7 @@ file_cut text ls e = go (pieces text) refl e
       where
         by_test : (b : Bool) → bytes_eq p header ≡ b → cond b (each_said line_in ps) None ≡ Some ls → IsCutSo text ls
         by_test false r g = absurd cc
-        by_test true r g = record { more = ps; cut = q ∙ ap (λ (w : List ℕ). w ∷ ps) (same_word p header r); said = g }
+        by_test true r g = record { more = ps; cut = q ∙ ap (λ (w : List ℕ). w ∷ ps) ((bytes_eq-Decides p header).0 r); said = g }
 
 written : (ls : List Line) (text : List ℕ) → lines_in text ≡ Some ls → IsWritten ls text
 written ls text e =

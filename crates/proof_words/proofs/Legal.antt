@@ -2,9 +2,9 @@
 use Rattle.std.proofs.Common.{◌≡◌, ℕ, ◌<◌, ◌^◌, true, List, [], ◌∷◌, map, Option, Some, refl, ap, ◌∙◌, arith}
 use Rattle.std.specs.Prelude.{All, Ok, decimal, nat_lt}
 use Rattle.std.specs.List.{list_all}
+use Rattle.std.proofs.lemmas.Bool.{and_parts}
 use Rattle.std.proofs.lemmas.Bool.Decides.{nat_tests}
 use Rattle.std.proofs.lemmas.List.Elements.{All-cons, All-head, All-tail, All-nil}
-use Rattle.line_words.proofs.Whys.{both}
 use Rattle.pb_rules.specs.declared.Op.{Op}
 use Rattle.pb_rules.specs.declared.Op.TheVariants.{Id, Axiom, Add, Times, Divide, Saturate, Weaken}
 use Rattle.pb_rules.specs.Linear.{Linear}
@@ -39,7 +39,7 @@ all_are context (op ∷ ops) st after e =
 numbers_are : (v : List ℕ) → list_all small_number v ≡ true → All (λ n. n < 2 ^ 63) v
 numbers_are [] e = All-nil (λ n. n < 2 ^ 63)
 numbers_are (n ∷ v) e =
-    let h = both (small_number n) (list_all small_number v) e in
+    let h = and_parts (small_number n) (list_all small_number v) e in
     let t : nat_lt n (2 ^ 63) ≡ true = h.0 in
     All-cons (λ n. n < 2 ^ 63) n v (grind (arith, nat_tests, t)) (numbers_are v h.1)
 

@@ -1,8 +1,7 @@
 -- The letter at a word's front, and what a word says by it.
-use Rattle.std.proofs.Common.{◌≡◌, ◌≢◌, ℕ, true, false, List, [], ◌∷◌, Option, Some, None, MatchOption, Bor, refl, sym, ap, ◌∙◌, arith, inl, inr}
+use Rattle.std.proofs.Common.{◌≡◌, ◌≢◌, ℕ, false, List, [], ◌∷◌, Option, Some, None, MatchOption, Bor, refl, sym, ap, ◌∙◌, inl, inr}
 use Rattle.std.specs.Prelude.{◌==◌, option_map}
-use Rattle.std.proofs.lemmas.Bool.{cases_Bool, eqb-true}
-use Rattle.std.proofs.lemmas.Bool.Decides.{nat_tests}
+use Rattle.std.proofs.lemmas.Bool.{cases_Bool, eqb-true, eq-eqb}
 use Rattle.line_words.specs.Numbers.{plain_whole_of, whole_of}
 use Rattle.pb_rules.specs.declared.Op.TheVariants.{Id}
 use Rattle.proof_words.specs.Words.{after, number_of, op_of}
@@ -67,11 +66,8 @@ no_front letter (b ∷ more) other =
       | inr f ↦ rw f refl
     ]
 
-self_eqb : (n : ℕ) → (n == n) ≡ true
-self_eqb n = grind (arith, nat_tests)
-
 front : (letter : ℕ) (rest : List ℕ) → after letter (letter ∷ rest) ≡ Some rest
-front letter rest = rw (self_eqb letter) refl
+front letter rest = rw (eq-eqb letter letter refl) refl
 
 -- what stripping a letter gives is what follows it
 pub after_match : (letter : ℕ) (word : List ℕ) (r : Option (Bor (List ℕ))) → MatchOption r ((rest : List ℕ) → word ≢ letter ∷ rest) (λ x. word ≡ letter ∷ x.now)

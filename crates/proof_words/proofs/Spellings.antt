@@ -4,14 +4,13 @@ use Rattle.std.specs.Prelude.{◌==◌, decimal, option_map, option_and_then}
 use Rattle.std.specs.Result.{result_ok}
 use Rattle.std.specs.List.{list_all}
 use Rattle.std.specs.Char.{is_ascii_digit}
-use Rattle.std.proofs.lemmas.Bool.{cases_Bool, eqb-true, ne_eqb}
+use Rattle.std.proofs.lemmas.Bool.{cases_Bool, eqb-true, ne_eqb, and_parts}
 use Rattle.std.proofs.lemmas.Bool.Decides.{nat_tests}
 use Rattle.std.proofs.lemmas.Fmt.{digits_decimal}
 use Rattle.line_words.specs.Numbers.{plain_whole_of}
 use Rattle.line_words.specs.declared.numbers.NumberFault.{NumberFault}
 use Rattle.line_words.proofs.Digits.{own}
 use Rattle.line_words.proofs.Plain.{plain_whole_of-decimal, decimal_when_read}
-use Rattle.line_words.proofs.Whys.{both}
 use Rattle.pb_rules.specs.declared.Op.{Op}
 use Rattle.pb_rules.specs.declared.Op.TheVariants.{Id, Axiom, Add, Times, Divide, Saturate, Weaken}
 use Rattle.proof_words.specs.Words.{op_text, op_of, IsWritable, number_of, alone, axiom_on, times_of, after, opposite_said}
@@ -28,7 +27,7 @@ digits_unmarked letter [] other all = refl
 digits_unmarked letter (b ∷ more) other all =
     elim (cases_Bool (b == letter)) [
       | inl t ↦
-          let digit = (both (is_ascii_digit b) (list_all is_ascii_digit more) all).0 in
+          let digit = (and_parts (is_ascii_digit b) (list_all is_ascii_digit more) all).0 in
           let here : is_ascii_digit letter ≡ true = subst (λ (c : ℕ). is_ascii_digit c ≡ true) (eqb-true b letter t) digit in
           absurd (let d : true ≡ false = sym here ∙ other in cc)
       | inr f ↦ rw f refl

@@ -2,8 +2,7 @@
 use Rattle.std.proofs.Common.{◌≡◌, ◌≢◌, ℕ, ◌+◌, ◌<◌, ◌≤◌, ◌^◌, Bool, true, false, not, cond, eqb, Option, Some, None, List, [], ◌∷◌, ◌++◌, length, get_or, set, take, drop, filter, refl, sym, ap, ◌∙◌, subst, arith, inl, inr, zero, suc, add-one, drop-cons, get_or-set_same, get_or-set_other}
 use Rattle.std.specs.Prelude.{Result, Ok, Err, OnOk, is_err, unwrap_or}
 use Rattle.std.specs.declared.alloc.AllocError.{AllocError}
-use Rattle.std.proofs.lemmas.Bool.{cases_eq}
-use Rattle.std.proofs.lemmas.Bool.Decides.{nat_tests}
+use Rattle.std.proofs.lemmas.Bool.{cases_eq, eq-eqb, ne_eqb}
 use Rattle.std.proofs.lemmas.List.{take_more, length-set}
 use Rattle.std.proofs.lemmas.List.Elements.{All-push, All-filter}
 use Rattle.std.proofs.lemmas.List.Sums.{sum_by_push, sum_by-cons}
@@ -38,12 +37,6 @@ occurrences-same lists k os h = (let none : List Occurrence = [] in get_or-set_s
 pub occurrences-other : (lists : List (List Occurrence)) (k j : ℕ) (os : List Occurrence) → j ≢ k → occurrences_of (set lists k os) j ≡ occurrences_of lists j
 occurrences-other lists k j os n = (let none : List Occurrence = [] in get_or-set_other lists k j os none n)
 
-pub hit : (a b : ℕ) → a ≡ b → eqb a b ≡ true
-hit a b e = grind (arith, nat_tests)
-
-pub miss : (a b : ℕ) → a ≢ b → eqb a b ≡ false
-miss a b n = grind (arith, nat_tests)
-
 pub Added-more : (slot : ℕ) (ts : List Term) (i : ℕ) (t : Term) (lists mid new : List (List Occurrence)) → Added slot (take i ts) lists mid → i < length ts → t ≡ get_or ts i t
     → number_of t.lit < length lists → new ≡ set mid (number_of t.lit) (occurrences_of mid (number_of t.lit) ++ record { slot = slot; coef = t.coef } ∷ []) → Added slot (take (i + 1) ts) lists new
 Added-more slot ts i t lists mid new p h is lt e =
@@ -60,15 +53,15 @@ Added-more slot ts i t lists mid new p h is lt e =
         | inl q ↦ (
             let Q : ℕ → Type 0 = λ j. weight_at slot (occurrences_of (set mid k0 os) j) ≡ weight_of j (take (i + 1) ts) in
             let a = ap (weight_at slot) (occurrences-same mid k0 os lt') ∙ weight_at-push (occurrences_of mid k0) one slot in
-            let b = ap (λ (o : Bool). cond o t.coef 0) (hit slot slot refl) in
+            let b = ap (λ (o : Bool). cond o t.coef 0) (eq-eqb slot slot refl) in
             let c = weight_of-more ts i t k0 h is in
-            let d = ap (λ (o : Bool). cond o t.coef 0) (hit k0 k0 refl) in
+            let d = ap (λ (o : Bool). cond o t.coef 0) (eq-eqb k0 k0 refl) in
             let f = p.own k0 in
             subst Q (sym q) (omega (arith, a, b, c, d, f)))
         | inr n ↦ (
             let a = ap (weight_at slot) (occurrences-other mid k0 k os n) in
             let c = weight_of-more ts i t k h is in
-            let d = ap (λ (o : Bool). cond o t.coef 0) (miss k0 k (λ z. n (sym z))) in
+            let d = ap (λ (o : Bool). cond o t.coef 0) (ne_eqb k0 k (λ z. n (sym z))) in
             let f = p.own k in
             omega (arith, a, c, d, f))
       ];
@@ -76,7 +69,7 @@ Added-more slot ts i t lists mid new p h is lt e =
         | inl q ↦ (
             let Q : ℕ → Type 0 = λ m. weight_at j (occurrences_of (set mid k0 os) m) ≡ weight_at j (occurrences_of lists m) in
             let a = ap (weight_at j) (occurrences-same mid k0 os lt') ∙ weight_at-push (occurrences_of mid k0) one j in
-            let b = ap (λ (o : Bool). cond o t.coef 0) (miss slot j (λ z. n (sym z))) in
+            let b = ap (λ (o : Bool). cond o t.coef 0) (ne_eqb slot j (λ z. n (sym z))) in
             let f = p.others j k0 n in
             subst Q (sym q) (omega (arith, a, b, f)))
         | inr m ↦ (ap (weight_at j) (occurrences-other mid k0 k os m) ∙ p.others j k n)
@@ -106,7 +99,7 @@ weight_at-gone p i (o ∷ os) h = go (p o) refl (weight_at-gone p i os h)
     go true q ih =
         let n : o.slot ≢ i = λ z. (let f = h o z in absurd (cc)) in
         let a = sum_by-cons (λ (o : Occurrence). cond (eqb o.slot i) o.coef 0) o (filter p os) in
-        let b = ap (λ (x : Bool). cond x o.coef 0) (miss o.slot i n) in
+        let b = ap (λ (x : Bool). cond x o.coef 0) (ne_eqb o.slot i n) in
         let c : weight_at i (o ∷ filter p os) ≡ 0 = omega (arith, a, b, ih) in
         rw q c
 
@@ -118,7 +111,7 @@ weight_at-kept p i (o ∷ os) h = go (p o) refl (weight_at-kept p i os h)
     go false q ih =
         let n : o.slot ≢ i = λ z. (let f = h o z in absurd (cc)) in
         let a = sum_by-cons (λ (o : Occurrence). cond (eqb o.slot i) o.coef 0) o os in
-        let b = ap (λ (x : Bool). cond x o.coef 0) (miss o.slot i n) in
+        let b = ap (λ (x : Bool). cond x o.coef 0) (ne_eqb o.slot i n) in
         let c : weight_at i (o ∷ os) ≡ weight_at i (filter p os) = omega (arith, a, b, ih) in
         rw q (sym c)
     go true q ih =
@@ -127,10 +120,10 @@ weight_at-kept p i (o ∷ os) h = go (p o) refl (weight_at-kept p i os h)
         rw q c
 
 is_other-own : (slot : ℕ) (o : Occurrence) → o.slot ≡ slot → is_other slot o ≡ false
-is_other-own slot o e = ap not (hit o.slot slot e)
+is_other-own slot o e = ap not (eq-eqb o.slot slot e)
 
 is_other-else : (slot i : ℕ) → i ≢ slot → (o : Occurrence) → o.slot ≡ i → is_other slot o ≡ true
-is_other-else slot i n o e = ap not (miss o.slot slot (λ z. n (sym e ∙ z)))
+is_other-else slot i n o e = ap not (ne_eqb o.slot slot (λ z. n (sym e ∙ z)))
 
 pub Removed-more : (slot : ℕ) (ts : List Term) (i : ℕ) (t : Term) (lists mid new : List (List Occurrence)) → Removed slot (drop i ts) lists mid → i < length ts → t ≡ get_or ts i t
     → number_of t.lit < length lists → new ≡ set mid (number_of t.lit) (filter (is_other slot) (occurrences_of mid (number_of t.lit))) → Removed slot (drop (i + 1) ts) lists new
@@ -151,7 +144,7 @@ Removed-more slot ts i t lists mid new p h is lt e =
         | inr n ↦ (
             let a = ap (weight_at slot) (occurrences-other mid k0 k os n) in
             let c = weight_of-drop ts i t k h is in
-            let d = ap (λ (o : Bool). cond o t.coef 0) (miss k0 k (λ z. n (sym z))) in
+            let d = ap (λ (o : Bool). cond o t.coef 0) (ne_eqb k0 k (λ z. n (sym z))) in
             let f = p.own k in
             omega (arith, a, c, d, f))
       ];

@@ -2,6 +2,7 @@
 use Rattle.std.proofs.Common.{◌≡◌, ◌≢◌, ℕ, Bool, true, cond, eqb, Option, Some, None, List, [], ◌∷◌, ◌++◌, get_or, zero, suc, refl, sym, ap, ◌∙◌, subst, inl, inr, ◌⊎◌, IsTrue, length, take, map, arith}
 use Rattle.std.proofs.lemmas.Bool.{cases_eq, cases_lt}
 use Rattle.std.proofs.lemmas.List.{take-map, take-take}
+use Rattle.std.proofs.lemmas.Option.{same_Some}
 use Rattle.pb_constraints.specs.declared.ConId.{ConId}
 use Rattle.pb_rules.specs.Literal.{Literal}
 use Rattle.pb_rules.specs.Linear.{Linear}
@@ -16,9 +17,6 @@ use Rattle.propagate.proofs.Attaching.{same_id}
 abbrev other_number : (c d : ConId) → d.0 ≢ c.0 → d ≢ c
 other_number c d n z = n (ap (λ (b : ConId). b.0) z)
 
-same-constraint : (j k : Linear) → Some j ≡ Some k → j ≡ k
-same-constraint j k e = cc
-
 -- after attaching a constraint of the store
 pub ready-attach : (p q : PropagatorView) (store : List Live) (t : TrailView) (c : ConId) → IsReady p store t → IsTrue (is_live store c)
     → ChangesOnly p.attached q.attached c (Some (constraint_of store c)) → q.variables ≡ p.variables → IsCounted q t → IsReady q store t
@@ -30,7 +28,7 @@ ready-attach p q store t c r live change variables counted = record {
   ];
   stored = λ d k h. elim (cases_eq d.0 c.0) [
     | inl e ↦ (let a : attached_at q.attached d ≡ Some (constraint_of store c) = ap (attached_at q.attached) (same_id d c e) ∙ change.here in
-        ap (constraint_of store) (same_id d c e) ∙ same-constraint (constraint_of store c) k (sym a ∙ h))
+        ap (constraint_of store) (same_id d c e) ∙ same_Some (constraint_of store c) k (sym a ∙ h))
     | inr n ↦ r.stored d k (sym (change.others d (other_number c d n)) ∙ h)
   ];
   counted = counted;

@@ -2,15 +2,15 @@
 use Rattle.std.proofs.Common.{◌≡◌, ℕ, ◌+◌, ◌<◌, ◌≤◌, ◌^◌, Bool, true, false, ltb, List, [], ◌∷◌, ◌++◌, length, Option, Some, None, Ok, refl, sym, ap, subst, ◌∙◌, append_assoc, arith, inl, inr, All}
 use Rattle.std.specs.Prelude.{codes, decimal, ◌||◌, is_some, is_none, if◌then◌else◌}
 use Rattle.std.specs.List.{list_any, AllByRecursion, join_with_byte}
-use Rattle.std.proofs.lemmas.Bool.{cases_Bool}
+use Rattle.std.proofs.lemmas.Bool.{cases_Bool, or_parts, eq-eqb}
 use Rattle.std.proofs.lemmas.List.{append-nil, length-append}
 use Rattle.std.proofs.lemmas.List.Elements.{recursion_from_All}
+use Rattle.std.proofs.lemmas.Slice.Eq.{bytes_eq-Decides}
 use Rattle.line_words.specs.Rules.{Words, Test, Statement, first_broken}
 use Rattle.line_words.specs.Run.{Reading, run, unless_broken}
 use Rattle.line_words.specs.declared.refusals.Why.TheVariants.{BadStatement, Unclosed, NotInOrder}
 use Rattle.line_words.proofs.Least.{run-nil}
 use Rattle.line_words.proofs.Plain.{plain_whole_of-decimal}
-use Rattle.line_words.proofs.Whys.{neither}
 use Rattle.names.specs.Names.{IsName}
 use Rattle.spelled_lines.specs.Lines.{pieces, is_empty, words_of, spelled}
 use Rattle.spelled_lines.proofs.FirstPiece.{pieces-nil, pieces-append}
@@ -27,9 +27,8 @@ use Rattle.result_text.specs.Fronts.{FrontValue, IsShaped, IsFrontText, header_w
 use Rattle.result_text.specs.FrontLines.{FrontStated, front_nothing, front_tests, tests_in, after_words, next_in, front_with_line, end_tests_in, front_rules, front_in}
 use Rattle.result_text.specs.declared.places.Place.{Place}
 use Rattle.result_text.specs.declared.places.Place.TheVariants.{Objectives, Between, Inside, Closed}
-use Rattle.result_text.proofs.Numbering.{same_self}
 use Rattle.result_text.proofs.Going.{after, line_at, with_lines-push}
-use Rattle.result_text.proofs.Parsing.{decimal_word, word_of, eqb_self}
+use Rattle.result_text.proofs.Parsing.{decimal_word, word_of}
 use Rattle.result_text.proofs.Reread.{reread}
 use Rattle.result_text.proofs.Rewriting.{none_of}
 use Rattle.result_text.proofs.Accepting.{fine_alone}
@@ -74,7 +73,7 @@ last_line s number done all (p ∷ ps) e t =
     let later = (fine_alone p (words_tests s (after s done) ws) step.0).later in
     let rest : List Test = if is_vector ws then vector_tests s (later_words ws) else (item_tests s ws ++ (NotInOrder, ltb (item_variable s ws) (after s done).least) ∷ []) in
     let first = none_of (BadStatement, is_some (after s done).vector || list_any is_empty ws) rest later in
-    absurd (let c : true ≡ false = sym t ∙ (neither (is_some (after s done).vector) (list_any is_empty ws) first.0).0 in cc)
+    absurd (let c : true ≡ false = sym t ∙ (or_parts (is_some (after s done).vector) (list_any is_empty ws) first.0).0 in cc)
 
 -- lines are read within a front, and the entry is done
 record IsRun (s : SpecValue) (number : ℕ) (done : List Statement) (ps : List (List ℕ)) (next : FrontStated) : Type 0 where
@@ -174,7 +173,7 @@ entry_word = (record { some = omega arith; bytes = refl }, tt)
 
 number_taken : (s : SpecValue) (es : List EntryValue) → length es + 1 < 2 ^ 63 → (p : IsSpelled (entry_words (length es + 1))) → list_any is_empty (entry_words (length es + 1)) ≡ false
     → first_broken (front_line_tests s (between s es) (spelled (entry_words (length es + 1)))) ≡ None
-number_taken s es lt p none = rw (p.good, p.ended, p.words, none, plain_whole_of-decimal (length es + 1) lt, eqb_self (length es + 1)) refl
+number_taken s es lt p none = rw (p.good, p.ended, p.words, none, plain_whole_of-decimal (length es + 1) lt, eq-eqb (length es + 1) (length es + 1) refl) refl
 
 number_read : (s : SpecValue) (text : List ℕ) (es : List EntryValue) → IsReached s text (between s es) → length es + 1 < 2 ^ 63
     → IsReached s (text ++ spelled (entry_words (length es + 1))) (inside s es)
@@ -216,7 +215,8 @@ head_read s names =
     let words : AreWords (objectives_words s) = (record { some = omega arith; bytes = refl }, names_are s.objectives (recursion_from_All IsName s.objectives names)) in
     let p = spelled_is (codes "objectives") s.objectives words in
     let empty = none_empty (objectives_words s) words in
-    let fine : first_broken (front_line_tests s second (spelled (objectives_words s))) ≡ None = rw (p.good, p.ended, p.words, empty, same_self (spelled (objectives_words s))) refl in
+    let fine : first_broken (front_line_tests s second (spelled (objectives_words s))) ≡ None =
+        rw (p.good, p.ended, p.words, empty, (bytes_eq-Decides (spelled (objectives_words s)) (spelled (objectives_words s))).1 refl) refl in
     line_more s (spelled header_words) second (between s []) (objectives_words s) header p fine refl
 
 -- a front is closed

@@ -1,17 +1,15 @@
 -- The written lines are read as what they were written for.
-use Rattle.std.proofs.Common.{◌≡◌, ℕ, ◌<◌, ◌^◌, true, false, List, [], ◌∷◌, length, map, Ok, None, refl, sym, ap, subst, ◌∙◌, arith, inl, inr, All}
-use Rattle.std.specs.Prelude.{decimal, ◌==◌}
+use Rattle.std.proofs.Common.{◌≡◌, ℕ, ◌<◌, ◌^◌, false, List, [], ◌∷◌, length, map, Ok, None, refl, sym, ap, subst, ◌∙◌, arith, inl, inr, All}
+use Rattle.std.specs.Prelude.{decimal}
 use Rattle.std.specs.List.{list_any, list_all, AllByRecursion}
 use Rattle.std.specs.Char.{is_ascii_digit}
-use Rattle.std.proofs.lemmas.Bool.{lt-leb, lt-ltb}
-use Rattle.std.proofs.lemmas.Bool.Decides.{nat_tests}
+use Rattle.std.proofs.lemmas.Bool.{lt-leb, lt-ltb, eq-eqb}
 use Rattle.std.proofs.lemmas.List.{length-map}
 use Rattle.std.proofs.lemmas.Fmt.{digits_decimal, decimal_nonempty}
 use Rattle.line_words.specs.Numbers.{plain_whole_of}
 use Rattle.line_words.specs.Rules.{Words, first_broken}
 use Rattle.line_words.proofs.Digits.{own}
 use Rattle.line_words.proofs.Plain.{plain_whole_of-decimal}
-use Rattle.line_words.proofs.Whys.{both}
 use Rattle.names.specs.Names.{IsName, number_of}
 use Rattle.spec_model.specs.Spec.{SpecValue, Arc, Choice, Name, name_at, option_at, arc_at, arc_var, resource_var, link_var, design_variables, choice}
 use Rattle.spec_model.specs.WellFormed.{IsWellFormed, AreDistinct}
@@ -47,14 +45,12 @@ no_option = choice 0 0 0
 abbrev no_arc : Arc
 no_arc = record { link = 0; tail = 0; head = 0 }
 
-pub eqb_self : (n : ℕ) → (n == n) ≡ true
-eqb_self n = grind (arith, nat_tests)
-
 bind_fine : (s : SpecValue) (t r n : List ℕ) (task resource o : ℕ) → plain_whole_of n ≡ Ok o → number_of s.tasks t ≡ task → number_of s.resources r ≡ resource → task < length s.tasks
     → resource < length s.resources
     → o < length s.options → (option_at s o).task ≡ task → (option_at s o).resource ≡ resource → (first_broken (bind_tests s t r n) ≡ None) × (number_in n ≡ o)
 bind_fine s t r n task resource o number et er lt lr lo ot or =
-    (rw (number, et, er, lt-ltb task (length s.tasks) lt, lt-ltb resource (length s.resources) lr, lt-leb (length s.options) o lo, ot, or, eqb_self task, eqb_self resource) refl, rw number refl)
+    (rw (number, et, er, lt-ltb task (length s.tasks) lt, lt-ltb resource (length s.resources) lr, lt-leb (length s.options) o lo, ot, or,
+        eq-eqb task task refl, eq-eqb resource resource refl) refl, rw number refl)
 
 bind_read : (s : SpecValue) → IsWellFormed s → HasNames s → (o : ℕ) → o < length s.options → IsReadAs s o (bind_words s o)
 bind_read s w h o lt =
@@ -169,6 +165,6 @@ vector_read s numbers len small =
     let count : length (map decimal numbers) ≡ length s.objectives = length-map numbers decimal ∙ len in
     record {
       words = (record { some = omega arith; bytes = refl }, decimals_named numbers small);
-      tests = rw (count, eqb_self (length s.objectives), are_numbers numbers small, none_big numbers small) refl;
+      tests = rw (count, eq-eqb (length s.objectives) (length s.objectives) refl, are_numbers numbers small, none_big numbers small) refl;
       back = numbers_back numbers small;
     }

@@ -1,9 +1,9 @@
 -- A line that breaks no rule is the written line of what it states.
-use Rattle.std.proofs.Common.{◌≡◌, ℕ, ◌<◌, Bool, true, false, not, leb, List, [], ◌∷◌, ◌++◌, length, map, None, Result, Ok, Err, refl, sym, ap, ◌∙◌, arith, inl, inr}
+use Rattle.std.proofs.Common.{◌≡◌, ℕ, ◌<◌, true, false, not, leb, List, [], ◌∷◌, ◌++◌, length, map, None, Result, Ok, Err, refl, sym, ap, ◌∙◌, arith, inl, inr}
 use Rattle.std.specs.Prelude.{codes, decimal, ◌||◌, ◌==◌}
 use Rattle.std.specs.List.{list_any}
 use Rattle.std.specs.Str.{bytes_eq}
-use Rattle.std.proofs.lemmas.Bool.{cases_Bool, leb-false, eqb-true}
+use Rattle.std.proofs.lemmas.Bool.{cases_Bool, leb-false, eqb-true, and_parts, or_parts, not-false}
 use Rattle.std.proofs.lemmas.Nat.{mul-add-lt}
 use Rattle.std.proofs.lemmas.List.Sums.{passes_at_first}
 use Rattle.std.proofs.lemmas.Slice.Eq.{bytes_eq-Decides}
@@ -13,7 +13,7 @@ use Rattle.line_words.specs.declared.numbers.NumberFault.{NumberFault}
 use Rattle.line_words.specs.declared.numbers.NumberFault.TheVariants.{BadNumber, TooBig}
 use Rattle.line_words.specs.declared.refusals.Why.TheVariants as whys
 use Rattle.line_words.proofs.Plain.{decimal_when_read}
-use Rattle.line_words.proofs.Whys.{some, none, both, neither}
+use Rattle.line_words.proofs.Whys.{some, none}
 use Rattle.names.specs.Names.{number_of}
 use Rattle.spec_model.specs.Spec.{SpecValue, Arc, name_at, option_at, arc_at, arc_var, resource_var, link_var, design_variables}
 use Rattle.spec_model.specs.WellFormed.{IsWellFormed}
@@ -39,13 +39,6 @@ none_last (x ∷ xs) ys e = none_last xs ys (none_of x (xs ++ ys) e).1
 pub none_first : (xs ys : List Test) → first_broken (xs ++ ys) ≡ None → first_broken xs ≡ None
 none_first [] ys e = refl
 none_first (x ∷ xs) ys e = let p = none_of x (xs ++ ys) e in rw p.0 (none_first xs ys p.1)
-
-pub unnot : (b : Bool) → not b ≡ false → b ≡ true
-unnot true e = refl
-unnot false e = absurd cc
-
-pub same : (xs ys : List ℕ) → bytes_eq xs ys ≡ true → xs ≡ ys
-same xs ys e = (bytes_eq-Decides xs ys).0 e
 
 pub cons_same : (x y : List ℕ) (xs ys : Words) → x ≡ y → xs ≡ ys → x ∷ xs ≡ y ∷ ys
 cons_same x y xs ys a b = cc
@@ -81,16 +74,16 @@ bind_back s t r n e =
         a.1 in
     let d = none_of (whys.TooBig, is_too_big m) ((whys.WrongBinding, not (is_option_of s (number_of s.tasks t) (number_of s.resources r) o)) ∷ []) b.1 in
     let w = none_of (whys.WrongBinding, not (is_option_of s (number_of s.tasks t) (number_of s.resources r) o)) [] d.1 in
-    let outer = neither (known_t || known_r) past b.0 in
-    let inner = neither known_t known_r outer.0 in
+    let outer = or_parts (known_t || known_r) past b.0 in
+    let inner = or_parts known_t known_r outer.0 in
     let number : m ≡ ok o = number_ok m a.0 d.0 in
     let text = decimal_when_read n o number in
     let within : leb (length s.options) o ≡ false = sym (ap (is_past (length s.options)) number) ∙ outer.1 in
     let lt : o < length s.options = leb-false (length s.options) o within in
-    let option = both ((option_at s o).task == number_of s.tasks t) ((option_at s o).resource == number_of s.resources r) (unnot _ w.0) in
-    let task : name_at s.tasks (option_at s o).task ≡ t = ap (name_at s.tasks) (eqb-true (option_at s o).task (number_of s.tasks t) option.0) ∙ name_of_number s.tasks t (unnot _ inner.0) in
+    let option = and_parts ((option_at s o).task == number_of s.tasks t) ((option_at s o).resource == number_of s.resources r) (not-false _ w.0) in
+    let task : name_at s.tasks (option_at s o).task ≡ t = ap (name_at s.tasks) (eqb-true (option_at s o).task (number_of s.tasks t) option.0) ∙ name_of_number s.tasks t (not-false _ inner.0) in
     let resource : name_at s.resources (option_at s o).resource ≡ r = ap (name_at s.resources) (eqb-true (option_at s o).resource (number_of s.resources r) option.1)
-        ∙ name_of_number s.resources r (unnot _ inner.1) in
+        ∙ name_of_number s.resources r (not-false _ inner.1) in
     record {
       there = omega (arith, lt);
       words = sym (item_option s o lt ∙ rw (task, resource, ← text.0) refl);
@@ -110,17 +103,17 @@ use_back s w m l p q e =
     let a = arc_number s l p q in
     let x = none_of (whys.UnknownName, known_m || known_l || known_p || known_q) ((whys.WrongBinding, leb (length s.arcs) a) ∷ []) e in
     let y = none_of (whys.WrongBinding, leb (length s.arcs) a) [] x.1 in
-    let three = neither (known_m || known_l || known_p) known_q x.0 in
-    let two = neither (known_m || known_l) known_p three.0 in
-    let one = neither known_m known_l two.0 in
+    let three = or_parts (known_m || known_l || known_p) known_q x.0 in
+    let two = or_parts (known_m || known_l) known_p three.0 in
+    let one = or_parts known_m known_l two.0 in
     let lt : a < length s.arcs = leb-false (length s.arcs) a y.0 in
-    let there : message < length s.messages = omega (arith, known_lt s.message_names m (unnot _ one.0), w.plan.named) in
+    let there : message < length s.messages = omega (arith, known_lt s.message_names m (not-false _ one.0), w.plan.named) in
     let is = arc_passes (number_of s.links l) (number_of s.resources p) (number_of s.resources q) (arc_at s a)
     (passes_at_first (is_arc_of (number_of s.links l) (number_of s.resources p) (number_of s.resources q)) s.arcs no_arc lt) in
-    let link : name_at s.links (arc_at s a).link ≡ l = ap (name_at s.links) is.link ∙ name_of_number s.links l (unnot _ one.1) in
-    let tail : name_at s.resources (arc_at s a).tail ≡ p = ap (name_at s.resources) is.tail ∙ name_of_number s.resources p (unnot _ two.1) in
-    let head : name_at s.resources (arc_at s a).head ≡ q = ap (name_at s.resources) is.head ∙ name_of_number s.resources q (unnot _ three.1) in
-    let name : name_at s.message_names message ≡ m = name_of_number s.message_names m (unnot _ one.0) in
+    let link : name_at s.links (arc_at s a).link ≡ l = ap (name_at s.links) is.link ∙ name_of_number s.links l (not-false _ one.1) in
+    let tail : name_at s.resources (arc_at s a).tail ≡ p = ap (name_at s.resources) is.tail ∙ name_of_number s.resources p (not-false _ two.1) in
+    let head : name_at s.resources (arc_at s a).head ≡ q = ap (name_at s.resources) is.head ∙ name_of_number s.resources q (not-false _ three.1) in
+    let name : name_at s.message_names message ≡ m = name_of_number s.message_names m (not-false _ one.0) in
     let inside = mul-add-lt message (length s.arcs) a (length s.messages) there lt in
     record {
       there = omega (arith, inside);
@@ -130,7 +123,7 @@ use_back s w m l p q e =
 alloc_back : (s : SpecValue) (r : List ℕ) → first_broken (name_tests s.resources r) ≡ None → IsItemOf s (codes "alloc" ∷ r ∷ []) (resource_var s (number_of s.resources r))
 alloc_back s r e =
     let x = none_of (whys.UnknownName, not (is_name s.resources r)) [] e in
-    let known = unnot _ x.0 in
+    let known = not-false _ x.0 in
     let lt = known_lt s.resources r known in
     record {
       there = omega (arith, lt);
@@ -140,7 +133,7 @@ alloc_back s r e =
 wire_back : (s : SpecValue) (l : List ℕ) → first_broken (name_tests s.links l) ≡ None → IsItemOf s (codes "wire" ∷ l ∷ []) (link_var s (number_of s.links l))
 wire_back s l e =
     let x = none_of (whys.UnknownName, not (is_name s.links l)) [] e in
-    let known = unnot _ x.0 in
+    let known = not-false _ x.0 in
     let lt = known_lt s.links l known in
     record {
       there = omega (arith, lt);
@@ -158,13 +151,14 @@ item_back s w (k ∷ a ∷ []) e =
       | inl t ↦
           let tests : item_tests s (k ∷ a ∷ []) ≡ name_tests s.resources a = rw t refl in
           let variable : item_variable s (k ∷ a ∷ []) ≡ resource_var s (number_of s.resources a) = rw t refl in
-          item_by s (k ∷ a ∷ []) (codes "alloc" ∷ a ∷ []) _ _ (cons_same k (codes "alloc") (a ∷ []) (a ∷ []) (same k (codes "alloc") t) refl) variable
+          item_by s (k ∷ a ∷ []) (codes "alloc" ∷ a ∷ []) _ _ (cons_same k (codes "alloc") (a ∷ []) (a ∷ []) ((bytes_eq-Decides k (codes "alloc")).0 t) refl) variable
               (alloc_back s a (sym (ap first_broken tests) ∙ e))
       | inr f ↦ elim (cases_Bool (bytes_eq k (codes "wire"))) [
         | inl t ↦
             let tests : item_tests s (k ∷ a ∷ []) ≡ name_tests s.links a = rw (f, t) refl in
             let variable : item_variable s (k ∷ a ∷ []) ≡ link_var s (number_of s.links a) = rw f refl in
-            item_by s (k ∷ a ∷ []) (codes "wire" ∷ a ∷ []) _ _ (cons_same k (codes "wire") (a ∷ []) (a ∷ []) (same k (codes "wire") t) refl) variable (wire_back s a (sym (ap first_broken tests) ∙ e))
+            item_by s (k ∷ a ∷ []) (codes "wire" ∷ a ∷ []) _ _ (cons_same k (codes "wire") (a ∷ []) (a ∷ []) ((bytes_eq-Decides k (codes "wire")).0 t) refl) variable
+                (wire_back s a (sym (ap first_broken tests) ∙ e))
         | inr g ↦ absurd (let tests : item_tests s (k ∷ a ∷ []) ≡ misshapen = rw (f, g) refl in misshapen_not (sym (ap first_broken tests) ∙ e))
       ]
     ]
@@ -173,7 +167,7 @@ item_back s w (k ∷ a ∷ b ∷ c ∷ []) e =
     elim (cases_Bool (bytes_eq k (codes "bind"))) [
       | inl t ↦
           let tests : item_tests s (k ∷ a ∷ b ∷ c ∷ []) ≡ bind_tests s a b c = rw t refl in
-          item_by s (k ∷ a ∷ b ∷ c ∷ []) (codes "bind" ∷ a ∷ b ∷ c ∷ []) _ _ (cons_same k (codes "bind") (a ∷ b ∷ c ∷ []) (a ∷ b ∷ c ∷ []) (same k (codes "bind") t) refl) refl
+          item_by s (k ∷ a ∷ b ∷ c ∷ []) (codes "bind" ∷ a ∷ b ∷ c ∷ []) _ _ (cons_same k (codes "bind") (a ∷ b ∷ c ∷ []) (a ∷ b ∷ c ∷ []) ((bytes_eq-Decides k (codes "bind")).0 t) refl) refl
               (bind_back s a b c (sym (ap first_broken tests) ∙ e))
       | inr f ↦ absurd (let tests : item_tests s (k ∷ a ∷ b ∷ c ∷ []) ≡ misshapen = rw f refl in misshapen_not (sym (ap first_broken tests) ∙ e))
     ]
@@ -181,7 +175,8 @@ item_back s w (k ∷ a ∷ b ∷ c ∷ d ∷ []) e =
     elim (cases_Bool (bytes_eq k (codes "use"))) [
       | inl t ↦
           let tests : item_tests s (k ∷ a ∷ b ∷ c ∷ d ∷ []) ≡ use_tests s a b c d = rw t refl in
-          item_by s (k ∷ a ∷ b ∷ c ∷ d ∷ []) (codes "use" ∷ a ∷ b ∷ c ∷ d ∷ []) _ _ (cons_same k (codes "use") (a ∷ b ∷ c ∷ d ∷ []) (a ∷ b ∷ c ∷ d ∷ []) (same k (codes "use") t) refl) refl
+          item_by s (k ∷ a ∷ b ∷ c ∷ d ∷ []) (codes "use" ∷ a ∷ b ∷ c ∷ d ∷ []) _ _
+              (cons_same k (codes "use") (a ∷ b ∷ c ∷ d ∷ []) (a ∷ b ∷ c ∷ d ∷ []) ((bytes_eq-Decides k (codes "use")).0 t) refl) refl
               (use_back s w a b c d (sym (ap first_broken tests) ∙ e))
       | inr f ↦ absurd (let tests : item_tests s (k ∷ a ∷ b ∷ c ∷ d ∷ []) ≡ misshapen = rw f refl in misshapen_not (sym (ap first_broken tests) ∙ e))
     ]
@@ -197,8 +192,8 @@ pub record AreNumerals (ws : Words) : Type 0 where
 pub numerals : (ws : Words) → list_any no_number ws ≡ false → list_any too_big ws ≡ false → AreNumerals ws
 numerals [] a b = record { words = refl; small = tt }
 numerals (w ∷ ws) a b =
-    let p = neither (no_number w) (list_any no_number ws) a in
-    let q = neither (too_big w) (list_any too_big ws) b in
+    let p = or_parts (no_number w) (list_any no_number ws) a in
+    let q = or_parts (too_big w) (list_any too_big ws) b in
     let one = decimal_when_read w (number_in w) (number_ok (plain_whole_of w) p.0 q.0) in
     let rest = numerals ws p.1 q.1 in
     record { words = cons_same w (decimal (number_in w)) ws (map decimal (map number_in ws)) one.0 rest.words; small = (one.1, rest.small) }
@@ -213,4 +208,4 @@ vector_back s ws e =
     let x = none_of (whys.BadStatement, not (length ws == length s.objectives)) ((whys.BadNumber, list_any no_number ws) ∷ (whys.TooBig, list_any too_big ws) ∷ []) e in
     let y = none_of (whys.BadNumber, list_any no_number ws) ((whys.TooBig, list_any too_big ws) ∷ []) x.1 in
     let z = none_of (whys.TooBig, list_any too_big ws) [] y.1 in
-    record { one_each = eqb-true (length ws) (length s.objectives) (unnot _ x.0); numerals = numerals ws y.0 z.0 }
+    record { one_each = eqb-true (length ws) (length s.objectives) (not-false _ x.0); numerals = numerals ws y.0 z.0 }

@@ -5,6 +5,7 @@ use Rattle.std.specs.List.{list_any, filter}
 use Rattle.std.proofs.lemmas.List.{take_more, take_all, map-append, get_or_past}
 use Rattle.std.proofs.lemmas.Bool.{cases_lt}
 use Rattle.std.proofs.lemmas.List.FromFn.{get_or-map-range_with_len, length-map-range_with_len}
+use Rattle.std.proofs.Math.Bool.{and_comm}
 use Rattle.spec_model.specs.Spec.{SpecValue, Choice, below, those, message_at, choice}
 use Rattle.spec_model.specs.WellFormed.{IsWellFormed}
 use Rattle.spec_model.proofs.InRange.{option_in, message_in}
@@ -137,17 +138,11 @@ pub option_on_is : (s : SpecValue) (t r : ℕ) (xs ys : List ℕ) → ys ≡ fil
 unfolding of_task of_task_on on_resource
 option_on_is s t r xs ys h e = h ∙ (ap (filter (on_resource s r)) e ∙ filter_twice (of_task s t) (on_resource s r) (below (length s.options)))
 
-swap : (a b : Bool) → (a && b) ≡ (b && a)
-swap true true = refl
-swap true false = refl
-swap false true = refl
-swap false false = refl
-
 pub receiver_options_are : (s : SpecValue) (m r : ℕ) (xs ys : List ℕ) → ys ≡ filter (is_for s m) xs → xs ≡ options_on s r → ys ≡ receiver_options s m r
 unfolding for_receiver on_resource is_for
 receiver_options_are s m r xs ys h e =
     h ∙ (ap (filter (is_for s m)) e ∙ (filter_twice (on_resource s r) (is_for s m) (below (length s.options))
-        ∙ those_agree (λ o. on_resource s r o && is_for s m o) (for_receiver s m r) (length s.options) (λ o l. swap (on_resource s r o) (is_for s m o))))
+        ∙ those_agree (λ o. on_resource s r o && is_for s m o) (for_receiver s m r) (length s.options) (λ o l. and_comm (on_resource s r o) (is_for s m o))))
 
 -- a value of a function that is 0 past n
 value_at : (g : ℕ → ℕ) (n o : ℕ) → (n ≤ o → g o ≡ 0) → get_or (map g (below n)) o 0 ≡ g o

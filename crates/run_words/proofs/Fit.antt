@@ -83,11 +83,8 @@ fit_number (Some t) = go (number_from 1 t) (number_above 1 t)
     go None h = tt
     go (Some k) h = h
 
-same_text : (t : Text) → bytes_eq t t ≡ true
-same_text t = (bytes_eq-Decides t t).1 refl
-
 last_apart : (t a f p : Text) → is_apart (Some p) (t ∷ a ∷ f ∷ []) ≡ true → f ≢ p
-last_apart t a f p h e = go (bytes_eq t p) (bytes_eq a p) (bytes_eq f p) (subst (λ (x : Text). bytes_eq f x ≡ true) e (same_text f)) h
+last_apart t a f p h e = go (bytes_eq t p) (bytes_eq a p) (bytes_eq f p) (subst (λ (x : Text). bytes_eq f x ≡ true) e ((bytes_eq-Decides f f).1 refl)) h
   where
     go : (x y z : Bool) → z ≡ true → not (x || (y || (z || false))) ≡ true → ⊥
     go true y z q h = absurd (cc)

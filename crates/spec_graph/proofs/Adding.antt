@@ -6,11 +6,12 @@ use Rattle.std.proofs.lemmas.Bool.{cases_lt}
 use Rattle.spec_model.specs.Spec.{Name, SpecValue, Message, Arc}
 use Rattle.spec_model.specs.WellFormed.{AreDistinct, IsArcIn, AreRows, Leads, IsPlan, IsMessageIn}
 use Rattle.spec_model.proofs.Chains.{still_none}
+use Rattle.spec_model.proofs.Distinct.{distinct_push}
 use Rattle.spec_graph.specs.Plan.{arcs_of_link, with_link, with_message}
 use Rattle.task_order.specs.Order.{IsOrderOf, IsLed, comes_after, is_joined}
 use Rattle.task_order.proofs.Orders.{order_more}
 use Rattle.spec_graph.specs.Refusals.{IsBig, HasBig, HasTwice, HasBigMessage}
-use Rattle.spec_graph.proofs.Growing.{apart_push, distinct_push, Grows, arcs_grow, options_grow, messages_grow, deadlines_grow, rows_push}
+use Rattle.spec_graph.proofs.Growing.{apart_push, Grows, arcs_grow, options_grow, messages_grow, deadlines_grow, rows_push}
 
 -- ---- objectives
 

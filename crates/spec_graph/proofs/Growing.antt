@@ -4,7 +4,8 @@ use Rattle.std.proofs.lemmas.List.{get_or_append_left, get_or-append_right, get_
 use Rattle.std.proofs.lemmas.List.Elements.{All-push, All-weaker}
 use Rattle.std.proofs.lemmas.Bool.{cases_lt}
 use Rattle.spec_model.specs.Spec.{Name, SpecValue, Message, Arc, Choice, Deadline}
-use Rattle.spec_model.specs.WellFormed.{AreDistinct, IsArcIn, IsOptionIn, IsDeadlineIn, IsRow, AreRows, IsPlan, IsMessageIn}
+use Rattle.spec_model.specs.WellFormed.{IsArcIn, IsOptionIn, IsDeadlineIn, IsRow, AreRows, IsPlan, IsMessageIn}
+use Rattle.spec_model.proofs.Distinct.{distinct_push}
 use Rattle.spec_graph.specs.Refusals.{HasBig, IsMapped}
 
 -- what stands at the end of a list with one element more
@@ -29,9 +30,6 @@ apart_push {A = A} R xs x old new i j d l h r = go (cases_lt j (length xs))
         let li : i < length xs = omega (arith, l, lj, h, length-append xs (x ∷ [])) in
         let ei = get_or_append_left xs (x ∷ []) d i li in
         new i d li (subst (λ (y : A). R (get_or xs i d) y) (at_end xs x j d lj h) (subst (λ (y : A). R y (get_or (xs ++ x ∷ []) j d)) ei r))
-
-pub distinct_push : {A : Type 0} (xs : List A) (x : A) → AreDistinct xs → ¬ Contains xs x → AreDistinct (xs ++ x ∷ [])
-distinct_push {A = A} xs x old new = apart_push (λ (a b : A). a ≡ b) xs x old (λ i d l e. new (i, l, get_or_default xs i x d l ∙ e))
 
 -- the same counts or more
 pub record Grows (s t : SpecValue) : Type 0 where

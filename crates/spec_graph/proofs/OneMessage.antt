@@ -11,12 +11,12 @@ use Rattle.spec_model.proofs.Chains.{none_within}
 use Rattle.spec_model.proofs.Joined.{All-those}
 use Rattle.spec_model.proofs.Tests.{Contains-those}
 use Rattle.spec_model.proofs.Those.{cases_suc, few_those}
+use Rattle.spec_model.proofs.Distinct.{distinct_push}
 use Rattle.task_order.specs.Order.{IsOrderOf}
 use Rattle.task_order.proofs.Orders.{order_within}
 use Rattle.spec_graph.specs.Lists.{message_in}
 use Rattle.spec_graph.specs.Merged.{is_number, is_unlisted, unlisted, with_once, with_all_once, with_receivers, messages_at, all_receivers, first_sender, merged, merged_message, merged_messages, merged_names, AreOfOneSender, IsNameOfOther}
 use Rattle.spec_graph.proofs.Changing.{plan_messages}
-use Rattle.spec_graph.proofs.Growing.{distinct_push}
 use Rattle.spec_graph.proofs.Keeping.{those_yes, those_no, name_new, name_free}
 use Rattle.spec_graph.proofs.Parts.{found, finds}
 

@@ -2,11 +2,11 @@
 use Rattle.std.proofs.Common.{◌≡◌, ℕ, ◌+◌, ◌<◌, Bool, true, false, not, List, length, get_or, map, take, refl, sym, ap, ◌∙◌, subst, arith, Contains}
 use Rattle.std.specs.Prelude.{◌||◌, ◌==◌, fold}
 use Rattle.std.specs.List.{list_any}
-use Rattle.std.proofs.lemmas.Bool.{false≢true}
+use Rattle.std.proofs.lemmas.Bool.{false≢true, eq-eqb, eqb-true}
 use Rattle.std.proofs.lemmas.List.{get_or-map, length-map, get_or_default}
 use Rattle.std.proofs.lemmas.List.Sums.{fold_more}
 use Rattle.spec_model.specs.Spec.{Message}
-use Rattle.spec_model.proofs.Tests.{passing_member, member_passes, to_test, from_test}
+use Rattle.spec_model.proofs.Tests.{passing_member, member_passes}
 use Rattle.task_order.specs.Order.{is_in}
 use Rattle.spec_graph.specs.Lists.{message_number, task_number, message_in}
 use Rattle.spec_graph.specs.Merged.{is_number, messages_at, with_once, with_all_once}
@@ -40,12 +40,12 @@ seeing_message ns i d seen next l new en s = seeing_more (map message_number ns)
 
 -- a number is in a list exactly where a test finds it
 pub found : (xs : List ℕ) (x : ℕ) → Contains xs x → list_any (is_number x) xs ≡ true
-found xs x h = member_passes (is_number x) xs x h (to_test refl)
+found xs x h = member_passes (is_number x) xs x h (eq-eqb _ _ refl)
 
 pub finds : (xs : List ℕ) (x : ℕ) → list_any (is_number x) xs ≡ true → Contains xs x
 finds xs x e =
     let y = passing_member (is_number x) xs e in
-    subst (Contains xs) (from_test y.0 x y.2) y.1
+    subst (Contains xs) (eqb-true y.0 x y.2) y.1
 
 -- the marks of a list that was gone through
 pub marks_done : (xs : List ℕ) (n : ℕ) (seen : List Bool) → n ≡ length xs → Seeing xs n seen → AreMarks xs seen

@@ -1,12 +1,12 @@
 -- Lists of tasks that are gone through: for one that stands twice, and for what comes after them.
 use Rattle.std.proofs.Common.{◌≡◌, ℕ, ◌+◌, ◌<◌, ◌≤◌, Bool, true, false, List, length, get_or, map, take, sym, ap, ◌∙◌, subst, arith, ◌⊎◌, inl, inr, eq-eqb}
 use Rattle.std.specs.Prelude.{◌||◌, ◌==◌}
-use Rattle.std.proofs.lemmas.Bool.{cases_lt, false≢true}
+use Rattle.std.proofs.lemmas.Bool.{cases_lt, false≢true, or_cases, or_left, or_right}
 use Rattle.std.proofs.lemmas.List.{get_or-map, length-map, take_all}
 use Rattle.spec_model.specs.Spec.{Message}
 use Rattle.task_order.specs.Order.{is_in, is_gathered, IsOrderOf, IsLed}
 use Rattle.task_order.proofs.Orders.{led_more}
-use Rattle.task_order.proofs.Sets.{or_cases, or_left, or_right, same_from}
+use Rattle.task_order.proofs.Sets.{same_from}
 use Rattle.spec_graph.specs.Refusals.{HasTwice}
 use Rattle.spec_graph.specs.Lists.{task_number}
 use Rattle.spec_graph.specs.declared.numbers.TaskNo.{TaskNo}

@@ -1,25 +1,21 @@
 -- What cells, rows and lines are refused for, from what the code finds.
-use Rattle.std.proofs.Common.{◌≡◌, ℕ, ℤ, pos, ◌≤◌, ◌^◌, ◌⊎◌, inl, inr, Bool, true, false, List, length, Option, Some, None, Result, Ok, Err, refl, sym, ap, subst, Any, codes, IsTrue, ◌↔◌}
+use Rattle.std.proofs.Common.{◌≡◌, ℕ, ◌≤◌, ◌^◌, ◌⊎◌, inl, inr, Bool, true, false, List, length, Option, Some, None, refl, sym, ap, subst, Any, codes, IsTrue, ◌↔◌}
 use Rattle.std.specs.Prelude.{is_some}
-use Rattle.std.proofs.lemmas.Bool.{cases_lt}
-use Rattle.line_words.specs.Decimal.{decimal_of}
-use Rattle.line_words.specs.declared.numbers.NumberFault.{NumberFault}
 use Rattle.line_words.specs.declared.refusals.Why.{Why}
-use Rattle.line_words.specs.declared.refusals.Why.TheVariants.{NoRow, TooBig}
 use Rattle.spec_model.specs.Spec.{Name}
 use Rattle.spec_graph.specs.Refusals.{IsMapped}
-use Rattle.file_bricks.specs.Numbers.{read_or}
 use Rattle.arch_reader.specs.Numbers.{at_scale}
 use Rattle.arch_reader.specs.declared.statement.KeyColumn.{KeyColumn}
 use Rattle.tgff_reader.specs.declared.file.Row.{Row}
 use Rattle.tgff_reader.specs.declared.file.Table.{Table}
 use Rattle.table_cells.specs.Least.{IsLeastOrNone, lower_of}
 use Rattle.table_cells.proofs.Least.{least_either, least_same}
-use Rattle.table_cells.specs.Cells.{cell_of, amount_in, CellBreaks, ReadingBreaks, MarkBreaks, refusal_for}
+use Rattle.table_cells.specs.Cells.{cell_of, amount_in, CellBreaks, MarkBreaks}
 use Rattle.table_cells.specs.declared.cells.Taking.{Taking}
 use Rattle.spec_join.specs.Joining.{Joining}
 use Rattle.spec_join.specs.Tables.{MarkColumnBreaks, TimeColumnBreaks, KeyBreaks, ValuesBreak, RowBreaks, TaskBreaks, PlaceBreaks, CellsBreak, OptionsBreak, LineBreaks, HasBelow, time_taking, weight_taking, column_of, does_count, chosen_row, OfRow}
 use Rattle.spec_join.specs.Quantities.{QuantityBreaks}
+use Rattle.spec_join.proofs.Making.{cell_small}
 use Rattle.arch_reader.specs.Words.{is_table_key}
 
 -- ---- cells
@@ -43,22 +39,10 @@ pub least_of_key : (s : Joining) (row : Row) (k : KeyColumn) (a : Option Why) �
 least_of_key s row k None other h = λ why x. h why x.1
 least_of_key s row k (Some a) other h = record { holds = (other, h.holds); least = λ why x. h.least why x.1 }
 
--- a number that isn't refused isn't too big
-small_reading : (taking : Taking) (r : Result ℤ NumberFault) → ((why : Why) → ReadingBreaks taking r why → ⊥) → at_scale taking.scale (read_or (pos 0) r) ≤ 2 ^ 40
-small_reading taking (Ok amount) none = elim (cases_lt (2 ^ 40) (at_scale taking.scale amount)) [
-  | inl lt ↦ absurd (none TooBig lt)
-  | inr le ↦ le
-]
-small_reading taking (Err fault) none = absurd (none (refusal_for fault) refl)
-
-pub small_amount : (taking : Taking) (cell : Option (List ℕ)) → ((why : Why) → CellBreaks taking cell why → ⊥) → at_scale taking.scale (amount_in cell) ≤ 2 ^ 40
-small_amount taking None none = absurd (none NoRow refl)
-small_amount taking (Some word) none = small_reading taking (decimal_of word) none
-
 -- the quantity of a row that isn't refused isn't too big
 pub small_quantity : (column : ℕ) (found : Option Row) (row : Row) → found ≡ Some row → ((why : Why) → OfRow (QuantityBreaks column) found why → ⊥)
     → at_scale 0 (amount_in (cell_of row column)) ≤ 2 ^ 40
-small_quantity column found row e none = small_amount (record { scale = 0; cut = true }) (cell_of row column) (subst (λ (o : Option Row). (why : Why) → OfRow (QuantityBreaks column) o why → ⊥) e none)
+small_quantity column found row e none = cell_small (record { scale = 0; cut = true }) (cell_of row column) (subst (λ (o : Option Row). (why : Why) → OfRow (QuantityBreaks column) o why → ⊥) e none)
 
 -- ---- rows
 

@@ -3,7 +3,7 @@ use Rattle.std.proofs.Common.{◌≡◌, ℕ, zero, suc, ◌+◌, ◌<◌, ◌�
 use Rattle.std.specs.Prelude.{◌&&◌, map}
 use Rattle.std.specs.List.{count_by, filter}
 use Rattle.std.proofs.lemmas.List.Sums.{sum_by-append, sum_by-cons}
-use Rattle.std.proofs.lemmas.Bool.{false≢true}
+use Rattle.std.proofs.lemmas.Bool.{and_parts}
 use Rattle.spec_model.specs.Spec.{below, those}
 use Rattle.std.specs.List.{flat_map}
 use Rattle.std.proofs.lemmas.Bool.{cases_lt}
@@ -87,15 +87,11 @@ same_below f (suc n) i j hi hj ti tj one =
         let whole : count_by f (below (suc n)) ≡ count_by f (below n) + 1 = count-below_suc f n ∙ ap (λ k. count_by f (below n) + k) (ap bit t') in
         omega (arith, whole, counted_below f n l ll tl, one)
 
-and_split : (a b : Bool) → (a && b) ≡ true → (a ≡ true) × (b ≡ true)
-and_split true b e = (refl, e)
-and_split false b e = absurd (false≢true e)
-
 -- one among those
 pub some_those : (f p : ℕ → Bool) (n : ℕ) → 1 ≤ count_by f (those p n) → (i : ℕ) × (i < n) × (p i ≡ true) × (f i ≡ true)
 some_those f p n h =
     let x = some_below (λ i. p i && f i) n (omega (arith, h, count-filter f p (below n))) in
-    let e = and_split (p x.0) (f x.0) x.2 in
+    let e = and_parts (p x.0) (f x.0) x.2 in
     (x.0, x.1, e.0, e.1)
 
 -- the first number apart

@@ -3,6 +3,7 @@ use Rattle.std.proofs.Common.{◌≡◌, ℕ, zero, suc, ◌+◌, ◌<◌, Bool,
 use Rattle.std.specs.Prelude.{map, All, Contains}
 use Rattle.std.specs.List.{flat_map, range_with_len, AllByRecursion}
 use Rattle.std.proofs.lemmas.List.Elements.{All-from_recursion, recursion_from_All, All-append, All-contains}
+use Rattle.plain_lists.proofs.Joined.{All-right}
 use Rattle.spec_model.specs.Spec.{below, those}
 use Rattle.spec_model.proofs.Those.{those-more}
 
@@ -10,15 +11,8 @@ left_part : {X : Type 0} (P : X → Type 0) (xs ys : List X) → AllByRecursion 
 left_part P [] ys h = tt
 left_part P (x ∷ xs) ys h = (h.0, left_part P xs ys h.1)
 
-right_part : {X : Type 0} (P : X → Type 0) (xs ys : List X) → AllByRecursion P (xs ++ ys) → AllByRecursion P ys
-right_part P [] ys h = h
-right_part P (x ∷ xs) ys h = right_part P xs ys h.1
-
 pub All-left : {X : Type 0} (P : X → Type 0) (xs ys : List X) → All P (xs ++ ys) → All P xs
 All-left P xs ys h = All-from_recursion P xs (left_part P xs ys (recursion_from_All P (xs ++ ys) h))
-
-pub All-right : {X : Type 0} (P : X → Type 0) (xs ys : List X) → All P (xs ++ ys) → All P ys
-All-right P xs ys h = All-from_recursion P ys (right_part P xs ys (recursion_from_All P (xs ++ ys) h))
 
 -- the piece of one number
 range_piece : {X : Type 0} (P : X → Type 0) (g : ℕ → List X) (n a i : ℕ) → All P (flat_map g (range_with_len a n)) → i < n → All P (g (a + i))
@@ -100,15 +94,8 @@ map_each : {X Y : Type 0} (P : Y → Type 0) (g : X → Y) (xs : List X) → All
 map_each P g [] h = tt
 map_each P g (x ∷ xs) h = (h.0, map_each P g xs h.1)
 
-from_each : {X Y : Type 0} (P : Y → Type 0) (g : X → Y) (xs : List X) → AllByRecursion (λ x. P (g x)) xs → AllByRecursion P (map g xs)
-from_each P g [] h = tt
-from_each P g (x ∷ xs) h = (h.0, from_each P g xs h.1)
-
 pub All-of_map : {X Y : Type 0} (P : Y → Type 0) (g : X → Y) (xs : List X) (x : X) → All P (map g xs) → Contains xs x → P (g x)
 All-of_map P g xs x h member = All-contains (λ y. P (g y)) xs x (All-from_recursion (λ y. P (g y)) xs (map_each P g xs (recursion_from_All P (map g xs) h))) member
-
-pub All-from_map : {X Y : Type 0} (P : Y → Type 0) (g : X → Y) (xs : List X) → All (λ x. P (g x)) xs → All P (map g xs)
-All-from_map P g xs h = All-from_recursion P (map g xs) (from_each P g xs (recursion_from_All (λ x. P (g x)) xs h))
 
 -- each of those that pass
 pub All-those : (P : ℕ → Type 0) (p : ℕ → Bool) (n : ℕ) → ((i : ℕ) → i < n → p i ≡ true → P i) → All P (those p n)

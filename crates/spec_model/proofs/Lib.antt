@@ -19,3 +19,4 @@ pub mod Places
 pub mod Fronts
 pub mod Designs
 pub mod Ones
+pub mod Distinct

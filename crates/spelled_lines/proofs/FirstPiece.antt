@@ -2,11 +2,10 @@
 use Rattle.std.proofs.Common.{◌≡◌, ℕ, zero, suc, ◌+◌, ◌<◌, ◌≤◌, true, false, List, [], ◌∷◌, ◌++◌, length, take, drop, refl, sym, ap, ◌∙◌, arith, inl, inr}
 use Rattle.std.specs.List.{position_or_len, onto_first, list_any}
 use Rattle.std.specs.Str.{IsAscii, IsUtf8}
-use Rattle.std.proofs.lemmas.Bool.{cases_Bool}
+use Rattle.std.proofs.lemmas.Bool.{cases_Bool, or_parts}
 use Rattle.std.proofs.lemmas.Bool.Decides.{nat_tests}
 use Rattle.std.proofs.lemmas.Str.{IsUtf8-from_ascii}
 use Rattle.line_words.specs.Front.{is_lf}
-use Rattle.line_words.proofs.Whys.{neither}
 use Rattle.line_words.proofs.Ascii.{IsAscii-part}
 use Rattle.spelled_lines.specs.Lines.{pieces, is_bad}
 
@@ -94,8 +93,8 @@ small_byte b h = grind (arith, nat_tests)
 
 IsAscii-fine : (bs : List ℕ) → list_any is_bad bs ≡ false → IsAscii bs
 IsAscii-fine [] h i = omega arith
-IsAscii-fine (b ∷ bs) h zero = small_byte b (neither (is_bad b) (list_any is_bad bs) h).0
-IsAscii-fine (b ∷ bs) h (suc i) = IsAscii-fine bs (neither (is_bad b) (list_any is_bad bs) h).1 i
+IsAscii-fine (b ∷ bs) h zero = small_byte b (or_parts (is_bad b) (list_any is_bad bs) h).0
+IsAscii-fine (b ∷ bs) h (suc i) = IsAscii-fine bs (or_parts (is_bad b) (list_any is_bad bs) h).1 i
 
 pub IsUtf8-front : (bs : List ℕ) (n : ℕ) → list_any is_bad bs ≡ false → IsUtf8 (take n bs)
 IsUtf8-front bs n h = IsUtf8-from_ascii (take n bs) (IsAscii-part bs 0 n (IsAscii-fine bs h))

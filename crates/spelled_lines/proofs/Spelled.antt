@@ -2,13 +2,13 @@
 use Rattle.std.proofs.Common.{◌≡◌, ℕ, ◌<◌, Bool, true, false, List, [], ◌∷◌, ◌++◌, length, take, refl, ap, ◌∙◌, arith}
 use Rattle.std.specs.Prelude.{◌||◌}
 use Rattle.std.specs.List.{list_any, list_all, slice_split, join_with_byte, AllByRecursion, position_or_len, onto_first, before_first}
+use Rattle.std.proofs.lemmas.Bool.{and_parts}
 use Rattle.std.proofs.lemmas.Bool.Decides.{nat_tests}
 use Rattle.std.proofs.lemmas.List.{take_at}
 use Rattle.std.proofs.lemmas.List.Splits.{slice_split_at, slice_split_none}
 use Rattle.std.proofs.lemmas.List.Elements.{All-from_recursion}
 use Rattle.line_words.specs.Front.{is_lf}
 use Rattle.line_words.specs.Rules.{Words}
-use Rattle.line_words.proofs.Whys.{both}
 use Rattle.spelled_lines.specs.Lines.{pieces, is_bad, is_space, is_empty, lacks_lf, words_of, spelled, is_word_byte, IsWord}
 use Rattle.spelled_lines.proofs.FirstPiece.{pieces-end, pieces-byte}
 
@@ -33,11 +33,11 @@ space = record { good = refl; no_lf = refl }
 
 word_line : (w : List ℕ) → list_all is_word_byte w ≡ true → IsLine w
 word_line [] h = tt
-word_line (b ∷ w) h = let p = both (is_word_byte b) (list_all is_word_byte w) h in (word_byte b p.0, word_line w p.1)
+word_line (b ∷ w) h = let p = and_parts (is_word_byte b) (list_all is_word_byte w) h in (word_byte b p.0, word_line w p.1)
 
 no_spaces : (w : List ℕ) → list_all is_word_byte w ≡ true → AllByRecursion (λ b. is_space b ≡ false) w
 no_spaces [] h = tt
-no_spaces (b ∷ w) h = let p = both (is_word_byte b) (list_all is_word_byte w) h in (no_space b p.0, no_spaces w p.1)
+no_spaces (b ∷ w) h = let p = and_parts (is_word_byte b) (list_all is_word_byte w) h in (no_space b p.0, no_spaces w p.1)
 
 line-append : (xs ys : List ℕ) → IsLine xs → IsLine ys → IsLine (xs ++ ys)
 line-append [] ys a b = b

@@ -1,13 +1,14 @@
 -- What a table of followers tells as messages are added.
 use Rattle.std.proofs.Common.{◌≡◌, ℕ, ◌+◌, ◌<◌, Bool, true, List, [], ◌∷◌, ◌++◌, length, get_or, take, sym, ap, ◌∙◌, subst, ◌⊎◌, inl, inr, Contains, eq-eqb}
 use Rattle.std.specs.Prelude.{◌||◌, ◌&&◌, ◌==◌}
+use Rattle.std.proofs.lemmas.Bool.{and_parts, or_cases, or_left, or_right, and_from}
 use Rattle.std.proofs.lemmas.List.{take_more}
 use Rattle.std.proofs.lemmas.List.Elements.{Contains-append_left, Contains-push, Contains-push_cases}
 use Rattle.spec_model.specs.Spec.{Message}
 use Rattle.spec_model.specs.WellFormed.{Sends, Reaches, Leads, Follows}
 use Rattle.spec_model.proofs.Chains.{reaches_cases, reaches_itself, reaches_from_follows, follows_cases, follows_before, follows_by, follows_within}
 use Rattle.task_order.specs.Order.{is_in, comes_after, is_gathered, is_joined, IsOrderOf, IsLed}
-use Rattle.task_order.proofs.Sets.{same_from, or_cases, or_left, or_right, and_both, and_from}
+use Rattle.task_order.proofs.Sets.{same_from}
 
 -- the same tests, the same order
 pub order_same : (rows next : List (List Bool)) (ms : List Message) → ((a b : ℕ) → comes_after next a b ≡ comes_after rows a b) → IsOrderOf rows ms → IsOrderOf next ms
@@ -62,7 +63,7 @@ order_more rows next after ms m o s e a b = (to, from)
     to_cases : (comes_after rows a b ≡ true) ⊎ ((((a == m.sender) || comes_after rows a m.sender) && is_in after b) ≡ true) → Follows (ms ++ m ∷ []) a b
     to_cases (inl y) = follows_before ms m a b ((o a b).0 y)
     to_cases (inr y) =
-        let p = and_both ((a == m.sender) || comes_after rows a m.sender) (is_in after b) y in
+        let p = and_parts ((a == m.sender) || comes_after rows a m.sender) (is_in after b) y in
         follows_by ms m a b (before (or_cases (a == m.sender) (comes_after rows a m.sender) p.0)) ((s b).0 p.1)
 
     to : comes_after next a b ≡ true → Follows (ms ++ m ∷ []) a b

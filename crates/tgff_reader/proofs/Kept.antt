@@ -3,8 +3,8 @@ use Rattle.std.proofs.Common.{◌≡◌, ℕ, ◌+◌, ◌<◌, ◌≤◌, ◌^�
 use Rattle.std.specs.Prelude.{sum_by, nat_le, not, ◌||◌, ◌==◌, if◌then◌else◌}
 use Rattle.std.specs.List.{list_any, list_all}
 use Rattle.std.specs.Str.{bytes_eq}
-use Rattle.std.proofs.lemmas.Bool.{cases_Bool, false≢true, leb-false, leb-true, ltb-false, eqb-false, eq-eqb}
-use Rattle.std.proofs.lemmas.List.{append-nil, map_push, get_or_append_left, get_or_push, get_or_default, get_or-map, length-map}
+use Rattle.std.proofs.lemmas.Bool.{cases_Bool, false≢true, leb-false, leb-true, ltb-false, eqb-false, eq-eqb, or_parts, not-false, and_parts, and_from}
+use Rattle.std.proofs.lemmas.List.{append-nil, map_push, get_or-map, length-map}
 use Rattle.std.proofs.lemmas.List.Elements.{All-nil, All-push, All-pop, All-weaker}
 use Rattle.std.proofs.lemmas.List.Folds.{list_any_at}
 use Rattle.std.proofs.lemmas.List.Sums.{sum_by_push}
@@ -13,14 +13,13 @@ use Rattle.std.proofs.lemmas.Bool.{cases_lt}
 use Rattle.line_words.specs.Rules.{Words, Test, first_broken}
 use Rattle.line_words.specs.Text.{is_word_byte}
 use Rattle.spec_model.specs.WellFormed.{HasCycle, AreDistinct}
-use Rattle.task_order.proofs.Sets.{and_both, and_from}
 use Rattle.line_words.specs.declared.numbers.NumberFault.{NumberFault}
 use Rattle.line_words.specs.declared.numbers.NumberFault.TheVariants.{BadNumber, TooBig}
 use Rattle.line_words.specs.declared.refusals.Why.TheVariants.{BadStatement, BadNumber, UnknownName, RepeatedName, Unclosed, StrayClose, TooBig, Cyclic, Limit}
 use Rattle.line_words.specs.declared.refusals.What.TheVariants.{NameBytes, Tasks, Messages}
-use Rattle.line_words.proofs.Whys.{neither}
 use Rattle.line_words.specs.Limits.{most_name_bytes}
 use Rattle.spec_model.specs.Limits.{most_tasks, most_messages}
+use Rattle.spec_model.proofs.Distinct.{distinct_push}
 use Rattle.file_bricks.specs.Numbers.{is_bad, is_big, read_or}
 use Rattle.file_bricks.specs.Words.{word_at}
 use Rattle.tgff_reader.specs.Words.{first, is_at}
@@ -41,23 +40,13 @@ use Rattle.tgff_reader.specs.declared.state.Blocks.{Blocks}
 use Rattle.tgff_reader.specs.declared.state.Open.{Open}
 use Rattle.tgff_reader.specs.declared.state.Open.TheVariants.{Outside, InGraph, InTable}
 use Rattle.tgff_reader.specs.declared.state.State.{State}
-use Rattle.file_bricks.proofs.Deciding.{fine_for, chosen, other, not_false}
+use Rattle.file_bricks.proofs.Deciding.{fine_for, chosen, other}
 use Rattle.file_bricks.proofs.Bounded.{decimal_small}
 use Rattle.tgff_reader.proofs.Reached.{no_cycle_more}
 use Rattle.file_bricks.proofs.Numbered.{whole_small}
 use Rattle.tgff_reader.proofs.Numbered.{index_small}
 
 -- ---- keys that are apart
-
--- no two places of a list hold the same, with one element more that isn't there
-distinct_push : {A : Type 0} (xs : List A) (x : A) → AreDistinct xs → ¬ Contains xs x → AreDistinct (xs ++ x ∷ [])
-distinct_push {A = A} xs x old new i j d l h e = elim (cases_lt j (length xs)) [
-  | inl lj ↦ old i j d l lj (sym (get_or_append_left xs (x ∷ []) d i (omega (arith, l, lj))) ∙ e ∙ get_or_append_left xs (x ∷ []) d j lj)
-  | inr gj ↦
-      let end : length xs ≡ j = omega (arith, gj, h, length-append xs (x ∷ [])) in
-      let li : i < length xs = omega (arith, l, end) in
-      new (i, li, get_or_default xs i x d li ∙ sym (get_or_append_left xs (x ∷ []) d i li) ∙ e ∙ get_or_push xs x d j end)
-]
 
 -- a key that no element passes for is new
 not_among : {X K : Type 0} (key : X → K) (p : X → Bool) (xs : List X) (x : X) → ((y : X) → key y ≡ key x → p y ≡ true) → list_any p xs ≡ false → ¬ Contains (map key xs) (key x)
@@ -171,7 +160,7 @@ opens_table gs ts name i f w l none = record {
 -- the name of a block is a word
 plain_rest : (w : List ℕ) → list_all is_word_byte w ≡ true → list_all is_word_byte (drop 1 w) ≡ true
 plain_rest [] h = h
-plain_rest (b ∷ bs) h = (and_both (is_word_byte b) (list_all is_word_byte bs) h).1
+plain_rest (b ∷ bs) h = (and_parts (is_word_byte b) (list_all is_word_byte bs) h).1
 
 word_rest : (w : List ℕ) → IsWord w → (length (drop 1 w) == 0) ≡ false → IsWord (drop 1 w)
 word_rest w h e = record { some = more (length (drop 1 w)) (eqb-false (length (drop 1 w)) 0 e); plain = plain_rest w h.plain }
@@ -297,7 +286,7 @@ task_more b g ws f h e =
     let formed : not (is_task_shape ws) ≡ false = fine_for BadStatement tests e in
     let new : list_any (faults.is_task (word_at ws 1)) g.tasks ≡ false = fine_for RepeatedName tests e in
     let short : faults.is_long (word_at ws 1) ≡ false = fine_for (Limit NameBytes) tests e in
-    let shape = and_both (nat_le 4 (length ws)) _ (not_false (is_task_shape ws) formed) in
+    let shape = and_parts (nat_le 4 (length ws)) _ (not-false (is_task_shape ws) formed) in
     let long : 4 ≤ length ws = leb-true 4 (length ws) shape.0 in
     let more = length-append g.tasks (t ∷ []) in
     record {
@@ -319,11 +308,11 @@ arc_more b g ws f h e =
     let tests = faults.arc_tests b g ws in
     let formed : not (is_arc_shape ws) ≡ false = fine_for BadStatement tests e in
     let known : (faults.is_unknown g.tasks (word_at ws 3) || faults.is_unknown g.tasks (word_at ws 5)) ≡ false = fine_for UnknownName tests e in
-    let ends = neither (faults.is_unknown g.tasks (word_at ws 3)) (faults.is_unknown g.tasks (word_at ws 5)) known in
+    let ends = or_parts (faults.is_unknown g.tasks (word_at ws 3)) (faults.is_unknown g.tasks (word_at ws 5)) known in
     let new : list_any (faults.is_arc (word_at ws 1)) g.arcs ≡ false = fine_for RepeatedName tests e in
     let open_end : faults.closes_cycle g ws ≡ false = fine_for Cyclic tests e in
     let short : faults.is_long (word_at ws 1) ≡ false = fine_for (Limit NameBytes) tests e in
-    let shape = and_both (nat_le 8 (length ws)) _ (not_false (is_arc_shape ws) formed) in
+    let shape = and_parts (nat_le 8 (length ws)) _ (not-false (is_arc_shape ws) formed) in
     let long : 8 ≤ length ws = leb-true 8 (length ws) shape.0 in
     record {
       index = f.index;

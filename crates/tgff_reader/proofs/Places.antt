@@ -5,13 +5,12 @@ use Rattle.std.specs.List.{list_any}
 use Rattle.std.specs.Str.{bytes_eq}
 use Rattle.std.specs.HashMap.{HashMap}
 use Rattle.std.specs.Map.{lookup}
-use Rattle.std.proofs.lemmas.Bool.{cases_Bool, cases_lt, false≢true, eqb-true, eq-eqb, false_from_ne_true}
+use Rattle.std.proofs.lemmas.Bool.{cases_Bool, cases_lt, false≢true, eqb-true, eq-eqb, false_from_ne_true, and_parts, and_from}
 use Rattle.std.proofs.lemmas.List.{get_or_append_left, get_or_push, get_or_default}
 use Rattle.std.proofs.lemmas.List.Elements.{All-push, All-weaker, Contains-append_left}
 use Rattle.std.proofs.lemmas.List.Folds.{position_or_len_push, list_any_at, list_any_none}
 use Rattle.std.proofs.lemmas.List.Sums.{prefix_len_passes, prefix_len_stops, prefix_len-le-length}
 use Rattle.std.proofs.lemmas.Slice.Eq.{bytes_eq-Decides}
-use Rattle.task_order.proofs.Sets.{and_both, and_from}
 use Rattle.names.specs.Names.{number_of, IsNumberOf}
 use Rattle.tgff_reader.specs.Looking.{is_table, table_at, IsTableAt, HasNoTable}
 use Rattle.tgff_reader.specs.Places.{is_pair, place_in, AreFound, HasAtMost}
@@ -143,7 +142,7 @@ found_with_table names old new tables t n f h u = record {
     there = is_there names t.name n h
 
     away : (m index : ℕ) → length names ≤ m → is_pair (n, t.index) (m, index) ≡ false
-    away m index l = false_from_ne_true _ (λ y. omega (arith, l, h.within, eqb-true n m (and_both (n == m) (t.index == index) y).0))
+    away m index l = false_from_ne_true _ (λ y. omega (arith, l, h.within, eqb-true n m (and_parts (n == m) (t.index == index) y).0))
 
     Found : Name → ℕ → Option ℕ → Type 0
     Found name index o = MatchOption o (HasNoTable (tables ++ t ∷ []) name index) (IsTableAt (tables ++ t ∷ []) name index)
@@ -167,7 +166,7 @@ found_with_table names old new tables t n f h u = record {
     at : (name : Name) (index : ℕ) → Contains names name → (is_pair (n, t.index) (number_of names name, index) ≡ true) ⊎ (is_pair (n, t.index) (number_of names name, index) ≡ false)
         → Found name index (new (number_of names name, index))
     at name index c (inl y) =
-        let both = and_both (n == number_of names name) (t.index == index) y in
+        let both = and_parts (n == number_of names name) (t.index == index) y in
         let e : t.name ≡ name = one_name names t.name name there c (sym h.first ∙ eqb-true n (number_of names name) both.0) in
         let k : t.index ≡ index = eqb-true t.index index both.1 in
         let is : new (number_of names name, index) ≡ Some (length tables) = u (number_of names name, index) ∙ ap (λ (b : Bool). cond b (Some (length tables)) (old (number_of names name, index))) y in
@@ -205,7 +204,7 @@ tells tables name index (Some i) h =
     sym (list_any_at (is_table name index) tables i _ h.there (and_from _ _ ((bytes_eq-Decides (table_at tables i).name name).1 h.name_is) (eq-eqb (table_at tables i).index index h.index_is)))
 tells tables name index None h = sym (list_any_none (is_table name index) tables (λ i d l. false_from_ne_true _ (λ y.
     let e : get_or tables i d ≡ table_at tables i = get_or_default tables i d (record { name = []; index = 0; rows = [] }) l in
-    let both = and_both (bytes_eq (get_or tables i d).name name) ((get_or tables i d).index == index) y in
+    let both = and_parts (bytes_eq (get_or tables i d).name name) ((get_or tables i d).index == index) y in
     h i (record { there = l; name_is = sym (ap (λ (z : Table). z.name) e) ∙ same (get_or tables i d).name name both.0; index_is = sym (ap (λ (z : Table). z.index) e)
         ∙ eqb-true (get_or tables i d).index index both.1 }))))
 

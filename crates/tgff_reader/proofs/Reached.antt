@@ -1,13 +1,12 @@
 -- What is reached along arcs is what chains of messages lead to, and a table of followers tells it.
 use Rattle.std.proofs.Common.{◌≡◌, ℕ, Bool, true, false, List, [], ◌∷◌, ◌++◌, get_or, refl, sym, ap, subst, ◌∙◌, arith, ◌⊎◌, inl, inr, Contains, append_assoc}
 use Rattle.std.specs.Prelude.{◌||◌, ◌&&◌, ◌==◌, ◌↔◌, map}
-use Rattle.std.proofs.lemmas.Bool.{false≢true, eqb-true, eq-eqb, cases_Bool}
+use Rattle.std.proofs.lemmas.Bool.{false≢true, eqb-true, eq-eqb, cases_Bool, and_parts, or_cases, or_left, or_right, and_from}
 use Rattle.std.proofs.lemmas.List.{append-nil, map_push}
 use Rattle.spec_model.specs.Spec.{Message}
 use Rattle.spec_model.specs.WellFormed.{Reaches, Leads, HasCycle}
 use Rattle.spec_model.proofs.Chains.{chain_cases, chain_before, reaches_cases, reaches_from_follows, follows_by, still_none}
 use Rattle.task_order.specs.Order.{is_in, comes_after, is_joined}
-use Rattle.task_order.proofs.Sets.{or_cases, or_left, or_right, and_both, and_from}
 use Rattle.tgff_reader.specs.Reaching.{is_itself, with_arc, with_arcs, reaches, message_of, messages_of, IsOrder}
 use Rattle.tgff_reader.specs.declared.file.TgffArc.{TgffArc}
 use Rattle.file_bricks.proofs.Deciding.{or_or}
@@ -54,7 +53,7 @@ tells_none a b = (
   λ x. elim (reaches_cases [] a b x) [ inl e ↦ eq-eqb b a (sym e) | inr f ↦ absurd (omega (arith, f.chain.1.there.1)) ],
 )
 
-among_one : (x y : ℕ) → Contains (x ∷ []) y → x ≡ y
+pub among_one : (x y : ℕ) → Contains (x ∷ []) y → x ≡ y
 among_one x y c = let z : c.0 ≡ 0 = omega (arith, c.1) in subst (λ (i : ℕ). get_or (x ∷ []) i y ≡ y) z c.2
 
 tells_more : (r : Way) (ms : List Message) (arc : TgffArc) → Tells r ms → Tells (with_arc r arc) (ms ++ message_of arc ∷ [])
@@ -68,7 +67,7 @@ tells_more r ms arc t a b = (to, from)
 
     to_cases : (r a b ≡ true) ⊎ ((r a arc.from && r arc.to b) ≡ true) → Reaches (ms ++ m ∷ []) a b
     to_cases (inl y) = let x = (t a b).0 y in record { hops = x.hops; chain = chain_before ms m x.hops a b x.chain }
-    to_cases (inr y) = along (and_both (r a arc.from) (r arc.to b) y)
+    to_cases (inr y) = along (and_parts (r a arc.from) (r arc.to b) y)
 
     to : with_arc r arc a b ≡ true → Reaches (ms ++ m ∷ []) a b
     to h = to_cases (or_cases (r a b) (r a arc.from && r arc.to b) h)

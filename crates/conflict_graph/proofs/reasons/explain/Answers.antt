@@ -1,4 +1,5 @@
 use Rattle.std.proofs.Common.{◌≡◌, ◌<◌, ◌++◌, ◌∷◌, [], ℕ, ◌-◌, ◌^◌, ◌∙◌, sym, ap, arith, true, false}
+use Rattle.std.proofs.lemmas.Result.{on_ok_weaker}
 use Rattle.pb_rules.specs.Linear.{total}
 use Rattle.pb_rules.specs.Partial.{is_false}
 use Rattle.pb_rules.specs.declared.Op.TheVariants.{Id, Weaken}
@@ -6,7 +7,6 @@ use Rattle.constraint_store.specs.Live.{constraint_of, proof_id_of}
 use Rattle.conflict_graph.specs.Clauses.{clause_ops, finishing}
 use Rattle.conflict_graph.specs.Learning.{seen}
 use Rattle.pb_rules.proofs.Rooms.{open_weight_fits}
-use Rattle.conflict_graph.proofs.Resolving.{on-ok}
 use Rattle.conflict_graph.proofs.Writing.{explain-kept, explain-weakened, explain-end}
 use Rattle.conflict_graph.proofs.reasons.explain.Goals as goal
 use Rattle.conflict_graph.proofs.reasons.explain.Goals.{then-is_false_with, else-is_false_with+in_ok-push-2}
@@ -47,5 +47,5 @@ returns-clause-written c =
     let old = c.args.ops.now.items in
     let new = c.finish.new.ops.items in
     let degree = ap (λ (d : ℕ). l.ops.items ++ finishing (d - l.room) l.greatest) c.degree.ensures.value in
-    on-ok c.finish.result (new ≡ l.ops.items ++ finishing (c.degree.result - l.room) l.greatest) (new ≡ old ++ clause_ops pid a con)
+    on_ok_weaker {P = (new ≡ l.ops.items ++ finishing (c.degree.result - l.room) l.greatest)} {Q = (new ≡ old ++ clause_ops pid a con)} c.finish.result
         (λ w. explain-end a con pid l.room l.greatest l.t-index old l.ops.items new c.terms-terms.result.now c.terms-terms.ensures.value c.loop-t-test.false l.invariant (w ∙ degree)) c.finish.ensures

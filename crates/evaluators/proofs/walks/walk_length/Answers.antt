@@ -1,9 +1,9 @@
 use Rattle.std.proofs.Common.{ℕ, ◌∙◌, sym, subst, arith}
+use Rattle.std.proofs.lemmas.Bool.{eqb-true, eqb-false}
 use Rattle.spec_model.specs.Spec.{bits_of}
 use Rattle.spec_model.specs.Rules.{IsOn, sender_of}
 use Rattle.spec_model.proofs.Once.{IsOn-elsewhere}
 use Rattle.spec_model.proofs.Back.{IsBack-start, IsBack-step}
-use Rattle.impl_rules.proofs.Tests.{same_number, other_number}
 use Rattle.evaluators.proofs.Walking.{walk_length-found, walk_length-none, walk_length-far}
 use Rattle.evaluators.proofs.walks.walk_length.Goals as goal
 
@@ -14,19 +14,19 @@ pub returns-then-eq-clause-length : goal.returns-then-eq-clause-length
 returns-then-eq-clause-length c =
     let f = bits_of c.args.design.now in
     let on : IsOn c.args.spec.now f (sender_of c.args.spec.now c.args.m.0) c.loop-hops.at.0 =
-    subst (λ (r : ℕ). IsOn c.args.spec.now f (sender_of c.args.spec.now c.args.m.0) r) (sym (same_number _ _ (sym c.eq.ensures ∙ c.if-eq.true))) c.requires.source in
+    subst (λ (r : ℕ). IsOn c.args.spec.now f (sender_of c.args.spec.now c.args.m.0) r) (sym (eqb-true _ _ (sym c.eq.ensures ∙ c.if-eq.true))) c.requires.source in
     sym (walk_length-found _ _ _ _ _ _ c.loop-hops.invariant.1 (omega arith) on)
 
 pub returns-in-None-clause-length : goal.returns-in-None-clause-length
 returns-in-None-clause-length c =
     let f = bits_of c.args.design.now in
-    let off = IsOn-elsewhere c.args.spec.now f _ _ _ c.requires.once c.requires.source (other_number _ _ (sym c.eq.ensures ∙ c.if-eq.false)) in
+    let off = IsOn-elsewhere c.args.spec.now f _ _ _ c.requires.once c.requires.source (eqb-false _ _ (sym c.eq.ensures ∙ c.if-eq.false)) in
     sym (walk_length-none _ _ _ _ _ _ c.loop-hops.invariant.1 off (λ a u e. c.in-None.ensures a u.in_range (record { used = u; into = e })))
 
 pub loop-hops-preserved : goal.loop-hops-preserved
 loop-hops-preserved c =
     let f = bits_of c.args.design.now in
-    let off = IsOn-elsewhere c.args.spec.now f _ _ _ c.requires.once c.requires.source (other_number _ _ (sym c.eq.ensures ∙ c.if-eq.false)) in
+    let off = IsOn-elsewhere c.args.spec.now f _ _ _ c.requires.once c.requires.source (eqb-false _ _ (sym c.eq.ensures ∙ c.if-eq.false)) in
     let one = c.requires.valid.routed.one_arc_into c.args.m.0 c.loop-hops.at.0 c.requires.message c.loop-hops.invariant.0 in
     let next = IsBack-step _ _ _ _ _ _ c.in-Some.a c.loop-hops.invariant.1 off one c.in-Some.ensures.1.used c.in-Some.ensures.1.into in
     (c.arc.ensures.tail_there, rw c.arc.ensures.tail next)

@@ -1,7 +1,7 @@
 use Rattle.std.proofs.Common.{◌≡◌, ◌∙◌, ◌+◌, List, ℕ, arith, length, refl, subst, sym}
 use Rattle.std.proofs.lemmas.Result.{on_ok_weaker, on_err_weaker}
 use Rattle.desk_io.specs.Files.{Edits, Appends, AppendsPrefix}
-use Rattle.file_writes.proofs.Filling.{IsFilled, filled_line, filled_on, filled_whole, filled_part, filled_cut, none_gained}
+use Rattle.file_writes.proofs.Filling.{IsFilled, filled_line, filled_on, filled_whole, filled_part, filled_cut}
 use Rattle.file_writes.proofs.pieces.put_proof.Goals.{then-len-ge-PIECE_BYTES+in_ok-append, else-len-ge-PIECE_BYTES}
 use Rattle.file_writes.proofs.pieces.put_proof.Goals as goal
 use Rattle.plain_lists.proofs.Results.{on_err}
