@@ -10,6 +10,7 @@ use Rattle.arch_reader.specs.declared.seen.Objective.{Objective}
 use Rattle.arch_reader.specs.declared.seen.Seen.{Seen}
 use Rattle.file_bricks.proofs.Deciding.{or_or}
 
+-- what is there already stays where nothing is stated
 pub or_none : (o : Option ℕ) → option_or o None ≡ o
 or_none None = refl
 or_none (Some n) = refl

@@ -109,6 +109,7 @@ extend s (cover v ∷ ls) b base f inside m h =
         let far : variables_to s ((b + 1) + covers_in ls) ≤ y = subst (λ (k : ℕ). variables_to s k ≤ y) e l in
         there y (inr far) ∙ agrees_after s b f mid outside y (omega (arith, more_later s (b + 1) (covers_in ls), far))
 
+-- a model whose vector no cover covers can be made one of all blocks too
 pub all_extend : AllExtend
 all_extend s ls f wf m h =
     let none : all_variables s ≡ variables_to s 0 = omega arith in

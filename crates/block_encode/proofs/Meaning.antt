@@ -95,9 +95,11 @@ somewhere_weight : (s : SpecValue) (f : Bits) (b : ℕ) → true_weight f (map (
 unfolding is_below
 somewhere_weight s f b = sum_by_map (counts f) (is_below s b) (below (length s.objectives))
 
+-- a number of a design's vector is its number in that objective
 pub number_of_vector : (s : SpecValue) (f : Bits) (j : ℕ) → j < length s.objectives → slice_index (vector_of s f) j ≡ vector_at s f j
 number_of_vector s f j l = get_or-map-range_with_len (vector_at s f) 0 (length s.objectives) j j 0 l (omega arith)
 
+-- a model of a block isn't covered
 pub models_are_uncovered : ModelsAreUncovered
 unfolding block_of below_place
 models_are_uncovered s b v f long model covers =

@@ -71,6 +71,7 @@ written_over files name bytes distinct there = record {
   distinct = distinct-set_value (bytes_eq name) files bytes distinct;
 }
 
+-- a file that wasn't there is written behind the others
 pub written_anew : (files : Files) (name bytes : List ℕ) → HasDistinctNames files → file_at files name ≡ None → Written files (files ++ (name, bytes) ∷ []) name bytes
 written_anew files name bytes distinct gone = record {
   here = lookup-push_here (bytes_eq name) files name bytes gone (same name);

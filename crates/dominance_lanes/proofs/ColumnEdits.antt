@@ -115,6 +115,7 @@ unmarked_push (m ∷ ms) [] b x same = absurd (omega arith)
 unmarked_push (true ∷ ms) (y ∷ ys) b x same = unmarked_push ms ys b x (omega arith)
 unmarked_push (false ∷ ms) (y ∷ ys) b x same = ap (λ l. y ∷ l) (unmarked_push ms ys b x (omega arith))
 
+-- one place more: it stays where it isn't marked
 pub unmarked_more : {X : Type 0} (ms : List Bool) (xs : List X) (k : ℕ) (m : Bool) (d : X) → length ms ≡ length xs → k < length ms → get_or ms k false ≡ m
     → unmarked (take (k + 1) ms) (take (k + 1) xs) ≡ unmarked (take k ms) (take k xs) ++ cond m [] (get_or xs k d ∷ [])
 unmarked_more ms xs k m d same h is =

@@ -49,11 +49,13 @@ request_not_usage asked reply (Ok outcome) e u = not_usage outcome.ending (sym (
 request_not_usage asked reply (Err (faults.Refused r)) e u = let q = sym (ap (λ (r : ReplyValue). r.status) e) ∙ u in absurd (cc)
 request_not_usage asked reply (Err faults.NoMemory) e u = e
 
+-- A law for callers: an answer has the status of a mistake in the words only where they ask for nothing.
 pub usage_of_none : (asked : Option RequestValue) (tools : ToolsValue) (calls : List ℕ) (files : Option Files) (reply : ReplyValue) → AnswersTo asked tools calls files reply → reply.status ≡ Usage
     → asked ≡ None
 usage_of_none None tools calls files reply h u = refl
 usage_of_none (Some asked) tools calls files reply h u = absurd (request_not_usage asked reply h.result h.ends u)
 
+-- A law for callers: where the words ask for nothing, the answer has the status that says so.
 pub none_is_usage : (asked : Option RequestValue) (tools : ToolsValue) (calls : List ℕ) (files : Option Files) (reply : ReplyValue) → AnswersTo asked tools calls files reply → asked ≡ None
     → reply.status ≡ Usage
 none_is_usage None tools calls files reply h n = ap (λ (r : ReplyValue). r.status) h

@@ -165,6 +165,7 @@ module _ (s : SpecValue) (x : Bits) (wf : IsWellFormed s) (routed : IsRouted s x
       (covered_of_reached s (bits_of (model_list s x)) m w hm made_parts made_routed (made_walked m hm)
       (λ r on. reached-along s x (bits_of (model_list s x)) same_made m w r hm (reached r) on))
 
+  -- a design that reaches its receivers has one model
   pub only_model : ((m w : ℕ) → m < length s.messages → Contains (message_at s m).receivers w → (r : ℕ) → IsOn s x w r → (n : ℕ) × Walk s x m r n)
       → IsOnlyModel s (encoding s) x (bits_of (model_list s x))
   only_model reached = record {
@@ -208,6 +209,7 @@ valid_of_model s f wf h =
 pub models_are_valid : ModelsAreValid
 models_are_valid s f wf h = IsValid-along s f (view s f) (same_view s f) (valid_of_model s f wf h)
 
+-- each valid design is the view of exactly one model
 pub valid_are_models : ValidAreModels
 valid_are_models s f wf valid =
     record { model = bits_of (model_list s f); only = only_model s f wf valid.routed (λ m w hm member r on. valid.reached m w r hm member on) }

@@ -45,6 +45,7 @@ sorted_keeps x [] h = h
 sorted_keeps x (t ∷ ts) (inl e) = put_keeps x t (by_variable ts) (inl e)
 sorted_keeps x (t ∷ ts) (inr m) = put_keeps x t (by_variable ts) (inr (sorted_keeps x ts m))
 
+-- a clause mentions the variables of its terms
 pub at_least-mentions : (x n : ℕ) (ts : List Term) → HasVariable x ts → mentions x (at_least n ts).terms ≡ true
 unfolding at_least
 at_least-mentions x n ts h = mentions_of x (by_variable ts) (sorted_keeps x ts h)
@@ -58,6 +59,7 @@ in_left x [] ts h = absurd h
 in_left x (u ∷ us) ts (inl e) = inl e
 in_left x (u ∷ us) ts (inr m) = inr (in_left x us ts m)
 
+-- the variable of a term that is made of a number is among those of all that are made so
 pub in_map : (g : ℕ → Term) (n a i : ℕ) → i < n → HasVariable (g (a + i)).lit.var (map g (range_with_len a n))
 in_map g zero a i l = absurd (omega arith)
 in_map g (suc n) a zero l = inl (ap (λ (k : ℕ). (g k).lit.var) (omega arith))

@@ -68,6 +68,7 @@ rises-pieces g c (suc n) h =
 abbrev pub literal : Bool → ℕ → Term
 literal sign v = record { coef = 1; lit = record { var = v; yes = sign } }
 
+-- a literal's term stands from each lower variable on
 pub literal_from : (a v : ℕ) (y : Bool) → a ≤ v → IsTermFrom (2 ^ 40) a (literal y v)
 literal_from a v y h = record { from = h; some = omega arith; small = omega arith }
 
@@ -80,6 +81,7 @@ pub terms_bounds : (c a b : ℕ) (ts : List Term) → TermsWithin c a b ts → a
 terms_bounds c a b [] h = h
 terms_bounds c a b (t ∷ ts) h = omega (arith, h.0.from, terms_bounds c (t.lit.var + 1) b ts h.1)
 
+-- terms within bounds are within wider ones
 pub terms_wider : (c d a b i j : ℕ) (ts : List Term) → c ≤ d → i ≤ a → b ≤ j → TermsWithin c a b ts → TermsWithin d i j ts
 terms_wider c d a b i j [] le hl hr h = omega (arith, hl, hr, h)
 terms_wider c d a b i j (t ∷ ts) le hl hr h =
@@ -140,6 +142,7 @@ sorted_each : (P : Term → Type 0) (ts : List Term) → All P ts → All P (by_
 sorted_each P [] h = h
 sorted_each P (t ∷ ts) h = put_each P t (by_variable ts) (All-head P t ts h) (sorted_each P ts (All-tail P t ts h))
 
+-- what holds of each term holds of each of the constraint
 pub at_least-each : (P : Term → Type 0) (n : ℕ) (ts : List Term) → All P ts → All P (at_least n ts).terms
 unfolding at_least
 at_least-each P n ts h = sorted_each P ts h
@@ -153,6 +156,7 @@ weights_within weight sign a b (x ∷ xs) h small =
     let one = All-head (λ (y : ℕ). (0 < weight y) × (weight y ≤ 2 ^ 40)) x xs small in
     (record { from = h.0; some = one.0; small = one.1 }, weights_within weight sign (x + 1) b xs h.1 (All-tail (λ (y : ℕ). (0 < weight y) × (weight y ≤ 2 ^ 40)) x xs small))
 
+-- the weighted terms of variables stand by rising variable
 pub weights_rise : (weight : ℕ → ℕ) (sign : Bool) (n : ℕ) → ((x : ℕ) → weight x ≤ 2 ^ 40) → TermsWithin (2 ^ 40) 0 n (map (weighted weight sign) (those (has_weight weight) n))
 unfolding has_weight
 weights_rise weight sign n small =
@@ -184,9 +188,11 @@ some_each c a b [] h k d l = absurd (omega (arith, l))
 some_each c a b (t ∷ ts) h zero d l = h.0.some
 some_each c a b (t ∷ ts) h (suc k) d l = some_each c (t.lit.var + 1) b ts h.1 k d (omega (arith, l))
 
+-- terms within bounds, with a small sum and degree, are in normal form
 pub normal_within : (c a b m : ℕ) (ts : List Term) → TermsWithin c a b ts → total ts < 2 ^ 63 → m < 2 ^ 63 → IsNormal ts m
 normal_within c a b m ts h few small = record { positive = some_each c a b ts h; rising = from-pairs a ts (from_of c a b ts h); small = few; small_degree = small }
 
+-- terms within bounds are below the upper one
 pub below_within : (c a b : ℕ) (ts : List Term) → TermsWithin c a b ts → VarsBelow b ts
 below_within c a b [] h k d l = absurd (omega (arith, l))
 below_within c a b (t ∷ ts) h zero d l = omega (arith, terms_bounds c (t.lit.var + 1) b ts h.1)
@@ -196,5 +202,6 @@ total_few : (a b : ℕ) (ts : List Term) → TermsWithin (2 ^ 40) a b ts → a *
 total_few a b [] h = omega (arith, h)
 total_few a b (t ∷ ts) h = omega (arith, h.0.from, h.0.small, total_few (t.lit.var + 1) b ts h.1, sum_by-cons (λ (u : Term). u.coef) t ts)
 
+-- terms by rising variable, with a small degree, are in normal form
 pub normal_of_rising : (n m : ℕ) (ts : List Term) → IsRising n ts → n ≤ 2 ^ 20 → m < 2 ^ 63 → IsNormal ts m
 normal_of_rising n m ts h few small = normal_within (2 ^ 40) 0 n m ts h.rises (omega (arith, total_few 0 n ts h.rises, few)) small

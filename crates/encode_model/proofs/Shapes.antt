@@ -27,6 +27,7 @@ one_more a b v z ls h g r = terms_joined (2 ^ 40) 0 a b ls (literal z v ∷ []) 
 pub two : (n v w : ℕ) (y z : Bool) → v < w → w < n → IsRising n (literal y v ∷ (literal z w ∷ []))
 two n v w y z h g = record { rises = (literal_from 0 v y (omega arith), (literal_from (v + 1) w z (omega (arith, h)), omega (arith, g))) }
 
+-- the terms of each kind of constraint stand by rising variable: the options of a task,
 pub options : (s : SpecValue) (t : ℕ) (y : Bool) → IsRising (all_variables s) (map (literal y) (options_of s t))
 options s t y =
     record {
@@ -35,12 +36,14 @@ options s t y =
     }
 
 module _ (s : SpecValue) (m : ℕ) (hm : m < length s.messages) where
+  -- the sender's options on a resource and the first step there,
   pub start : (r : ℕ) (y z : Bool) → r < length s.resources → IsRising (all_variables s) (map (literal y) (option_on s (sender_of s m) r) ++ literal z (step_var s m r 0) ∷ [])
   start r y z hr = record {
     rises = one_more (length s.options) (all_variables s) (step_var s m r 0) z (map (literal y) (option_on s (sender_of s m) r)) (omega (arith, base-ge s m))
         (step_var-lt s m r 0 hm hr (omega arith)) (literals 0 (length s.options) y (option_on s (sender_of s m) r) (rises-numbers (of_task_on s (sender_of s m) r) (length s.options)));
   }
 
+  -- an option and what it covers,
   pub option_cover : (o r : ℕ) (y z : Bool) → o < length s.options → r < length s.resources → IsRising (all_variables s) (literal y o ∷ (literal z (covered_var s m r) ∷ []))
   option_cover o r y z ho hr = two (all_variables s) o (covered_var s m r) y z (omega (arith, ho, base-ge s m)) (covered_var-lt s m r hm hr)
 
@@ -54,6 +57,7 @@ module _ (s : SpecValue) (m : ℕ) (hm : m < length s.messages) where
   row_end : (r : ℕ) → r < length s.resources → step_var s m r 0 + ((message_at s m).limit + 1) ≤ covered_var s m 0
   row_end r hr = omega (arith, step_place-lt r (message_at s m).limit (length s.resources) (message_at s m).limit hr (omega arith))
 
+  -- the steps on a resource and whether it is covered,
   pub steps_cover : (r : ℕ) (y z : Bool) → r < length s.resources → IsRising (all_variables s) (map (literal y) (steps_from s m r 0) ++ literal z (covered_var s m r) ∷ [])
   steps_cover r y z hr =
       let steps = literals (step_var s m r 0) (step_var s m r 0 + ((message_at s m).limit + 1)) y (steps_from s m r 0) (steps_rise r 0 hr (omega arith)) in
@@ -72,6 +76,7 @@ module _ (s : SpecValue) (m : ℕ) (hm : m < length s.messages) where
       mul-row : m < length s.messages → m * length s.arcs + length s.arcs ≤ length s.messages * length s.arcs
       mul-row h = row_fits m (length s.arcs) (length s.messages) (length s.arcs) h (omega arith)
 
+  -- the arcs into a resource and the steps on it,
   pub arcs_steps : (r : ℕ) (y z : Bool) → r < length s.resources → IsRising (all_variables s) (map (literal y) (arc_vars s m (arcs_into s r)) ++ map (literal z) (steps_from s m r 1))
   arcs_steps r y z hr =
       let arcs = small_wider (arc_var s m 0) (arc_var s m 0 + length s.arcs) 0 (step_var s m r 0) (map (literal y) (arc_vars s m (arcs_into s r))) (omega arith)
@@ -81,9 +86,11 @@ module _ (s : SpecValue) (m : ℕ) (hm : m < length s.messages) where
       (steps_rise r 1 hr (omega arith))) in
       record { rises = terms_joined (2 ^ 40) 0 (step_var s m r 0) (all_variables s) (map (literal y) (arc_vars s m (arcs_into s r))) (map (literal z) (steps_from s m r 1)) arcs steps }
 
+  -- an arc and the resource that it covers,
   pub arc_cover : (a p : ℕ) (y z : Bool) → a < length s.arcs → p < length s.resources → IsRising (all_variables s) (literal y (arc_var s m a) ∷ (literal z (covered_var s m p) ∷ []))
   arc_cover a p y z ha hp = two (all_variables s) (arc_var s m a) (covered_var s m p) y z (omega (arith, arc_var-lt s m a hm ha, base-ge s m)) (covered_var-lt s m p hm hp)
 
+  -- an arc and a step on its tail,
   pub arc_step : (a p t : ℕ) (y z : Bool) → a < length s.arcs → p < length s.resources → t ≤ (message_at s m).limit
       → IsRising (all_variables s) (literal y (arc_var s m a) ∷ (literal z (step_var s m p t) ∷ []))
   arc_step a p t y z ha hp ht = two (all_variables s) (arc_var s m a) (step_var s m p t) y z (omega (arith, arc_var-lt s m a hm ha, base-ge s m)) (step_var-lt s m p t hm hp ht)
@@ -118,6 +125,7 @@ module _ (s : SpecValue) (m : ℕ) (hm : m < length s.messages) where
         (λ i l. (omega arith, step_var-lt s m i t hm l (omega (arith, ht)))) (λ i j l k. omega (arith, row_fits i ((message_at s m).limit + 1) j ((message_at s m).limit + 1) l (omega arith))));
   }
 
+  -- what a covered resource needs for an end,
   pub end_literals : (r : ℕ) → r < length s.resources → IsRising (all_variables s) (positives (receiver_options s m r) ++ positives (arc_vars s m (arcs_from s r)) ++ positive (step_var s m r 0)
       ∷ (negative (covered_var s m r) ∷ []))
   end_literals r hr =
@@ -134,15 +142,18 @@ module _ (s : SpecValue) (m : ℕ) (hm : m < length s.messages) where
             );
       }
 
+  -- a covered resource and its use,
   pub cover_allocated : (r : ℕ) (y z : Bool) → r < length s.resources → IsRising (all_variables s) (literal y (resource_var s r) ∷ (literal z (covered_var s m r) ∷ []))
   cover_allocated r y z hr = two (all_variables s) (resource_var s r) (covered_var s m r) y z (omega (arith, hr, base-ge s m)) (covered_var-lt s m r hm hr)
 
+  -- an arc and the use of its link,
   pub arc_allocated : (a l : ℕ) (y z : Bool) → a < length s.arcs → l < length s.links → IsRising (all_variables s) (literal y (arc_var s m a) ∷ (literal z (link_var s l) ∷ []))
   arc_allocated a l y z ha hl = two (all_variables s) (arc_var s m a) (link_var s l) y z (omega (arith, arc_in_uses)) (omega (arith, hl, design_variables-le s))
     where
       arc_in_uses : m * length s.arcs + a < length s.messages * length s.arcs
       arc_in_uses = omega (arith, mul-add-lt m (length s.arcs) a (length s.messages) hm ha)
 
+-- an option and the use of its resource,
 pub option_allocated : (s : SpecValue) (o r : ℕ) (y z : Bool) → o < length s.options → r < length s.resources → IsRising (all_variables s) (literal y o ∷ (literal z (resource_var s r) ∷ []))
 option_allocated s o r y z ho hr = two (all_variables s) o (resource_var s r) y z (omega (arith, ho)) (omega (arith, hr, design_variables-le s))
 
@@ -179,6 +190,7 @@ covers_rise s r hr =
     (λ m l. (omega (arith, base-ge s m), covered_var-lt s m r l hr))
     (λ i j l k. omega (arith, hr, base-more s i (omega (arith, l, k)), base_up s (i + 1) j (omega (arith, l)) (omega (arith, k))))
 
+-- what uses a resource,
 pub resource_uses : (s : SpecValue) (r : ℕ) → r < length s.resources → IsRising (all_variables s) (positives (options_on s r) ++ negative (resource_var s r)
     ∷ positives (map (cover_of s r) (messages_of s)))
 resource_uses s r hr =
@@ -192,6 +204,7 @@ resource_uses s r hr =
       );
     }
 
+-- what uses a link,
 pub link_uses : (s : SpecValue) (l : ℕ) → l < length s.links → IsRising (all_variables s) (positives (flat_map (link_arcs s l) (messages_of s)) ++ negative (link_var s l) ∷ [])
 unfolding link_arcs
 link_uses s l hl =
@@ -223,6 +236,7 @@ carry_is n u p q ts hp hq rising e = (whole, ap (λ (us : List Term). make us) (
     make : List Term → Linear
     make us = record { terms = us; degree = 1 }
 
+-- a step that an arc carries on,
 pub carry_shape : (s t : SpecValue) (m a p q k n : ℕ) (ls : List Term) → t ≡ s → IsWellFormed t → m < length s.messages → a < length s.arcs → p ≡ (arc_at s a).tail → q ≡ (arc_at s a).head
     → k < (message_at s m).limit → n ≡ all_variables s → ls ≡ put (negative (arc_var s m a)) (put (negative (step_var s m p k)) (positive (step_var s m q (k + 1)) ∷ [])) → IsRising n ls
     × (at_least 1 ls ≡ carries s m a k)
@@ -237,6 +251,7 @@ carry_shape s t m a p q k n ls e wf hm ha ep eq hk en el =
     (arc_before s m hm a (arc_at s a).head (k + 1) ha) (carried s m hm a (arc_at s a).tail (arc_at s a).head k ha arc.tail arc.head arc.apart hk) el' in
     (subst (λ (x : ℕ). IsRising x ls) (sym en) both.0, both.1)
 
+-- and the steps that a step has as causes
 pub cause_shape : (s t : SpecValue) (m q k n : ℕ) (ls : List Term) → t ≡ s → IsWellFormed t → m < length s.messages → q < length s.resources → k < (message_at s m).limit → n ≡ all_variables s
     → ls ≡ put (negative (step_var s m q (k + 1))) (positives (map (step_at s m k) (neighbours s q))) → IsRising n ls × (at_least 1 ls ≡ has_cause s m q k)
 unfolding has_cause

@@ -11,13 +11,16 @@ use Rattle.spec_model.specs.Spec.{Bits}
 use Rattle.spec_model.proofs.Counts.{bit, count-cons}
 use Rattle.encode_model.specs.Encoding.{positive, negative, positives, negatives, put, by_variable, at_least}
 
+-- the true weight of two lists is the sum of both
 pub true_weight-append : (f : Bits) (ts us : List Term) → true_weight f (ts ++ us) ≡ true_weight f ts + true_weight f us
 true_weight-append f ts us = sum_by-append (λ (t : Term). cond (lit_true f t.lit) t.coef 0) ts us
 
+-- the true weight of variables counts those that are true
 pub weight-positives : (f : Bits) (vs : List ℕ) → true_weight f (positives vs) ≡ count_by f vs
 weight-positives f [] = refl
 weight-positives f (v ∷ vs) = true_weight-cons f (positive v) (positives vs) ∙ (ap (λ k. bit (f v) + k) (weight-positives f vs) ∙ sym (count-cons f v vs))
 
+-- and that of their opposites those that aren't
 pub weight-negatives : (f : Bits) (vs : List ℕ) → true_weight f (negatives vs) + count_by f vs ≡ length vs
 weight-negatives f [] = refl
 weight-negatives f (v ∷ vs) = omega (arith, true_weight-cons f (negative v) (negatives vs), count-cons f v vs, weight-negatives f vs, both (f v))
@@ -39,10 +42,12 @@ weight-by_variable : (f : Bits) (ts : List Term) → true_weight f (by_variable 
 weight-by_variable f [] = refl
 weight-by_variable f (t ∷ ts) = omega (arith, weight-put f t (by_variable ts), weight-by_variable f ts, true_weight-cons f t (by_variable ts), true_weight-cons f t ts)
 
+-- a constraint of at least n holds where the true weight is at least n,
 pub at_least-holds : (f : Bits) (n : ℕ) (ts : List Term) → n ≤ true_weight f ts → Holds f (at_least n ts)
 unfolding at_least
 at_least-holds f n ts h = omega (arith, h, weight-by_variable f ts)
 
+-- and only there
 pub holds-at_least : (f : Bits) (n : ℕ) (ts : List Term) → Holds f (at_least n ts) → n ≤ true_weight f ts
 unfolding at_least
 holds-at_least f n ts h = omega (arith, h, weight-by_variable f ts)
@@ -68,6 +73,7 @@ if_then f a b h t = at (f a) (f b) t (omega (arith, holds-at_least f 1 _ h, weig
     at true false t h = absurd (omega (arith, h))
     at false false t h = t
 
+-- a clause of two holds where the first variable makes the second one true
 pub from_if_then : (f : Bits) (a b : ℕ) → (f a ≡ true → f b ≡ true) → Holds f (at_least 1 (negative a ∷ (positive b ∷ [])))
 from_if_then f a b h = at_least-holds f 1 _ (omega (arith, weight-two f (negative a) (positive b), at (f a) (f b) h))
   where
@@ -84,6 +90,7 @@ then_if f a b h t = at (f a) (f b) t (omega (arith, holds-at_least f 1 _ h, weig
     at true false t h = absurd (omega (arith, h))
     at false false t h = t
 
+-- the same, with the literals the other way round
 pub from_then_if : (f : Bits) (a b : ℕ) → (f a ≡ true → f b ≡ true) → Holds f (at_least 1 (positive b ∷ (negative a ∷ [])))
 from_then_if f a b h = at_least-holds f 1 _ (omega (arith, weight-two f (positive b) (negative a), at (f a) (f b) h))
   where
@@ -100,6 +107,7 @@ not_both f a b h t = at (f a) (f b) t (omega (arith, holds-at_least f 1 _ h, wei
     at true true t h = absurd (omega (arith, h))
     at false true t h = sym t
 
+-- a clause of two opposites holds where not both are true
 pub from_not_both : (f : Bits) (a b : ℕ) → (f a ≡ true → f b ≡ false) → Holds f (at_least 1 (negative a ∷ (negative b ∷ [])))
 from_not_both f a b h = at_least-holds f 1 _ (omega (arith, weight-two f (negative a) (negative b), at (f a) (f b) h))
   where
@@ -114,6 +122,7 @@ weight-three f t u w = three (cond (lit_true f t.lit) t.coef 0) (cond (lit_true 
     three : (a b c : ℕ) → ((0 + a) + b) + c ≡ a + b + c
     three a b c = omega arith
 
+-- a clause of three says that two variables make the third one true,
 pub if_both_then : (f : Bits) (a b c : ℕ) → Holds f (at_least 1 (negative a ∷ (negative b ∷ (positive c ∷ [])))) → f a ≡ true → f b ≡ true → f c ≡ true
 if_both_then f a b c h ta tb = at (f a) (f b) (f c) ta tb (omega (arith, holds-at_least f 1 _ h, weight-three f (negative a) (negative b) (positive c)))
   where
@@ -123,6 +132,7 @@ if_both_then f a b c h ta tb = at (f a) (f b) (f c) ta tb (omega (arith, holds-a
     at true false false tx ty h = ty
     at false y false tx ty h = tx
 
+-- and holds where they do
 pub from_if_both_then : (f : Bits) (a b c : ℕ) → (f a ≡ true → f b ≡ true → f c ≡ true) → Holds f (at_least 1 (negative a ∷ (negative b ∷ (positive c ∷ []))))
 from_if_both_then f a b c h = at_least-holds f 1 _ (omega (arith, weight-three f (negative a) (negative b) (positive c), at (f a) (f b) (f c) h))
   where

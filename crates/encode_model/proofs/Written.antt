@@ -1,4 +1,4 @@
--- The encodings of two small specifications and a block, written out by hand: each family, and their order; and a line
+-- The encodings of two small specifications and a block, worked out by hand: each family, and their order; and a line
 -- that refutes one of them.
 use Rattle.std.specs.Prelude.{◌≡◌, ℕ, Bool, true, false, List, [], ◌∷◌, refl}
 use Rattle.pb_rules.specs.declared.Term.{Term}

@@ -42,7 +42,8 @@ pub record AreRoundsFrom (s : SpecValue) (tools : ToolsValue) (chosen : List ℕ
   pub last : Lcg
   pub rounds : AreRounds s word_of next_of (measured_by tools chosen s) [] entries (seeded seed) last
 
--- the lines of all decodings, in order: each is a derived one and legal at its place, and the encoding and what all of them derive show by propagation alone of each round's design that it is the first
+-- the lines of all decodings, in order: each is a derived one and legal at its place,
+-- and the encoding and what all of them derive show by propagation alone of each round's design that it is the first
 pub record LinesShowEach (s : SpecValue) (entries : List Member) (ls : List Line) : Type 0 where
   pub derived_each : AreDerived ls
   pub legal : AreLegal (cover_frame s) ls

@@ -54,6 +54,7 @@ fine_for why ts e = all_fine why ts (all_false ts e)
 pub chosen : {A : Type 0} (b : Bool) (x y : A) → b ≡ true → (if b then x else y) ≡ x
 chosen b x y e = ap (λ (c : Bool). if c then x else y) e
 
+-- the other case, where the test is false
 pub other : {A : Type 0} (b : Bool) (x y : A) → b ≡ false → (if b then x else y) ≡ y
 other b x y e = ap (λ (c : Bool). if c then x else y) e
 
@@ -62,6 +63,7 @@ pub ranked_if : (low : ℕ) (b : Bool) (xs ys : List Test) → IsRanked low xs �
 ranked_if low true xs ys h k = h
 ranked_if low false xs ys h k = k
 
+-- brackets of three tests say nothing
 pub or_or : (a b c : Bool) → (a || (b || c)) ≡ ((a || b) || c)
 or_or true b c = refl
 or_or false b c = refl

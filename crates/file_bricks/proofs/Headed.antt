@@ -29,8 +29,10 @@ pub in_order_headed : (is_header : Words → Bool) (later : Later) (end : End)
     → AreInOrder (headed_rules is_header later end)
 in_order_headed is_header later end s e = in_order (after_header is_header later) (end_after_header end) (statement_ranked is_header later s) (end_ranked end e)
 
+-- a wrong header is refused,
 pub header_wrong : (is_header : Words → Bool) (later : Later) (ws : Words) → is_header ws ≡ false → first_broken (after_header is_header later [] ws) ≡ Some NoHeader
 header_wrong is_header later ws e = rw e refl
 
+-- and a right one isn't
 pub header_right : (is_header : Words → Bool) (later : Later) (ws : Words) → is_header ws ≡ true → first_broken (after_header is_header later [] ws) ≡ None
 header_right is_header later ws e = rw e refl

@@ -47,6 +47,7 @@ not_lf b h = ne_eqb b 10 (λ e. omega (arith, e, h.low))
 not_bad : (b : ℕ) → IsLineByte b → is_bad b ≡ false
 not_bad b h = rw (ne_eqb b 9 (λ e. omega (arith, e, h.low)), ne_eqb b 13 (λ e. omega (arith, e, h.low)), le-leb 32 b h.low, le-leb b 126 h.high) refl
 
+-- a written word has no end of a line
 pub word_line : (w : List ℕ) → IsWritten w → IsLine w
 word_line [] h = tt
 word_line (b ∷ w) h = (record { low = omega (arith, h.0.low); high = h.0.high; other = h.0.other }, word_line w h.1)
@@ -76,6 +77,7 @@ run_all (b ∷ w) h =
     let more : position_or_len is_blank (b ∷ w) ≡ suc (position_or_len is_blank w) = rw f (omega arith) in
     more ∙ ap (λ (n : ℕ). suc n) (run_all w h.1)
 
+-- a written word before a blank is the first one,
 pub first_word : (w rest : List ℕ) (at : ℕ) → 0 < length w → IsWritten w → texts (words_from at (w ++ 32 ∷ rest)) ≡ w ∷ texts (words_from (at + length w + 1) rest)
 first_word w rest at some h =
     let n = run_len w rest h in
@@ -86,6 +88,7 @@ first_word w rest at some h =
     ∙ ap (λ (t : List ℕ). w ∷ texts (words_from (at + length w) t)) (drop-append_seam w (32 ∷ rest))
     ∙ ap (λ (ws : List Piece). w ∷ texts ws) (words_from-blank (at + length w) 32 rest refl)
 
+-- and one alone is the last
 pub last_word : (w : List ℕ) (at : ℕ) → 0 < length w → IsWritten w → texts (words_from at w) ≡ w ∷ []
 last_word w at some h =
     let n = run_all w h in
@@ -98,6 +101,7 @@ last_word w at some h =
 
 -- ---- lines
 
+-- a line with its LF is the first one
 pub lines-line : (l rest : List ℕ) → IsLine l → lines (l ++ 10 ∷ rest) ≡ l ∷ lines rest
 unfolding lines
 lines-line [] rest h = refl
@@ -123,6 +127,7 @@ pub record States (line : List ℕ) (ws : Words) : Type 0 where
   pub fine : line_fault line ≡ None
   pub stated : stated_words line ≡ Some ws
 
+-- a short line states its words
 pub line_states : (l w : List ℕ) (ws : Words) → IsLine l → length l ≤ most_line_bytes → texts (words_from 0 l) ≡ w ∷ ws → States l (w ∷ ws)
 line_states l w ws h short are =
     let same = content-line l h in
@@ -155,9 +160,11 @@ digit_word : (w : List ℕ) → list_all is_ascii_digit w ≡ true → IsWritten
 digit_word [] h = tt
 digit_word (b ∷ w) h = let parts = and_parts (is_ascii_digit b) (list_all is_ascii_digit w) h in (digit_byte b parts.0, digit_word w parts.1)
 
+-- a decimal number is a word,
 pub decimal_word : (n : ℕ) → n < 2 ^ 64 → IsWritten (decimal n)
 decimal_word n lt = digit_word (decimal n) (digits_decimal own n lt)
 
+-- which is read as the number
 pub whole_of-decimal : (n : ℕ) → n < 2 ^ 63 → whole_of (decimal n) ≡ Ok n
 unfolding whole_of
 whole_of-decimal n lt =

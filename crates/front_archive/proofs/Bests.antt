@@ -118,7 +118,7 @@ module _ {X : Type 0} (cov : X → X → Bool) (trans : (a b c : X) → cov a b 
 
   unbeaten : (all e xs : List X) → Every (λ x. list_any (λ y. dominates cov y x) all ≡ false) (best_from cov all e xs)
   unbeaten all e [] = tt
-  unbeaten all e (x ∷ xs) = every_cond _ (is_beaten cov all e x) x _ (λ none. (or_parts _ _ none).0) (unbeaten all (e ++ x ∷ []) xs)
+  unbeaten all e (x ∷ xs) = every_cond _ (is_beaten cov all e x) x _ (λ none. (or_parts (list_any (λ y. dominates cov y x) all) _ none).0) (unbeaten all (e ++ x ∷ []) xs)
 
   any_cond : (p : X → Bool) (b : Bool) (x : X) (xs ys : List X) → (list_any p xs ≡ true → list_any p ys ≡ true) → list_any p (cond b xs (x ∷ xs)) ≡ true → (p x || list_any p ys) ≡ true
   any_cond p true x xs ys f e = or_right (p x) _ (f e)

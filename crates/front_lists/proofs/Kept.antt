@@ -18,6 +18,7 @@ use Rattle.front_lists.proofs.Least.{least}
 
 -- ---- entries and their vectors
 
+-- the vector of an entry is among those of its list
 pub vector_there : (es : List EntryValue) (e : EntryValue) → Contains es e → Contains (vectors_in es) e.vector
 vector_there es e c =
     (c.0, omega (arith, c.1, length-map es vector_in), get_or-map vector_in es c.0 e e.vector c.1 ∙ ap vector_in c.2)
@@ -28,6 +29,7 @@ pub record HasEntry (es : List EntryValue) (w : List ℕ) : Type 0 where
   pub there : Contains es entry
   pub has : entry.vector ≡ w
 
+-- a vector among those of entries is that of one of them
 pub entry_there : (es : List EntryValue) (w : List ℕ) → Contains (vectors_in es) w → HasEntry es w
 entry_there es w c =
     let none : EntryValue = record { design = []; vector = w } in
@@ -41,6 +43,7 @@ found_entry s found e p c =
     let n : IsNext s (vectors_in (take c.0 found)) e = subst (IsNext s (vectors_in (take c.0 found))) c.2 (p c.0 e c.1) in
     record { valid = n.first.meets.valid; stated = n.stated }
 
+-- each found vector has a number for each objective
 pub vectors_long : (s : SpecValue) (found : List EntryValue) → FoundPrefix s found → AreLong (length s.objectives) (vectors_in found)
 vectors_long s found p k d l =
     let x = entry_there found (get_or (vectors_in found) k d) (Contains-get_or (vectors_in found) k d l) in
@@ -121,5 +124,6 @@ reached s found front whole kept x valid =
       | inr none ↦ absurd (whole.none_left x (record { valid = valid; uncovered = none }))
     ]
 
+-- the undominated entries of a whole found list are the front
 pub whole_is_front : WholeIsFront
 whole_is_front s found front whole kept = claim_is_front s (front_with front true) (undominated_are_claim s found front whole.prefix kept) (reached s found front whole kept)

@@ -40,6 +40,7 @@ number_at_most : (s : SpecValue) (f : Bits) (j : ℕ) → vector_at s f j ≤ to
 unfolding vector_at total_weight
 number_at_most s f j = sum_at_most s f j (design_variables s)
 
+-- in each objective a design's number is at most the sum of all weights
 pub vector_within : (s : SpecValue) (f : Bits) → IsWithinWeights s (vector_of s f)
 vector_within s f j l =
     let there : j < length s.objectives = omega (arith, l, vector_long s f) in
@@ -60,6 +61,7 @@ next_is_shaped s us e wf next = record {
   small = subst (All (λ (n : ℕ). n < 2 ^ 63)) next.stated (vector_small s (bits_of e.design) wf);
 }
 
+-- each found entry has the specification's shape
 pub found_are_shaped : FoundAreShaped
 found_are_shaped s found wf p k d l = next_is_shaped s (vectors_in (take k found)) (get_or found k d) wf (p k d l)
 
@@ -100,6 +102,7 @@ undominated_refute s found front ls p kept r = record {
   clashes = r.clashes;
 }
 
+-- the text of the undominated entries is accepted with that of lines that refute
 pub texts_are_accepted : TextsAreAccepted
 texts_are_accepted s found front ls wf p kept r = record {
   front = front_with front true;

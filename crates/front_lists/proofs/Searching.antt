@@ -130,14 +130,17 @@ module _ (s : SpecValue) (found : List EntryValue) (ls : List Line) (wf : IsWell
   pub none_is_whole : HasNoModel (searched s ls) → FoundWhole s found
   none_is_whole none = record { prefix = p; none_left = λ g left. (let x = left_has_model g left in none x.0 x.1) }
 
+-- the first model, cut to the design, is what is found next
 pub first_model_is_next : FirstModelIsNext
 first_model_is_next s found ls n order m design wf p covers few o first len same = first_is_next s found ls wf p covers n order m design few o first len same
 
+-- where there is no model the found list is whole
 pub no_model_is_whole : NoModelIsWhole
 no_model_is_whole s found ls wf p covers none = none_is_whole s found ls wf p covers none
 
 -- ---- one found entry more
 
+-- with what is found next, a found list is one still
 pub next_is_found : NextIsFound
 next_is_found s found e p next i d l =
     let long = length_push found e in

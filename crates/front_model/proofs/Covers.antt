@@ -38,6 +38,7 @@ at_most_of u v h j =
       | inr l ↦ omega (arith, get_or_past u j 0 l)
     ]
 
+-- a vector that is at most another one passes the test
 pub of_at_most : (u v : List ℕ) → IsAtMost u v → is_at_most v u ≡ true
 of_at_most u v h = at_all (is_at_most_at u v) (length u) 0 (λ i l. le-leb (slice_index u (0 + i)) (slice_index v (0 + i)) (h (0 + i)))
 

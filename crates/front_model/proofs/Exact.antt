@@ -37,15 +37,18 @@ entry_long s e h = sym (ap length h.stated) ∙ vector_long s (bits_of e.design)
 
 -- ---- some vector of a list is at most a given one, or none is
 
+-- what a list has, it has with one more in front
 pub before_all : (u : List ℕ) (us : List (List ℕ)) (w : List ℕ) → Contains us w → Contains (u ∷ us) w
 before_all u us w h =
     let e : suc h.0 ≡ h.0 + 1 = omega arith in
     (h.0 + 1, omega (arith, h.1), subst (λ (n : ℕ). get_or (u ∷ us) n w ≡ w) e h.2)
 
+-- an entry of a list is its first, or one of the rest
 pub split : (u : List ℕ) (us : List (List ℕ)) (w : List ℕ) → Contains (u ∷ us) w → (u ≡ w) ⊎ Contains us w
 split u us w (zero, l, e) = inl e
 split u us w (suc k, l, e) = inr (k, omega (arith, l), e)
 
+-- some vector of a list is at most the given one, or none is
 pub below_or_none : (us : List (List ℕ)) (v : List ℕ) → HasBelow us v ⊎ (¬ HasBelow us v)
 below_or_none [] v = inr (λ h. (let l = h.there.1 in absurd (omega arith)))
 below_or_none (u ∷ us) v =
@@ -166,6 +169,7 @@ module _ (s : SpecValue) (front : FrontValue) (claim : IsClaim s front) (below_e
         claim.apart i j d (omega arith) many (λ q. absurd (omega (arith, q, lt))) (subst (λ (y : List ℕ). IsAtMost (get_or us i d) y) e (at_most_itself (get_or us i d))));
   }
 
+-- a claim that has a vector at most that of each valid design is the front
 pub claim_is_front : ClaimIsFront
 claim_is_front s front claim below_each = exact s front claim below_each
 

@@ -224,9 +224,11 @@ take_more : (s : SpecValue) (us ps : List (List ℕ)) (p : Progress) (piece : Li
 take_more s us [] p piece = refl
 take_more s us (q ∷ ps) p piece = take_more s us ps (take_line s us p q) piece
 
+-- a checker begins where no piece was read
 pub begins_reached : BeginsReached
 begins_reached s us = record { pieces = []; each = All-nil IsPiece; is = refl }
 
+-- one piece more reaches what is judged of it
 pub reaches_on : ReachesOn
 reaches_on s us p piece r h = record {
   pieces = r.pieces ++ piece ∷ [];
@@ -234,6 +236,7 @@ reaches_on s us p piece r h = record {
   is = take_more s us r.pieces (begun s) piece ∙ ap (λ (q : Progress). take_line s us q piece) r.is;
 }
 
+-- where the pieces are accepted, the claim is the front of its specification
 pub reached_is_front : ReachedIsFront
 reached_is_front s front p wf claim r e =
     let us = vectors_of front in

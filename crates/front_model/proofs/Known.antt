@@ -19,6 +19,7 @@ use Rattle.front_model.specs.Judging.{Stand, judged, judge_header, judge_piece, 
 use Rattle.front_model.specs.Laws.{IsKnown, BeginsKnown, StaysKnown}
 use Rattle.front_model.proofs.Lines.{line_of_piece}
 
+-- a checker begins with constraints whose variables are known
 pub begins_known : BeginsKnown
 begins_known s wf =
     let e : all_variables s ≡ variables_to s 0 = omega arith in
@@ -31,6 +32,7 @@ next_known s us g h (derived ops) may (by_ops c q e) known =
 next_known s us g h (cover v) may (by_block q e) known =
     subst (λ (k : Given). KnowsBelow k.constraints (variables_to s k.covers)) (sym e) (block_known s g.covers v g.constraints may.one_each known)
 
+-- and their variables stay known after one piece more
 pub stays_known : StaysKnown
 stays_known s us p piece h known = by_refusal p.refused
   where

@@ -33,6 +33,7 @@ digit_bytes (b ∷ bs) h =
     let high : b ≤ 126 = omega (arith, digit_high b p.0) in
     and_from (is_name_byte b) (list_all is_name_byte bs) (and_from (leb 33 b) (leb b 126) (le-leb 33 b low) (le-leb b 126 high)) (digit_bytes bs p.1)
 
+-- bytes of words are bytes of names
 pub word_bytes : (bs : List ℕ) → list_all is_word_byte bs ≡ true → list_all is_name_byte bs ≡ true
 word_bytes [] h = refl
 word_bytes (b ∷ bs) h =

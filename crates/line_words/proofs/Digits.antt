@@ -8,6 +8,7 @@ use Rattle.std.proofs.lemmas.Bool.{cases_lt, le-ltb, ltb-true, and_parts}
 use Rattle.line_words.specs.Numbers.{is_digits, whole_of}
 use Rattle.line_words.specs.declared.numbers.NumberFault.TheVariants.{TooBig}
 
+-- the texts of decimal digits, and the numbers that they represent
 pub own : IsNumeralModel (λ ds. list_all is_ascii_digit ds ≡ true) (digits_value 10)
 own = numerals_by_value _ (search rules)
 

@@ -9,6 +9,7 @@ use Rattle.line_words.proofs.Spans.{content_byte}
 use Rattle.line_words.specs.Front.{is_lf, ends_content, line_of}
 use Rattle.line_words.proofs.Whys.{some, none}
 
+-- no bytes have no lines
 pub lines-nil : lines [] ≡ []
 unfolding lines
 lines-nil = refl

@@ -25,6 +25,7 @@ above_low low (t ∷ ts) v h i = elim i [
 first_here : (t : Test) (ts : List Test) → t.1 ≡ true → first_broken (t ∷ ts) ≡ some t.0
 first_here t ts e = rw e refl
 
+-- a rule that isn't broken is passed over
 pub first_later : (t : Test) (ts : List Test) → t.1 ≡ false → first_broken (t ∷ ts) ≡ first_broken ts
 first_later t ts e = rw e refl
 
@@ -176,10 +177,12 @@ at_line : (rules : Rules) (lines : List (List ℕ)) (n : ℕ) (broken : Option W
 at_line rules lines n None more o lt e fine then = then (fine_more rules lines n fine e)
 at_line rules lines n (Some w) more o lt e fine then = least_here rules lines n w o lt fine e
 
+-- a run over no lines tries the end
 pub run-nil : (rules : Rules) (number : ℕ) (before : List Statement) → run rules number before [] ≡ unless_broken number (first_broken (rules.end before)) (Ok before)
 unfolding run
 run-nil rules number before = refl
 
+-- a run tries its first line, and then the others after it
 pub run-cons : (rules : Rules) (number : ℕ) (before : List Statement) (l : List ℕ) (ls : List (List ℕ))
     → run rules number before (l ∷ ls) ≡ unless_broken number (first_broken (tests_after rules before l)) (run rules (number + 1) (before ++ at_number number (rules.stated l)) ls)
 unfolding run

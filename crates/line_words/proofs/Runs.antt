@@ -34,6 +34,7 @@ onto_word-apart : (at b : ℕ) (ws : List Piece) → StartsFrom (at + 2) ws → 
 onto_word-apart at b [] h = refl
 onto_word-apart at b (w ∷ ws) h = grind (arith, nat_tests)
 
+-- a blank in front is passed over
 pub words_from-blank : (at b : ℕ) (bs : List ℕ) → is_blank b ≡ true → words_from at (b ∷ bs) ≡ words_from (at + 1) bs
 unfolding words_from
 words_from-blank at b bs h = rw h refl
@@ -42,6 +43,7 @@ pub words_from-byte : (at b : ℕ) (bs : List ℕ) → is_blank b ≡ false → 
 unfolding words_from
 words_from-byte at b bs h = rw h refl
 
+-- no bytes have no words
 pub words_from-nil : (at : ℕ) → words_from at [] ≡ []
 unfolding words_from
 words_from-nil at = refl

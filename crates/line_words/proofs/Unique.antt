@@ -48,7 +48,7 @@ ranked_at-rank NotInOrder = refl
 pub rank-injective : (v w : Why) → rank v ≡ rank w → v ≡ w
 rank-injective v w e = some_is v w (sym (ranked_at-rank v) ∙ ap ranked_at e ∙ ranked_at-rank w)
 
--- the least refusal is one
+-- A law for callers: the least refusal is one.
 pub IsLeast-one : (rules : Rules) (lines : List (List ℕ)) (m n : ℕ) (v w : Why) → IsLeast rules lines m v → IsLeast rules lines n w → (m ≡ n) × (v ≡ w)
 IsLeast-one rules lines m n v w a b =
     elim (a.least n w b.holds) [

@@ -50,6 +50,7 @@ find_in names name = go (cases_lt n (length names))
         let e : position (bytes_eq name) names ≡ None = ap (λ (b : Bool). cond b (Some n) None) (le-ltb n (length names) l) in
         subst (λ (r : Option ℕ). MatchOption r (Contains names name → ⊥) (IsNumberOf names name)) (sym e) (λ h. not_there h l)
 
+-- the place that is found is the number of the name
 pub find_at : (ks : List Text) (name : List ℕ) (r : Option ℕ) (names : List (List ℕ)) → r ≡ position (test name) ks → map string_bytes ks ≡ names
     → MatchOption r (Contains names name → ⊥) (IsNumberOf names name)
 find_at ks name r names e en =
@@ -61,6 +62,7 @@ any_map : (t : Text) (ks : List Text) → list_any (string_eq t) ks ≡ list_any
 any_map t [] = refl
 any_map t (k ∷ ks) = ap (λ (b : Bool). string_eq t k || b) (any_map t ks)
 
+-- a name that isn't there stands behind the others
 pub add_at : (ks ls : List Text) (t : Text) (name : List ℕ) (names : List (List ℕ)) → ls ≡ (if list_any (string_eq t) ks then ks else ks ++ t ∷ []) → string_bytes t ≡ name
     → map string_bytes ks ≡ names → (Contains names name → ⊥) → map string_bytes ls ≡ names ++ name ∷ []
 add_at ks ls t name names e et en h =

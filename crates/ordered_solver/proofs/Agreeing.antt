@@ -135,6 +135,7 @@ new-over-kept start s t order variables budget answer eg ek keeps h f a =
     let K : List Content → Type 0 = λ cs. AreNewSays f a.given (constraints_of s.given ++ constraints_of cs) lines answer in
     subst K (sym ek) (subst G (sym eg) both)
 
+-- one constraint more is under the next id
 pub numbered-push : (id : ℕ) (cs : List Linear) (c : Linear) → numbered id (cs ++ c ∷ []) ≡ numbered id cs ++ record { constraint = c; proof_id = id + length cs } ∷ []
 numbered-push id [] c = ap (λ n. record { constraint = c; proof_id = n } ∷ []) (omega arith)
 numbered-push id (d ∷ cs) c =
@@ -164,6 +165,7 @@ numbered-stands id early (c ∷ cs) e h (suc k) d l =
     let P : List Linear → Type 0 = λ xs. StandsIn (context_of (only xs)) (get_or (numbered (id + 1) cs) k d) in
     subst P (append_assoc early (c ∷ []) cs) rest
 
+-- a new solver agrees with its frame
 pub agrees-new : (f : Frame) (variables : ℕ) (spent : Bool) → IsFrame f → length f.base + 1 < 2 ^ 62
     → Agrees f (record { variables = variables; given = numbered 1 f.base; kept = []; log = record { first = length f.base + 1; lines = [] }; spent = spent })
 agrees-new f variables spent frame few = record { frame = frame; fits = refl; given = base_of f; legal = refl; stand = numbered-stands 1 [] f.base refl (omega arith) }

@@ -41,6 +41,7 @@ falsifies-not : (b : Bool) → falsifies (Some (not b)) b ≡ true
 falsifies-not true = refl
 falsifies-not false = refl
 
+-- a variable without a value falsifies no literal
 pub falsifies-none : (o : Option Bool) (b : Bool) → o ≡ None → falsifies o b ≡ false
 falsifies-none o b e = rw e refl
 

@@ -63,6 +63,7 @@ found (Some b) i a e = (let q : b ≡ a = cc in ap (λ (c : Linear). Some c) q)
 same_top : (a b : Linear) (st after : List Linear) → a ≡ b → after ≡ b ∷ st → after ≡ a ∷ st
 same_top a b st after e f = f ∙ ap (λ (c : Linear). c ∷ st) (sym e)
 
+-- an operation that applies is carried out
 pub carried : (context : Context) (o : Op) (st after : List Linear) → apply context o st ≡ Ok after → Carried context after o st
 carried context (Id i) st after e =
     was_small i (push st (ok_or (context.live i) (unknown i))) after (λ small f.

@@ -90,9 +90,11 @@ closed-among cs ds p among closed i d l =
     let there = among c (i, l, get_or_default cs i c d l) in
     subst (IsClosed p) there.2 (closed there.0 c there.1)
 
+-- the first of two lists are among both
 pub among-front : (cs ds : List Linear) → AreAmong cs (cs ++ ds)
 among-front cs ds c h = Contains-append_left cs ds c h
 
+-- the second of two lists are among both
 pub among-back : (cs ds : List Linear) → AreAmong ds (cs ++ ds)
 among-back cs ds c h = Contains-append_right cs ds c h
 
@@ -103,15 +105,19 @@ models-among v cs ds among m i d l =
     let there = among c (i, l, get_or_default cs i c d l) in
     subst (Holds v) there.2 (m there.0 c there.1)
 
+-- a model of two lists is one of the first,
 pub models-front : (v : ℕ → Bool) (cs ds : List Linear) → IsModel (cs ++ ds) v → IsModel cs v
 models-front v cs ds m = models-among v cs (cs ++ ds) (among-front cs ds) m
 
+-- and one of the second
 pub models-back : (v : ℕ → Bool) (cs ds : List Linear) → IsModel (cs ++ ds) v → IsModel ds v
 models-back v cs ds m = models-among v ds (cs ++ ds) (among-back cs ds) m
 
+-- two lists whose constraints are among others, together
 pub among-append : (cs ds es : List Linear) → AreAmong cs es → AreAmong ds es → AreAmong (cs ++ ds) es
 among-append cs ds es a b c h = elim (Contains-append_cases cs ds c h) [ inl x ↦ a c x | inr y ↦ b c y ]
 
+-- what is closed for two lists is closed for the first
 pub closed-front : (cs ds : List Linear) (p : ℕ → Option Bool) → IsClosedFor (cs ++ ds) p → IsClosedFor cs p
 closed-front cs ds p h = closed-among cs (cs ++ ds) p (among-front cs ds) h
 
@@ -123,6 +129,7 @@ absorbed-among cs ds c among absorbed p closed left = absorbed p (closed-among c
 pub unabsorbed-among : (cs ds : List Linear) (c : Linear) → AreAmong cs ds → IsUnabsorbed ds c → IsUnabsorbed cs c
 unabsorbed-among cs ds c among u = record { assignment = u.assignment; closed = closed-among cs ds u.assignment among u.closed; leaves_one = u.leaves_one }
 
+-- a clause that says something new isn't absorbed
 pub unabsorbed-not : (cs : List Linear) (c : Linear) → IsUnabsorbed cs c → IsAbsorbed cs c → ⊥
 unabsorbed-not cs c u absorbed = absorbed u.assignment u.closed u.leaves_one
 

@@ -17,6 +17,7 @@ pub data Goes (f : Frame) (g h : Given) : Line → Type 0 where
   by_ops : {ops : List Op} (c : Linear) → line_gives (context_of g) ops ≡ Ok c → h ≡ with_derived g c → Goes f g h (derived ops)
   by_block : {v : List ℕ} → list_all small_number v ≡ true → h ≡ with_block f g v → Goes f g h (cover v)
 
+-- a legal line goes by its operations or by its block
 pub goes : (f : Frame) (g h : Given) (l : Line) → given_with f g l ≡ Some h → Goes f g h l
 goes f g h (derived ops) e = go (line_gives (context_of g) ops) refl e
   where
@@ -77,6 +78,7 @@ derived-append f g h (l ∷ ls) ms e =
         let P : Given → Type 0 = λ m. derived_from f m (ls ++ ms) ≡ derived_from f m ls ++ derived_from f h ms in
         subst P e ih
 
+-- a derived line more gives its constraint more
 pub derived-push : (f : Frame) (g h : Given) (ls : List Line) (ops : List Op) (c : Linear) → given_from f g ls ≡ Some h → line_gives (context_of h) ops ≡ Ok c
     → derived_from f g (ls ++ derived ops ∷ []) ≡ derived_from f g ls ++ c ∷ []
 derived-push f g h ls ops c e k =

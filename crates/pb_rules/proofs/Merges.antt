@@ -8,9 +8,11 @@ use Rattle.pb_rules.specs.declared.Term.{Term}
 use Rattle.pb_rules.specs.Linear.{total}
 use Rattle.pb_rules.specs.CuttingPlanes.{Sum, same_sign, onto, joined, merge_one, merge, cut, without_var, coef_of}
 
+-- the sum with one term more
 pub total-cons : (t : Term) (ts : List Term) → total (t ∷ ts) ≡ t.coef + total ts
 total-cons t ts = sum_by-cons (λ (t : Term). t.coef) t ts
 
+-- a coefficient is at most the sum
 pub coef-le : (ts : List Term) (i : ℕ) (t : Term) → i < length ts → t ≡ get_or ts i t → t.coef ≤ total ts
 coef-le [] i t h e = absurd (omega arith)
 coef-le (u ∷ ts) zero t h e = let c = total-cons u ts in let q = ap (λ (v : Term). v.coef) e in omega arith
@@ -45,6 +47,7 @@ one-cancelled t f m h (u ∷ us) =
     go false true a b c = b
     go false false a b c = c
 
+-- what cancels in a merge is at most the first sum
 pub merge-cancelled : (ts us : List Term) → (merge ts us).cancelled ≤ total ts
 merge-cancelled [] us = omega arith
 merge-cancelled (t ∷ ts) us = let c = total-cons t ts in let o = one-cancelled t (merge ts) (total ts) (merge-cancelled ts) us in omega arith
@@ -73,20 +76,25 @@ cut-append d (t ∷ ts) us = go (ltb 0 (min t.coef d)) (cut-append d ts us)
     go true ih = ap (λ vs. let r : Term = record { coef = min t.coef d; lit = t.lit } in r ∷ vs) ih
     go false ih = ih
 
+-- one term more is cut
 pub cut-more : (d : ℕ) (ts : List Term) (i : ℕ) (t : Term) → i < length ts → t ≡ get_or ts i t → cut d (take (i + 1) ts) ≡ cut d (take i ts) ++ cut d (t ∷ [])
 cut-more d ts i t h e = ap (cut d) (take_more ts i t h ∙ ap (λ (u : Term). take i ts ++ u ∷ []) (sym e)) ∙ cut-append d (take i ts) (t ∷ [])
 
+-- a term of which something is left
 pub cut-hit : (d : ℕ) (t : Term) (m : ℕ) → m ≡ min t.coef d → 0 < m → cut d (t ∷ []) ≡ record { coef = m; lit = t.lit } ∷ []
 cut-hit d t m e p =
     let test : ltb 0 (min t.coef d) ≡ true = grind (arith, nat_tests) in
     rw test (ap (λ (c : ℕ). let r : Term = record { coef = c; lit = t.lit } in r ∷ []) (sym e))
 
+-- a term of which nothing is left
 pub cut-miss : (d : ℕ) (t : Term) (m : ℕ) → m ≡ min t.coef d → m ≤ 0 → cut d (t ∷ []) ≡ []
 cut-miss d t m e p = let test : ltb 0 (min t.coef d) ≡ false = grind (arith, nat_tests) in rw test refl
 
+-- the slice from a place to the end is what is left there
 pub slice-all : (ts : List Term) (i : ℕ) → take (length ts - i) (drop i ts) ≡ drop i ts
 slice-all ts i = take_all (length ts - i) (drop i ts) (omega (arith, length-drop i ts))
 
+-- two slices to the end, put behind a list
 pub rest-of : (xs ys : List Term) (i j : ℕ) (out first second : List Term) → first ≡ out ++ take (length xs - i) (drop i xs) → second ≡ first ++ take (length ys - j) (drop j ys)
     → second ≡ out ++ (drop i xs ++ drop j ys)
 rest-of xs ys i j out first second a b =

@@ -48,6 +48,7 @@ merged_one t ts h (u ∷ us) =
           ])
     ]
 
+-- what a merge comes to, step by step
 pub merged : (ts us : List Term) → Merged ts us (merge ts us)
 merged [] us = done
 merged (t ∷ ts) us = merged_one t ts (merged ts) us
@@ -120,6 +121,7 @@ merged-total (t ∷ ts) us _ (first s b m) = let ih = merged-total ts us s m in 
 merged-total (t ∷ ts) (u ∷ us) _ (second s l m) = let ih = merged-total (t ∷ ts) us s m in let a = total-cons u us in let c = total-cons u s.terms in omega arith
 merged-total (t ∷ ts) (u ∷ us) _ (both s e m) = let ih = merged-total ts us s m in let a = total-cons t ts in let b = total-cons u us in let c = (joined-one t u s e).sum in omega arith
 
+-- the sum of a merge is at most the two sums
 pub merge-total : (ts us : List Term) → total (merge ts us).terms ≤ total ts + total us
 merge-total ts us = merged-total ts us (merge ts us) (merged ts us)
 
@@ -149,6 +151,7 @@ axiom-normal l =
 pub add-rising : (a b : Linear) → IsNormal a.terms a.degree → IsNormal b.terms b.degree → From 0 (add a b).terms
 add-rising a b p q = merged-rising a.terms b.terms (merge a.terms b.terms) (merged a.terms b.terms) 0 (from-normal a.terms a.degree p) (from-normal b.terms b.degree q)
 
+-- each coefficient of a sum is positive
 pub add-positive : (a b : Linear) → IsNormal a.terms a.degree → IsNormal b.terms b.degree → All (λ (t : Term). 0 < t.coef) (add a b).terms
 add-positive a b p q = merged-positive a.terms b.terms (merge a.terms b.terms) (merged a.terms b.terms) p.positive q.positive
 
@@ -314,12 +317,14 @@ given-normal f g h (l ∷ ls) frame e n =
 pub excess-sum : (c : Linear) → 2 ^ 63 ≤ total c.terms → excess c ≡ Some (total c.terms)
 excess-sum c h = let a : ltb (total c.terms) (2 ^ 63) ≡ false = grind (arith, nat_tests) in rw a refl
 
+-- a degree that is too large is what is in excess,
 pub excess-degree : (c : Linear) → total c.terms < 2 ^ 63 → 2 ^ 63 ≤ c.degree → excess c ≡ Some c.degree
 excess-degree c h k =
     let a : ltb (total c.terms) (2 ^ 63) ≡ true = grind (arith, nat_tests) in
     let b : ltb c.degree (2 ^ 63) ≡ false = grind (arith, nat_tests) in
     rw (a, b) refl
 
+-- and nothing is where neither is too large
 pub excess-none : (c : Linear) → total c.terms < 2 ^ 63 → c.degree < 2 ^ 63 → excess c ≡ None
 excess-none c h k =
     let a : ltb (total c.terms) (2 ^ 63) ≡ true = grind (arith, nat_tests) in

@@ -7,6 +7,7 @@ abbrev pub From : ℕ → List Term → Type 0
 From k [] = Unit {0}
 From k (t ∷ ts) = (k ≤ t.lit.var) × From (t.lit.var + 1) ts
 
+-- terms from a variable on stand from each lower one on
 pub From-weaker : (j k : ℕ) (ts : List Term) → j ≤ k → From k ts → From j ts
 From-weaker j k [] l h = tt
 From-weaker j k (t ∷ ts) l h = let a = h.0 in (omega arith, h.1)
@@ -25,6 +26,7 @@ from-pairs k (t ∷ ts) f zero (suc j) d l m = let a = from-least (t.lit.var + 1
 from-pairs k (t ∷ ts) f (suc i) zero d l m = absurd (omega arith)
 from-pairs k (t ∷ ts) f (suc i) (suc j) d l m = from-pairs (t.lit.var + 1) ts f.1 i j d (omega arith) (omega arith)
 
+-- terms whose variables rise pair by pair stand from the first one on
 pub rising-from : (k : ℕ) (ts : List Term) → ((d : Term) → 0 < length ts → k ≤ (get_or ts 0 d).lit.var)
     → ((i j : ℕ) (d : Term) → i < j → j < length ts → (get_or ts i d).lit.var < (get_or ts j d).lit.var) → From k ts
 rising-from k [] b h = tt

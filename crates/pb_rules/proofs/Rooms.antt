@@ -55,6 +55,7 @@ same_variable ts degree n i j d hi hj e =
       ])
     ]
 
+-- a variable has one term
 pub only_term : (ts : List Term) (degree : ℕ) → IsNormal ts degree → (i : ℕ) (t : Term) → i < length ts → t ≡ get_or ts i t → (j : ℕ) (d : Term) → j < length ts
     → (get_or ts j d).lit.var ≡ t.lit.var → (get_or ts j d).lit ≡ t.lit
 only_term ts degree normal i t h at j d l v =

@@ -10,6 +10,7 @@ use Rattle.pb_rules.specs.CuttingPlanes.{Sum, same_sign, onto, joined, merge_one
 abbrev part : (ℕ → Bool) → Term → ℕ
 part v t = cond (lit_true v t.lit) t.coef 0
 
+-- the true weight with one term more
 pub true_weight-cons : (v : ℕ → Bool) (t : Term) (ts : List Term) → true_weight v (t ∷ ts) ≡ part v t + true_weight v ts
 true_weight-cons v t ts = sum_by-cons (part v) t ts
 
@@ -23,6 +24,7 @@ opposite true false true h = inr (λ k. refl, λ k. refl)
 opposite false false true h = inl (λ k. refl, λ k. refl)
 opposite b false false h = absurd (cc)
 
+-- signs that the test calls the same are
 pub alike : (y z : Bool) → same_sign y z ≡ true → y ≡ z
 alike true true h = refl
 alike true false h = sym h

@@ -116,6 +116,7 @@ module _ (s : SpecValue) (front : FrontValue) (fine : AllFine s front (length fr
 
 -- ---- along the entries
 
+-- a number that isn't 0 is more
 pub some_of : (n : ℕ) → eqb n 0 ≡ false → 0 < n
 some_of zero e = absurd (let c : true ≡ false = e in cc)
 some_of (suc n) e = omega arith

@@ -11,6 +11,7 @@ join_first : (b : ℕ) (ps : List (List ℕ)) → concat (onto_first b ps) ≡ b
 join_first b [] = refl
 join_first b (p ∷ ps) = refl
 
+-- the pieces of a text make the text
 pub pieces_join : (bs : List ℕ) → concat (pieces bs) ≡ bs
 pieces_join [] = ap concat pieces-nil
 pieces_join (b ∷ bs) =
@@ -29,6 +30,7 @@ cut_first b (p ∷ ps) f h =
     let n : position_or_len is_lf (b ∷ p) ≡ suc (position_or_len is_lf p) = rw f (omega arith) in
     (omega (arith, h.0, n), h.1)
 
+-- no piece has an LF before its last byte
 pub pieces_cut : (bs : List ℕ) → AllByRecursion Cut (pieces bs)
 pieces_cut [] = subst (AllByRecursion Cut) (sym pieces-nil) tt
 pieces_cut (b ∷ bs) =

@@ -60,6 +60,7 @@ pub record PieceSays (piece : List ℕ) (l : Line) : Type 0 where
   pub no_empty : list_any is_empty (words_of piece) ≡ false
   pub says : SaysLine (words_of piece) l
 
+-- a piece that is read as a line says it
 pub piece_says : (piece : List ℕ) (l : Line) → line_in piece ≡ Some l → PieceSays piece l
 piece_says piece l e = go (lacks_lf piece) (list_any is_empty (words_of piece)) refl refl e
   where
@@ -73,6 +74,7 @@ said_writable : (ws : Words) (l : Line) → SaysLine ws l → IsWritableLine l
 said_writable ws (derived ops) (says_derived later is e) = (said_texts op_text op_of IsWritable op_text_of later ops e).each
 said_writable ws (cover v) (says_cover later is e) = (numbers_text later v e).each
 
+-- a line that is read can be written
 pub line_writable : (piece : List ℕ) (l : Line) → line_in piece ≡ Some l → IsWritableLine l
 line_writable piece l e = said_writable (words_of piece) l (piece_says piece l e).says
 
@@ -90,6 +92,7 @@ line_of_text piece l h e =
 
 -- ---- pieces that each say a line
 
+-- the pieces that are read as lines make the lines' text
 pub texts_join : (ps : List (List ℕ)) (ls : List Line) → AllByRecursion Cut ps → each_said line_in ps ≡ Some ls → concat ps ≡ flat_map line_text ls
 texts_join [] ls h e = go ls cc
   where
@@ -106,6 +109,7 @@ lines_writable ps ls e = said_each line_in IsWritableLine line_writable ps ls e
 
 -- ---- the text of a line
 
+-- an operation's text is a word
 pub op_named : (op : Op) → IsWritable op → IsWord (op_text op)
 op_named (Id i) h = decimal_word i h
 op_named (Axiom l) h = of_sign l.yes
@@ -172,6 +176,7 @@ pub record IsCutSo (text : List ℕ) (ls : List Line) : Type 0 where
   pub cut : pieces text ≡ header ∷ more
   pub said : each_said line_in more ≡ Some ls
 
+-- a file that is read has a first line and a piece for each line
 pub file_cut : (text : List ℕ) (ls : List Line) → lines_in text ≡ Some ls → IsCutSo text ls
 file_cut text ls e = go (pieces text) refl e
   where
@@ -192,6 +197,7 @@ written ls text e =
       writable = lines_writable x.more ls x.said;
     }
 
+-- lines that can be written are read again
 pub read_again : (ls : List Line) → All IsWritableLine ls → lines_in (proof_text ls) ≡ Some ls
 read_again ls h =
     ap after_header (header_first (flat_map line_text ls))

@@ -74,6 +74,7 @@ no_cover v e = absurd (cc)
 
 -- ---- a cover more
 
+-- a log stays honest with one cover more,
 pub honest_cover : (f : Frame) (ls : List Line) (v : List ℕ) → list_all small_number v ≡ true → AreHonestSolves f ls → AreHonestSolves f (ls ++ cover v ∷ [])
 honest_cover f ls v small h = record { after = with_block f h.after v; legal = given-cover f (base_of f) h.after ls v h.legal small; solves = parts }
   where
@@ -113,6 +114,7 @@ last_cover ls (inr x) some =
     let at : length ls - 1 ≡ length early = omega (arith, len) in
     (v, λ d. ap (λ (n : ℕ). get_or ls n d) at ∙ (ap (λ (ks : List Line). get_or ks (length early) d) x.2 ∙ get_or_push early (cover v) d (length early) refl))
 
+-- and with one solve more
 pub honest_solve : (f : Frame) (ls new : List Line) (b : Given) → AreHonestSolves f ls → EndsASolve ls → given_by f ls ≡ Some b → AreHonestLines f b (f.base ++ blocks_by f ls) new
     → AreHonestSolves f (ls ++ new)
 honest_solve f ls new b h ends_ls legal_ls lines = record { after = lines.after; legal = given-append f (base_of f) b ls new legal_ls ∙ lines.legal; solves = parts }
@@ -164,6 +166,7 @@ honest_solve f ls new b h ends_ls legal_ls lines = record { after = lines.after;
 
 -- ---- no line
 
+-- and an empty one is
 pub begins_honest : (f : Frame) → AreHonestSolves f []
 begins_honest f = record { after = base_of f; legal = refl; solves = λ early solve late g e ends each legal. parts early solve late g e }
   where

@@ -22,6 +22,7 @@ pub record SaysFirst {X : Type 0} (read : List ℕ → Option X) (w : List ℕ) 
   pub others : each_said read ws ≡ Some more
   pub is : first ∷ more ≡ xs
 
+-- what the first word says, and the others
 pub first_said : {X : Type 0} (read : List ℕ → Option X) (w : List ℕ) (ws : List (List ℕ)) (xs : List X) → each_said read (w ∷ ws) ≡ Some xs → SaysFirst read w ws xs
 first_said {X} read w ws xs e = go (read w) (each_said read ws) refl refl e
   where
@@ -30,6 +31,7 @@ first_said {X} read w ws xs e = go (read w) (each_said read ws) refl refl e
     go (Some x) None a b f = absurd cc
     go (Some x) (Some more) a b f = record { first = x; more = more; said = a; others = b; is = cc }
 
+-- words that are read one by one are read together
 pub said_cons : {X : Type 0} (read : List ℕ → Option X) (w : List ℕ) (ws : List (List ℕ)) (x : X) (xs : List X) → read w ≡ Some x → each_said read ws ≡ Some xs
     → each_said read (w ∷ ws) ≡ Some (x ∷ xs)
 said_cons {X} read w ws x xs a b = ap (λ (o : Option X). with_said o (each_said read ws)) a ∙ ap (onto_said x) b
@@ -77,6 +79,7 @@ said_texts {X} write read P one (w ∷ ws) xs e =
 pub op_text_of : (w : List ℕ) (op : Op) → op_of w ≡ Some op → (w ≡ op_text op) × IsWritable op
 op_text_of w op e = let s = says w op e in (sym s.spelling, s.writable)
 
+-- a numeral that is read is the one text of its number
 pub numeral_text : (w : List ℕ) (n : ℕ) → number_of w ≡ Some n → (w ≡ decimal n) × (n < 2 ^ 63)
 numeral_text w n e = go (plain_whole_of w) refl e
   where

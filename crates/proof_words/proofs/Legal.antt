@@ -47,6 +47,7 @@ line_is : (f : Frame) (g h : Given) (l : Line) → Goes f g h l → IsWritableLi
 line_is f g h (derived ops) (by_ops c gives is) = all_are (context_of g) ops [] (c ∷ []) (line_stack (context_of g) ops c gives)
 line_is f g h (cover v) (by_block small is) = numbers_are v small
 
+-- legal lines can be written
 pub lines_are : (f : Frame) (before after : Given) (ls : List Line) → given_from f before ls ≡ Some after → All IsWritableLine ls
 lines_are f before after [] e = All-nil IsWritableLine
 lines_are f before after (l ∷ ls) e =

@@ -18,6 +18,7 @@ use Rattle.proof_words.proofs.Marks.{HasNoMark, op_of-numeral, after_some}
 
 -- ---- printed, and read
 
+-- a decimal number is read as the number
 pub number_of-decimal : (n : ℕ) → n < 2 ^ 63 → number_of (decimal n) ≡ Some n
 number_of-decimal n lt = ap result_ok (plain_whole_of-decimal n lt)
 
@@ -53,6 +54,7 @@ axiom_back n false lt = rw (number_of-decimal n lt) refl
 positive : (n : ℕ) → 0 < n → (n == 0) ≡ false
 positive n lt = ne_eqb n 0 (λ e. omega (arith, lt, e))
 
+-- an operation's text is read as the operation
 pub read_back : (op : Op) → IsWritable op → op_of (op_text op) ≡ Some op
 read_back (Id i) h = op_of-numeral (decimal i) (decimal_unmarked i h) ∙ ap (option_map Id) (number_of-decimal i h)
 read_back (Axiom l) h = axiom_back l.var l.yes h
@@ -161,6 +163,7 @@ at_letter letter b rest op here t e =
     let same = eqb-true b letter t in
     subst (λ (c : ℕ). Says (c ∷ rest) op) (sym same) (here (subst (λ (c : ℕ). op_of (c ∷ rest) ≡ Some op) same e))
 
+-- a word that is read as an operation says it
 pub says : (word : List ℕ) (op : Op) → op_of word ≡ Some op → Says word op
 says [] op e = absurd (let f : none ≡ some op = e in cc)
 says (b ∷ rest) op e =

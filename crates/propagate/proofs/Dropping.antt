@@ -54,5 +54,6 @@ among (c ∷ ids) d = elim (cases_eq c.0 d.0) [
   ]
 ]
 
+-- a constraint that is dropped isn't attached
 pub drops-gone : (ids : List ConId) (old new : List Attached) (d : ConId) → Drops ids old new → Contains ids d → attached_at new d ≡ None
 drops-gone ids old new d p w = All-contains (λ (c : ConId). attached_at new c ≡ None) ids d p.gone w

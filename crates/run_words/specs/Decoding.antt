@@ -13,7 +13,8 @@ decode_table = record { places = codes "tgff" ∷ codes "arch" ∷ codes "geno" 
 abbrev pub decode_usage : Text
 decode_usage = codes "usage: dse decode TGFF ARCH GENO [--budget N] [--proof FILE]\n"
 
--- the names of the file of task graphs and tables, of the architecture file and of the genotype file; how many derived lines the proof may have at most, and the name of the file that it is written to, where these are given
+-- the names of the file of task graphs and tables, of the architecture file and of the genotype file;
+-- how many derived lines the proof may have at most, and the name of the file that it is written to, where these are given
 pub record DecodeValue : Type 0 where
   pub tgff : Text
   pub arch : Text

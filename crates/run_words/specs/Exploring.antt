@@ -18,7 +18,8 @@ explore_usage = codes "usage: dse explore TGFF ARCH --rounds N --seed S [--measu
 abbrev pub most_rounds : ℕ
 most_rounds = 65536
 
--- the names of the file of task graphs and tables and of the architecture file; how many rounds there are, from which number the words are drawn, and the places of the tools that measure; and the name of the file that the proof is written to, where it is given
+-- the names of the file of task graphs and tables and of the architecture file; how many rounds there are, from which number the words are drawn,
+-- and the places of the tools that measure; and the name of the file that the proof is written to, where it is given
 pub record ExploringValue : Type 0 where
   pub tgff : Text
   pub arch : Text

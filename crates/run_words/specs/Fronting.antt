@@ -13,7 +13,8 @@ front_table = record { places = codes "tgff" ∷ codes "arch" ∷ []; options = 
 abbrev pub front_usage : Text
 front_usage = codes "usage: dse front TGFF ARCH --front FILE --proof FILE [--budget N]\n"
 
--- the names of the file of task graphs and tables and of the architecture file; the names of the files that the front and its proof are written to; and how many derived lines the proof may have at most, where it is given
+-- the names of the file of task graphs and tables and of the architecture file; the names of the files that the front and its proof are written to;
+-- and how many derived lines the proof may have at most, where it is given
 pub record FrontingValue : Type 0 where
   pub tgff : Text
   pub arch : Text

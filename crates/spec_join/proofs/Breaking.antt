@@ -81,6 +81,7 @@ first_least s st Cyclic f = record { holds = f.3; least = least_cyclic s st f }
 first_least s st (Limit what) f = record { holds = f.4; least = least_limit s st what f }
 first_least s st _ f = absurd f
 
+-- a statement that is accepted is refused for nothing that has to do with no table
 pub none_plain : (s : Joining) (st : Statement) → IsAccepted s st → (why : Why) → BreaksPlain s st why → ⊥
 none_plain s st a BadStatement h = a.good h
 none_plain s st a UnknownName h = a.known h

@@ -1,4 +1,4 @@
--- The definitions, computed on a small file.
+-- The definitions, computed on a small file, against what was worked out by hand.
 use Rattle.std.proofs.Common.{◌≡◌, ℕ, ◌*◌, ◌^◌, List, [], ◌∷◌, Some, None, true, false, pos, codes, refl}
 use Rattle.spec_model.specs.Spec.{SpecValue, choice}
 use Rattle.spec_graph.specs.Plan.{finished}

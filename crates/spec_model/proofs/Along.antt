@@ -8,9 +8,11 @@ use Rattle.spec_model.specs.Rules.{IsOn, Uses, Walk, WalkBelow, BoundOnce, IsRes
 use Rattle.spec_model.specs.Genotypes.{IsSameDesign}
 use Rattle.spec_model.proofs.Those.{count_by-those_suc}
 
+-- the variable of an arc is a design variable
 pub arc_var-lt : (s : SpecValue) (m a : ℕ) → m < length s.messages → a < length s.arcs → arc_var s m a < design_variables s
 arc_var-lt s m a hm ha = omega (arith, mul-add-lt m (length s.arcs) a (length s.messages) hm ha)
 
+-- designs are the same either way
 pub same_back : (s : SpecValue) (f g : Bits) → IsSameDesign s f g → IsSameDesign s g f
 same_back s f g h v l = sym (h v l)
 
@@ -32,10 +34,12 @@ module _ (s : SpecValue) (f g : Bits) (h : IsSameDesign s f g) where
   pub Uses-along : (m a : ℕ) → m < length s.messages → Uses s f m a → Uses s g m a
   Uses-along m a hm x = record { in_range = x.in_range; bit = sym (h (arc_var s m a) (arc_var-lt s m a hm x.in_range)) ∙ x.bit }
 
+  -- the same design has the same walks,
   pub Walk-along : (m i r : ℕ) → m < length s.messages → Walk s f m r i → Walk s g m r i
   Walk-along m zero r hm w = IsOn-along (sender_of s m) r w
   Walk-along m (suc i) r hm w = (w.0, Uses-along m w.0 hm w.1, w.2, Walk-along m i (arc_at s w.0).tail hm w.3)
 
+  -- the same short walks,
   pub WalkBelow-along : (m r n : ℕ) → m < length s.messages → WalkBelow s f m r n → WalkBelow s g m r n
   WalkBelow-along m r n hm w = (w.0, w.1, Walk-along m w.0 r hm w.2)
 
@@ -68,6 +72,7 @@ module _ (s : SpecValue) (f g : Bits) (h : IsSameDesign s f g) where
   pub no_dangling-along : (m a : ℕ) → m < length s.messages → (Uses s f m a → GoesOnFrom s f m (arc_at s a).head) → Uses s g m a → GoesOnFrom s g m (arc_at s a).head
   no_dangling-along m a hm x u = GoesOnFrom-along s f g h m (arc_at s a).head hm (x (Uses-along s g f (same_back s f g h) m a hm u))
 
+  -- reaches the same receivers,
   pub reached-along : (m w r : ℕ) → m < length s.messages → (IsOn s f w r → (n : ℕ) × Walk s f m r n) → IsOn s g w r → (n : ℕ) × Walk s g m r n
   reached-along m w r hm x on =
       let n = x (IsOn-along s g f (same_back s f g h) w r on) in
@@ -83,6 +88,7 @@ module _ (s : SpecValue) (f g : Bits) (h : IsSameDesign s f g) where
       let e = h (link_var s l) (omega (arith, hl)) in
       (λ b. IsLinkNeeded-along s f g h l (x.0 (e ∙ b)), λ n. sym e ∙ x.1 (IsLinkNeeded-along s g f (same_back s f g h) l n))
 
+  -- is routed where the other one is,
   pub IsRouted-along : IsRouted s f → IsRouted s g
   IsRouted-along x = record {
     bound_once = λ t l. BoundOnce-along s f g h t (x.bound_once t l);
@@ -94,9 +100,11 @@ module _ (s : SpecValue) (f g : Bits) (h : IsSameDesign s f g) where
     link_use = λ r l. link_use-along r l (x.link_use r l);
   }
 
+  -- is valid where it is,
   pub IsValid-along : IsValid s f → IsValid s g
   IsValid-along x = record { routed = IsRouted-along x.routed; reached = λ m w r l member. reached-along m w r l (x.reached m w r l member) }
 
+  -- and leaves the same receivers unreached
   pub IsUnreached-along : (m w : ℕ) → m < length s.messages → IsUnreached s f m w → IsUnreached s g m w
   IsUnreached-along m w hm x = record {
     receiver = x.receiver;

@@ -14,6 +14,7 @@ pub record IsBack (s : SpecValue) (f : Bits) (m to now i : ℕ) : Type 0 where
 along : (s : SpecValue) (f : Bits) (m r i j : ℕ) → i ≡ j → Walk s f m r i → Walk s f m r j
 along s f m r i j e w = subst (λ (n : ℕ). Walk s f m r n) e w
 
+-- a walk is followed back from its end,
 pub IsBack-start : (s : SpecValue) (f : Bits) (m to : ℕ) → IsBack s f m to to 0
 IsBack-start s f m to = record {
   none_shorter = λ n l w. absurd (omega arith);
@@ -21,6 +22,7 @@ IsBack-start s f m to = record {
   whole_of = λ n w. along s f m to n (n + 0) (omega arith) w;
 }
 
+-- and is one where the sender stands there
 pub IsBack-found : (s : SpecValue) (f : Bits) (m to now i n : ℕ) → IsBack s f m to now i → i < n → IsOn s f (sender_of s m) now → WalkBelow s f m to n
 IsBack-found s f m to now i n back l on = (i, l, along s f m to (0 + i) i (omega arith) (back.whole_of 0 on))
 

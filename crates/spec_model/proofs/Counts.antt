@@ -14,9 +14,11 @@ use Rattle.spec_model.proofs.Pieces.{flat-suc}
 abbrev pub bit : Bool → ℕ
 bit b = cond b 1 0
 
+-- the count with one entry more
 pub count-cons : {X : Type 0} (f : X → Bool) (x : X) (xs : List X) → count_by f (x ∷ xs) ≡ cond (f x) 1 0 + count_by f xs
 count-cons f x xs = sum_by-cons (λ y. cond (f y) 1 0) x xs
 
+-- the count of two lists is the sum of both
 pub count-append : {X : Type 0} (f : X → Bool) (xs ys : List X) → count_by f (xs ++ ys) ≡ count_by f xs + count_by f ys
 count-append f xs ys = sum_by-append (λ y. cond (f y) 1 0) xs ys
 
@@ -27,6 +29,7 @@ count-below_suc f n =
     ∙ (count-append f (below n) (n ∷ []) ∙ ap (λ k. count_by f (below n) + k) (count-cons f n [] ∙ omega arith)) in
     subst (λ (k : ℕ). count_by f (below k) ≡ count_by f (below n) + cond (f n) 1 0) (add-one n) at
 
+-- the count of what is made of entries
 pub count-map : {X : Type 0} (f : ℕ → Bool) (g : X → ℕ) (xs : List X) → count_by f (map g xs) ≡ count_by (λ x. f (g x)) xs
 count-map f g [] = refl
 count-map f g (x ∷ xs) = count-cons f (g x) (map g xs) ∙ (ap (λ k. cond (f (g x)) 1 0 + k) (count-map f g xs) ∙ sym (count-cons (λ y. f (g y)) x xs))
@@ -51,10 +54,12 @@ some-step f n false e h before =
     let x = before (omega (arith, rest, h)) in
     (x.0, omega (arith, x.1), x.2)
 
+-- where some are counted, one passes
 pub some_below : (f : ℕ → Bool) (n : ℕ) → 1 ≤ count_by f (below n) → (i : ℕ) × (i < n) × (f i ≡ true)
 some_below f zero h = absurd (omega (arith, h))
 some_below f (suc n) h = some-step f n (f n) refl h (some_below f n)
 
+-- where one passes, some are counted
 pub counted_below : (f : ℕ → Bool) (n i : ℕ) → i < n → f i ≡ true → 1 ≤ count_by f (below n)
 counted_below f zero i h t = absurd (omega arith)
 counted_below f (suc n) i h t =
@@ -101,6 +106,7 @@ count-below_first f (suc n) =
     let e : 1 + n ≡ suc n = omega arith in
     omega (arith, count-below_suc f (suc n), count-below_first f n, count-below_suc (λ t. f (1 + t)) n, ap (λ (k : ℕ). bit (f k)) e)
 
+-- tests that agree count the same
 pub count-agree : {X : Type 0} (f g : X → Bool) (xs : List X) → ((x : X) → f x ≡ g x) → count_by f xs ≡ count_by g xs
 count-agree f g [] h = refl
 count-agree f g (x ∷ xs) h = omega (arith, count-cons f x xs, count-cons g x xs, count-agree f g xs h, ap bit (h x))

@@ -7,6 +7,7 @@ use Rattle.spec_model.specs.Rules.{IsOn, Uses, Walk, sender_of}
 use Rattle.spec_model.specs.Walks.{some_passes, puts, on_test, walk_test}
 use Rattle.spec_model.proofs.Those.{cases_suc}
 
+-- where some number passes, one is found
 pub passes_some : (p : ℕ → Bool) (n : ℕ) → some_passes p n ≡ true → (i : ℕ) × (i < n) × (p i ≡ true)
 passes_some p zero e = absurd (false≢true e)
 passes_some p (suc n) e = at (p n) refl e (passes_some p n)
@@ -15,6 +16,7 @@ passes_some p (suc n) e = at (p n) refl e (passes_some p n)
     at true pn e before = (n, omega arith, pn)
     at false pn e before = let x = before e in (x.0, omega (arith, x.1), x.2)
 
+-- where one passes, some do
 pub some_passes-from : (p : ℕ → Bool) (n i : ℕ) → i < n → p i ≡ true → some_passes p n ≡ true
 some_passes-from p zero i h e = absurd (omega (arith, h))
 some_passes-from p (suc n) i h e =
@@ -38,6 +40,7 @@ pub on_test-from : (s : SpecValue) (f : Bits) (t r : ℕ) → IsOn s f t r → o
 on_test-from s f t r x =
     some_passes-from (puts s f t r) (length s.options) x.choice x.in_range (and_from _ _ x.chosen (and_from _ _ (eq-eqb _ _ x.of_task) (eq-eqb _ _ x.on_resource)))
 
+-- a test of a walk says that there is one,
 pub Walk-from_test : (s : SpecValue) (f : Bits) (m n r : ℕ) → walk_test s f m n r ≡ true → Walk s f m r n
 Walk-from_test s f m zero r e = IsOn-from_test s f (sender_of s m) r e
 Walk-from_test s f m (suc n) r e =
@@ -46,6 +49,7 @@ Walk-from_test s f m (suc n) r e =
     let q = and_parts _ _ p.1 in
     (x.0, record { in_range = x.1; bit = p.0 }, eqb-true _ _ q.0, Walk-from_test s f m n (arc_at s x.0).tail q.1)
 
+-- and says so wherever there is
 pub walk_test-from : (s : SpecValue) (f : Bits) (m n r : ℕ) → Walk s f m r n → walk_test s f m n r ≡ true
 walk_test-from s f m zero r w = on_test-from s f (sender_of s m) r w
 walk_test-from s f m (suc n) r w =

@@ -11,6 +11,7 @@ left_part : {X : Type 0} (P : X → Type 0) (xs ys : List X) → AllByRecursion 
 left_part P [] ys h = tt
 left_part P (x ∷ xs) ys h = (h.0, left_part P xs ys h.1)
 
+-- what holds of all of two lists holds of the first
 pub All-left : {X : Type 0} (P : X → Type 0) (xs ys : List X) → All P (xs ++ ys) → All P xs
 All-left P xs ys h = All-from_recursion P xs (left_part P xs ys (recursion_from_All P (xs ++ ys) h))
 
@@ -24,6 +25,7 @@ range_piece P g (suc n) a (suc i) h l =
     let e : (a + 1) + i ≡ a + suc i = omega arith in
     subst (λ (k : ℕ). All P (g k)) e (range_piece P g n (a + 1) i (All-right P (g a) (flat_map g (range_with_len (a + 1) n)) h) (omega arith))
 
+-- what holds of all that numbers give holds of what each gives,
 pub All-piece : {X : Type 0} (P : X → Type 0) (g : ℕ → List X) (n i : ℕ) → All P (flat_map g (below n)) → i < n → All P (g i)
 All-piece P g n i h l =
     let e : 0 + i ≡ i = omega arith in
@@ -38,6 +40,7 @@ range_pieces P g (suc n) a h =
     All-append P (g a) (flat_map g (range_with_len (a + 1) n)) first (range_pieces P g n (a + 1) (λ i l. let e' : a + suc i ≡ (a + 1) + i = omega arith in
     subst (λ (k : ℕ). All P (g k)) e' (h (suc i) (omega arith))))
 
+-- and the other way round
 pub All-pieces : {X : Type 0} (P : X → Type 0) (g : ℕ → List X) (n : ℕ) → ((i : ℕ) → i < n → All P (g i)) → All P (flat_map g (below n))
 All-pieces P g n h = range_pieces P g n 0 (λ i l. let e : i ≡ 0 + i = omega arith in subst (λ (k : ℕ). All P (g k)) e (h i l))
 
@@ -51,6 +54,7 @@ map_one P g (suc n) a (suc i) h l =
     let e : (a + 1) + i ≡ a + suc i = omega arith in
     subst (λ (k : ℕ). P (g k)) e (map_one P g n (a + 1) i h.1 (omega arith))
 
+-- what holds of all that are made of numbers holds of each,
 pub All-one : {X : Type 0} (P : X → Type 0) (g : ℕ → X) (n i : ℕ) → All P (map g (below n)) → i < n → P (g i)
 All-one P g n i h l =
     let e : 0 + i ≡ i = omega arith in
@@ -62,6 +66,7 @@ map_ones P g (suc n) a h =
     let e : a + 0 ≡ a = omega arith in
     (subst (λ (k : ℕ). P (g k)) e (h 0 (omega arith)), map_ones P g n (a + 1) (λ i l. let e' : a + suc i ≡ (a + 1) + i = omega arith in subst (λ (k : ℕ). P (g k)) e' (h (suc i) (omega arith))))
 
+-- and the other way round
 pub All-ones : {X : Type 0} (P : X → Type 0) (g : ℕ → X) (n : ℕ) → ((i : ℕ) → i < n → P (g i)) → All P (map g (below n))
 All-ones P g n h = All-from_recursion P (map g (below n)) (map_ones P g n 0 (λ i l. let e : i ≡ 0 + i = omega arith in subst (λ (k : ℕ). P (g k)) e (h i l)))
 
@@ -70,9 +75,11 @@ list_pieces : {X Y : Type 0} (P : Y → Type 0) (g : X → List Y) (xs : List X)
 list_pieces P g [] h = tt
 list_pieces P g (x ∷ xs) h = (All-left P (g x) (flat_map g xs) h, list_pieces P g xs (All-right P (g x) (flat_map g xs) h))
 
+-- what holds of all that entries give holds of what each gives,
 pub All-piece_of : {X Y : Type 0} (P : Y → Type 0) (g : X → List Y) (xs : List X) (x : X) → All P (flat_map g xs) → Contains xs x → All P (g x)
 All-piece_of P g xs x h member = All-contains (λ y. All P (g y)) xs x (All-from_recursion (λ y. All P (g y)) xs (list_pieces P g xs h)) member
 
+-- and the other way round
 pub All-pieces_of : {X Y : Type 0} (P : Y → Type 0) (g : X → List Y) (xs : List X) → All (λ x. All P (g x)) xs → All P (flat_map g xs)
 All-pieces_of P g [] h = All-from_recursion P [] tt
 All-pieces_of P g (x ∷ xs) h =
@@ -83,9 +90,11 @@ All-pieces_of P g (x ∷ xs) h =
 pub All-first : {X : Type 0} (P : X → Type 0) (x y : X) → All P (x ∷ (y ∷ [])) → P x
 All-first P x y h = (recursion_from_All P (x ∷ (y ∷ [])) h).0
 
+-- what holds of both of two holds of the second,
 pub All-second : {X : Type 0} (P : X → Type 0) (x y : X) → All P (x ∷ (y ∷ [])) → P y
 All-second P x y h = (recursion_from_All P (x ∷ (y ∷ [])) h).1.0
 
+-- and the other way round
 pub All-two : {X : Type 0} (P : X → Type 0) (x y : X) → P x → P y → All P (x ∷ (y ∷ []))
 All-two P x y h g = All-from_recursion P (x ∷ (y ∷ [])) (h, (g, tt))
 
@@ -94,6 +103,7 @@ map_each : {X Y : Type 0} (P : Y → Type 0) (g : X → Y) (xs : List X) → All
 map_each P g [] h = tt
 map_each P g (x ∷ xs) h = (h.0, map_each P g xs h.1)
 
+-- what holds of all that are made of entries holds of what is made of each
 pub All-of_map : {X Y : Type 0} (P : Y → Type 0) (g : X → Y) (xs : List X) (x : X) → All P (map g xs) → Contains xs x → P (g x)
 All-of_map P g xs x h member = All-contains (λ y. P (g y)) xs x (All-from_recursion (λ y. P (g y)) xs (map_each P g xs (recursion_from_All P (map g xs) h))) member
 

@@ -7,6 +7,7 @@ use Rattle.std.proofs.lemmas.List.Elements.{All-head, All-tail}
 use Rattle.spec_model.specs.Spec.{below, those}
 use Rattle.spec_model.proofs.Those.{those-more, sum_by-below_more, map-below_more}
 
+-- the sum over what is made of entries
 pub sum_by_map : {A B : Type 0} (f : B → ℕ) (g : A → B) (xs : List A) → sum_by f (map g xs) ≡ sum_by (λ x. f (g x)) xs
 sum_by_map f g [] = refl
 sum_by_map f g (x ∷ xs) = sum_by-cons f (g x) (map g xs) ∙ (ap (λ (n : ℕ). f (g x) + n) (sum_by_map f g xs) ∙ sym (sum_by-cons (λ x. f (g x)) x xs))
@@ -30,6 +31,7 @@ length_those p d q xs same (suc n) h = subst (λ (k : ℕ). length (those q k) �
     step false e before =
         ap length (those-more q n ∙ ap (λ (b : Bool). those q n ++ cond b (n ∷ []) []) (same n ∙ e)) ∙ (length-append (those q n) [] ∙ omega (arith, before, count_by_more_no p xs n d h e))
 
+-- as many places pass as entries
 pub count_those : {A : Type 0} (p : A → Bool) (d : A) (q : ℕ → Bool) (xs : List A) → ((i : ℕ) → q i ≡ p (get_or xs i d)) → length (those q (length xs)) ≡ count_by p xs
 count_those {A = A} p d q xs same = length_those p d q xs same (length xs) (omega arith) ∙ ap (count_by p) (take_all (length xs) xs (omega arith))
 

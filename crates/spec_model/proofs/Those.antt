@@ -16,18 +16,17 @@ range-more (suc n) a =
     let e : (a + 1) + n ≡ a + suc n = omega arith in
     ap (λ (xs : List ℕ). a ∷ xs) (range-more n (a + 1) ∙ ap (λ (x : ℕ). range_with_len (a + 1) n ++ x ∷ []) e)
 
+-- one number more stands behind the others
 pub below-more : (n : ℕ) → below (n + 1) ≡ below n ++ n ∷ []
 below-more n =
     let e : 0 + n ≡ n = omega arith in
     rw add-one (range-more n 0 ∙ ap (λ (x : ℕ). range_with_len 0 n ++ x ∷ []) e)
 
+-- and passes or doesn't
 pub those-more : (p : ℕ → Bool) (n : ℕ) → those p (n + 1) ≡ those p n ++ cond (p n) (n ∷ []) []
 those-more p n = ap (filter p) (below-more n) ∙ filter-append p (below n) (n ∷ [])
 
--- no more of those than there are numbers
-pub few_those : (p : ℕ → Bool) (n : ℕ) → length (those p n) ≤ n
-few_those p n = omega (arith, length-filter p (below n), count_by-le-length p (below n), length-range_with_len 0 n)
-
+-- the sum over those that pass, with one number more
 pub sum_by-those_more : (f : ℕ → ℕ) (p : ℕ → Bool) (n : ℕ) → sum_by f (those p (n + 1)) ≡ sum_by f (those p n) + cond (p n) (f n) 0
 sum_by-those_more f p n = ap (sum_by f) (those-more p n) ∙ (sum_by-append f (those p n) (cond (p n) (n ∷ []) []) ∙ ap (λ x. sum_by f (those p n) + x) (one (p n)))
   where
@@ -46,6 +45,7 @@ count_by-those_more f p n = sum_by-those_more (λ x. cond (f x) 1 0) p n
 pub count_by-those_suc : (f p : ℕ → Bool) (n : ℕ) → count_by f (those p (suc n)) ≡ count_by f (those p n) + cond (p n) (cond (f n) 1 0) 0
 count_by-those_suc f p n = subst (λ (k : ℕ). count_by f (those p k) ≡ count_by f (those p n) + cond (p n) (cond (f n) 1 0) 0) (add-one n) (count_by-those_more f p n)
 
+-- what one number more gives stands behind what the others give
 pub flat_map-below_more : {A : Type 0} (g : ℕ → List A) (n : ℕ) → flat_map g (below (n + 1)) ≡ flat_map g (below n) ++ g n
 flat_map-below_more g n = ap (flat_map g) (below-more n) ∙ (flat_map-append g (below n) (n ∷ []) ∙ ap (λ xs. flat_map g (below n) ++ xs) (append-nil (g n)))
 
@@ -66,6 +66,7 @@ family_more g n start now next e h = h ∙ (ap (λ zs. zs ++ g n) e ∙ (append_
 -- the steps of a loop over the numbers below n
 pub ruleset those_steps = (count_by-those_more, sum_by-those_more, those-more, below-more, flat_map-below_more, those-more_yes, those-more_no, family_more)
 
+-- what is made of one number more stands behind the others
 pub map-below_more : {A : Type 0} (g : ℕ → A) (n : ℕ) → map g (below (n + 1)) ≡ map g (below n) ++ g n ∷ []
 map-below_more g n = ap (map g) (below-more n) ∙ map-append g (below n) (n ∷ [])
 

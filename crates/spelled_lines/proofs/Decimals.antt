@@ -16,5 +16,6 @@ digit_bytes : (w : List ℕ) → list_all is_ascii_digit w ≡ true → list_all
 digit_bytes [] h = refl
 digit_bytes (b ∷ w) h = let p = and_parts (is_ascii_digit b) (list_all is_ascii_digit w) h in rw (digit_word_byte b p.0) (digit_bytes w p.1)
 
+-- a decimal number is a word
 pub decimal_word : (n : ℕ) → n < 2 ^ 63 → IsWord (decimal n)
 decimal_word n lt = record { some = decimal_nonempty n (omega (arith, lt)); bytes = digit_bytes (decimal n) (digits_decimal own n (omega (arith, lt))) }

@@ -9,14 +9,17 @@ use Rattle.line_words.specs.Front.{is_lf}
 use Rattle.line_words.proofs.Ascii.{IsAscii-part}
 use Rattle.spelled_lines.specs.Lines.{pieces, is_bad}
 
+-- no bytes have no pieces
 pub pieces-nil : pieces [] ≡ []
 unfolding pieces
 pieces-nil = refl
 
+-- an LF in front is a piece
 pub pieces-end : (b : ℕ) (bs : List ℕ) → is_lf b ≡ true → pieces (b ∷ bs) ≡ (b ∷ []) ∷ pieces bs
 unfolding pieces
 pieces-end b bs e = rw e refl
 
+-- another byte in front belongs to the first piece
 pub pieces-byte : (b : ℕ) (bs : List ℕ) → is_lf b ≡ false → pieces (b ∷ bs) ≡ onto_first b (pieces bs)
 unfolding pieces
 pieces-byte b bs e = rw e refl

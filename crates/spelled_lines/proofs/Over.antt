@@ -102,6 +102,7 @@ whole_from rules Kept k (suc fuel) (b ∷ bs) number done text all le h e =
           absurd (k.ended done bytes lacks step.0)
     ]
 
+-- a run without a refusal has kept what its rules keep, over all bytes
 pub whole : (rules : Rules) (Kept : List Statement → List ℕ → Type 0) → IsKept rules Kept → (bytes : List ℕ) (all : List Statement) → run rules 1 [] (pieces bytes) ≡ Ok all
     → IsWhole rules Kept all bytes
 whole rules Kept k bytes all e = whole_from rules Kept k (length bytes) bytes 1 [] [] all (omega arith) k.start e

@@ -59,6 +59,7 @@ split_join w (x ∷ ws) h =
     slice_split_at is_space w 32 (join_with_byte 32 (x ∷ ws)) (All-from_recursion (λ b. is_space b ≡ false) w (no_spaces w h.0.bytes)) refl
     ∙ ap (λ (r : Words). w ∷ r) (split_join x ws h.1)
 
+-- no word is empty
 pub none_empty : (ws : Words) → AreWords ws → list_any is_empty ws ≡ false
 none_empty [] h = refl
 none_empty (w ∷ ws) h = ap (λ (b : Bool). b || list_any is_empty ws) (some_byte w h.0.some) ∙ none_empty ws h.1
@@ -97,6 +98,7 @@ pub record IsSpelled (ws : Words) : Type 0 where
   pub ended : lacks_lf (spelled ws) ≡ false
   pub words : words_of (spelled ws) ≡ ws
 
+-- words are spelled as a line that has them
 pub spelled_is : (w : List ℕ) (ws : Words) → AreWords (w ∷ ws) → IsSpelled (w ∷ ws)
 spelled_is w ws h =
     let l = join_with_byte 32 (w ∷ ws) in

@@ -45,6 +45,7 @@ led_push rows set next ms ws w o s e b = (to, from)
     from : Leads ms (ws ++ w ∷ []) b → is_in next b ≡ true
     from l = e b ∙ from_cases l.start (Contains-push_cases ws w l.start l.among) l.reaches
 
+-- the rows of one receiver more are gathered
 pub led_more : (rows : List (List Bool)) (set next : List Bool) (ms : List Message) (ws : List ℕ) (i w : ℕ) → i < length ws → w ≡ get_or ws i w → IsOrderOf rows ms → IsLed set ms (take i ws)
     → ((b : ℕ) → is_in next b ≡ is_gathered rows set w b) → IsLed next ms (take (i + 1) ws)
 led_more rows set next ms ws i w l ew o s e =

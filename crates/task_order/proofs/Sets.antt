@@ -43,5 +43,6 @@ pub record Joining (old : List (List Bool)) (sender : ℕ) (after : List Bool) (
         ∙ (ap (λ (r : List Bool). is_in r b) (get_or-set_same now i row [] within)
         ∙ (er b ∙ ap (λ (r : List Bool). is_in r b || (((i == sender) || is_in r sender) && is_in after b)) old_row))
 
+-- numbers that the test calls the same are
 pub same_from : (x y : ℕ) → (x == y) ≡ true → x ≡ y
 same_from x y e = elim (eqb_tells x y) [ inl h ↦ h.1 | inr h ↦ absurd (false≢true (sym h.0 ∙ e)) ]

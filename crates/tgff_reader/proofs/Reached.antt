@@ -53,6 +53,7 @@ tells_none a b = (
   λ x. elim (reaches_cases [] a b x) [ inl e ↦ eq-eqb b a (sym e) | inr f ↦ absurd (omega (arith, f.chain.1.there.1)) ],
 )
 
+-- an entry of one is that one
 pub among_one : (x y : ℕ) → Contains (x ∷ []) y → x ≡ y
 among_one x y c = let z : c.0 ≡ 0 = omega (arith, c.1) in subst (λ (i : ℕ). get_or (x ∷ []) i y ≡ y) z c.2
 

@@ -87,6 +87,7 @@ none-take es j x h = go (value_in (take j es) x) refl
     go None q = q
     go (Some b) q = (let s = GoesOn-take es j x b q in absurd (cc))
 
+-- a variable without a value had none before
 pub none-below : (es : List Entry) (j k x : ℕ) → j ≤ k → value_in (take k es) x ≡ None → value_in (take j es) x ≡ None
 none-below es j k x l h = ap (λ (fs : List Entry). value_in fs x) (sym (take-take j k es l)) ∙ none-take (take k es) j x h
 

@@ -6,15 +6,19 @@ use Rattle.std.proofs.lemmas.List.Sums.{sum_by-cons, sum_by_push, count_by-le-le
 use Rattle.pb_constraints.specs.declared.ConId.{ConId}
 use Rattle.trail_state.specs.Trail.{Entry, is_decision, value_in, reason_in, level_of, level_in, upto_level, reasoned, with_reason}
 
+-- the level with one entry more in front
 pub level-cons : (e : Entry) (es : List Entry) → level_of (e ∷ es) ≡ cond (is_decision e) 1 0 + level_of es
 level-cons e es = sum_by-cons (λ (f : Entry). cond (is_decision f) 1 0) e es
 
+-- and with one more at the end
 pub level-push : (es : List Entry) (e : Entry) → level_of (es ++ e ∷ []) ≡ level_of es + cond (is_decision e) 1 0
 level-push es e = sum_by_push (λ (f : Entry). cond (is_decision f) 1 0) es e
 
+-- the level of one entry more of a trail
 pub level-more : (es : List Entry) (p : ℕ) (d : Entry) → p < length es → level_of (take (p + 1) es) ≡ level_of (take p es) + cond (is_decision (get_or es p d)) 1 0
 level-more es p d h = rw (take_more es p d h) (level-push (take p es) (get_or es p d))
 
+-- the level at a place is at most that at the end
 pub level-part : (es : List Entry) (p : ℕ) → level_of (take p es) ≤ level_of es
 level-part [] zero = omega arith
 level-part [] (suc p) = omega arith
@@ -24,6 +28,7 @@ level-part (e ∷ es) (suc p) =
     let b = level-cons e (take p es) in
     let ih = level-part es p in omega arith
 
+-- there are at most as many levels as entries
 pub level_of-le : (es : List Entry) → level_of es ≤ length es
 level_of-le es = count_by-le-length is_decision es
 
@@ -36,6 +41,7 @@ pub record IsAt (es : List Entry) (x k : ℕ) (d : Entry) : Type 0 where
 none-not-some : (o : Option Bool) (b : Bool) → o ≡ Some b → o ≡ None → ⊥
 none-not-some o b h n = cc
 
+-- an entry whose variable had no value before is the one that gave it
 pub first-at : (es : List Entry) (x k : ℕ) (d : Entry) → k < length es → (get_or es k d).lit.var ≡ x → value_in (take k es) x ≡ None → IsAt es x k d
 first-at [] x k d h e n = absurd (omega arith)
 first-at (f ∷ es) x zero d h e n =
@@ -207,6 +213,7 @@ splits-cons n m f es a ih = record {
   decided = ih.decided;
 }
 
+-- what stands above a level that isn't the last begins with a decision
 pub upto_level-splits : (n : ℕ) (es : List Entry) → n < level_of es → Splits n es
 upto_level-splits n [] h = absurd (omega arith)
 upto_level-splits zero (f ∷ es) h = go (is_decision f) refl (λ l. upto_level-splits zero es l)

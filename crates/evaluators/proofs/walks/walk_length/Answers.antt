@@ -1,8 +1,8 @@
 use Rattle.std.proofs.Common.{ℕ, ◌∙◌, sym, subst, arith}
+use Rattle.std.proofs.lemmas.Bool.{eqb-true, eqb-false}
 use Rattle.spec_model.specs.Spec.{bits_of}
 use Rattle.spec_model.specs.Rules.{IsOn, sender_of}
 use Rattle.spec_model.proofs.Once.{IsOn-elsewhere}
-use Rattle.std.proofs.lemmas.Bool.{eqb-true, eqb-false}
 use Rattle.spec_model.proofs.Back.{IsBack-start, IsBack-step}
 use Rattle.evaluators.proofs.Walking.{walk_length-found, walk_length-none, walk_length-far}
 use Rattle.evaluators.proofs.walks.walk_length.Goals as goal
