@@ -139,8 +139,11 @@ unfolding map_form
 map_named [] h = tt
 map_named (task ∷ []) h = tt
 map_named (task ∷ resource ∷ ws) h =
-    elim (cases_Bool (are_keyed ws)) [ inl t ↦ rw t (said (statements.Map task resource (time_in ws) (amounts (after_time ws)).items) (h.0, (h.1.0, tt))
-    (time_small ws, amounts_small (after_time ws))) | inr f ↦ rw f tt ]
+    elim (cases_Bool (are_keyed ws)) [
+      | inl t ↦ rw t (said (statements.Map task resource (time_in ws) (amounts (after_time ws)).items) (h.0, (h.1.0, tt))
+          (time_small ws, amounts_small (after_time ws)))
+      | inr f ↦ rw f tt
+    ]
 
 said_table : (name index resource : List ℕ) (ws : Words) → AreWords (name ∷ resource ∷ []) → IsSaid (statements.Table name (whole_in index) resource (columns equals (keys_in ws)).items
     (columns at_sign (after_keys ws)).items)

@@ -89,7 +89,3 @@ at_scale scale amount = units_in amount / unit_at scale
 -- what is cut off there, in units
 abbrev pub fraction_at : ℕ → ℤ → ℕ
 fraction_at scale amount = units_in amount % unit_at scale
-
--- the greatest weight, time, delay or quantity
-abbrev pub greatest : ℕ
-greatest = 2 ^ 40

@@ -5,6 +5,7 @@ ghost use Rattle.line_words.specs.Text.{lines};
 ghost use Rattle.line_words.specs.Refused.{fault_at};
 ghost use Rattle.line_words.specs.Rules.{first_broken, said};
 ghost use Rattle.line_words.specs.Reads.{Reads, Agrees, Stops};
+ghost use Rattle.line_words.specs.Limits.{most_file_bytes};
 ghost use Rattle.line_words.specs.declared.refusals.FileTag.TheVariants.{Arch};
 ghost use Rattle.line_words.specs.declared.refusals.Why.TheVariants.{NoHeader};
 ghost use Rattle.arch_reader.specs.Shapes.{plain, form_of};
@@ -180,7 +181,7 @@ fn read_all(alloc: Global, mut lines: Lines) -> Result<ArchFile, ReadFault>
 /// for the lowest rule broken there. What needs the tables, or the names of tasks and messages,
 /// isn't tested here.
 pub fn read_arch(alloc: Global, bytes: &[u8]) -> Result<ArchFile, ReadFault>
-    requires { length bytes.now ≤ 16777216 }
+    requires { length bytes.now ≤ most_file_bytes }
     ensures reads { Reads Arch arch_rules lines_in stated (lines bytes.now) result }
     ensures end_line { IfOk result (λ file. file.end_line ≡ 1 + length (lines bytes.now)) }
 {

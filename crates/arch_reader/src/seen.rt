@@ -1,11 +1,8 @@
 //! What the statements so far declare.
 
 ghost use Rattle.std.specs.Prelude.{◌≡◌, [], OnOk};
-ghost use Rattle.std.specs.Option.{option_map};
 ghost use Rattle.arch_reader.specs.Seen.{scale_or_0, seen, after};
-ghost use Rattle.arch_reader.specs.Tests.{objective_called};
 
-use crate::rules::objective_called;
 use crate::statement::Statement;
 use file_bricks::{Items, Text, text_of};
 use std::alloc::{AllocError, Global};
@@ -83,12 +80,5 @@ impl Seen {
             }
             _ => Ok(()),
         }
-    }
-
-    /// The objective with a name.
-    pub fn objective(&self, name: &str) -> Option<&Objective>
-        ensures { option_map (λ o. o.now) result ≡ objective_called self.now.objectives name.now }
-    {
-        objective_called(self.objectives.list(), name)
     }
 }

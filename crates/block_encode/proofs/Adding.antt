@@ -26,9 +26,9 @@ unfolding weights_of
 all_small s j wf =
     let k : ℕ = length s.objectives in
     All-append IsSmall (map (weight_in s.option_weights j) (below (length s.options)) ++ flat_map (arc_weights s j) (below (length s.messages))
-        ++ map (weight_in s.resource_weights j) (below (length s.resources))) (map (weight_in s.link_weights j) (below (length s.links)))
+    ++ map (weight_in s.resource_weights j) (below (length s.resources))) (map (weight_in s.link_weights j) (below (length s.links)))
     (All-append IsSmall (map (weight_in s.option_weights j) (below (length s.options)) ++ flat_map (arc_weights s j) (below (length s.messages)))
-        (map (weight_in s.resource_weights j) (below (length s.resources)))
+    (map (weight_in s.resource_weights j) (below (length s.resources)))
     (All-append IsSmall (map (weight_in s.option_weights j) (below (length s.options))) (flat_map (arc_weights s j) (below (length s.messages)))
     (All-ones IsSmall (weight_in s.option_weights j) (length s.options) (λ i l. weight_in_small k (length s.options) s.option_weights j i wf.plan.option_rows))
     (All-pieces IsSmall (arc_weights s j) (length s.messages) (λ m hm. All-ones IsSmall (arc_weight s j m) (length s.arcs) (λ a ha. arc_weight_small s j m a wf hm ha))))
@@ -79,7 +79,7 @@ unused-more_some s j n w t ts now h e l k p =
     let is : has_weight (weight s j) n ≡ true = lt-ltb 0 (weight s j n) (omega (arith, e, l)) in
     let term : t ≡ weighted (weight s j) false n = k ∙ ap (λ (c : ℕ). make c) e in
     p ∙ (ap (λ (us : List Term). us ++ t ∷ []) h ∙ (ap (λ (u : Term). unused_below s j n ++ u ∷ []) term
-        ∙ sym (unused-more s j n ∙ ap (λ (b : Bool). unused_below s j n ++ map (weighted (weight s j) false) (cond b (n ∷ []) [])) is)))
+    ∙ sym (unused-more s j n ∙ ap (λ (b : Bool). unused_below s j n ++ map (weighted (weight s j) false) (cond b (n ∷ []) [])) is)))
   where
     make : ℕ → Term
     make c = record { coef = c; lit = record { var = n; yes = false } }
@@ -109,7 +109,7 @@ unfolding below_place
 place-more s b j n v c cs now h e k p =
     let one : c ≡ below_place s b v j = e ∙ ap (below_number s b j) k in
     p ∙ (ap (λ (ds : List Linear). ds ++ c ∷ []) h ∙ (ap (λ (d : Linear). below_somewhere s b ∷ (map (below_place s b v) (below j) ++ d ∷ [])) one
-        ∙ ap (λ (ds : List Linear). below_somewhere s b ∷ ds) (sym (map-below_more (below_place s b v) j))))
+    ∙ ap (λ (ds : List Linear). below_somewhere s b ∷ ds) (sym (map-below_more (below_place s b v) j))))
 
 pub place-all : (s : SpecValue) (b n : ℕ) (v : List ℕ) (cs : List Linear) → cs ≡ below_somewhere s b ∷ map (below_place s b v) (below n) → n ≡ length v → cs ≡ block_of s b v
 unfolding block_of

@@ -25,9 +25,11 @@ use Rattle.block_encode.proofs.Adding.{weight-small, total-small}
 own_within : (s : SpecValue) (b a n : ℕ) → TermsWithin (2 ^ 40) (below_var s b a) (below_var s b (a + n)) (map (is_below s b) (range_with_len a n))
 unfolding is_below
 own_within s b a zero = omega arith
-own_within s b a (suc n) =
-    (literal_from (below_var s b a) (below_var s b a) true (omega arith), terms_wider (2 ^ 40) (2 ^ 40) (below_var s b (a + 1)) (below_var s b ((a + 1) + n)) (below_var s b a + 1)
-        (below_var s b (a + suc n)) (map (is_below s b) (range_with_len (a + 1) n)) (omega arith) (omega arith) (omega arith) (own_within s b (a + 1) n))
+own_within s b a (suc n) = (
+  literal_from (below_var s b a) (below_var s b a) true (omega arith),
+  terms_wider (2 ^ 40) (2 ^ 40) (below_var s b (a + 1)) (below_var s b ((a + 1) + n)) (below_var s b a + 1)
+      (below_var s b (a + suc n)) (map (is_below s b) (range_with_len (a + 1) n)) (omega arith) (omega arith) (omega arith) (own_within s b (a + 1) n),
+)
 
 own_total : (s : SpecValue) (b a n : ℕ) → total (map (is_below s b) (range_with_len a n)) ≡ n
 unfolding is_below
@@ -64,15 +66,18 @@ some_of_sum g p (suc n) =
 unused_total : (s : SpecValue) (j : ℕ) → total (unused_terms s j) ≤ total_weight s j
 unfolding weighted total_weight
 unused_total s j =
-    omega (arith, sum_by_map (λ (t : Term). t.coef) (weighted (weight s j) false) (those (has_weight (weight s j)) (design_variables s)),
-        some_of_sum (weight s j) (has_weight (weight s j)) (design_variables s))
+    omega (
+      arith,
+      sum_by_map (λ (t : Term). t.coef) (weighted (weight s j) false) (those (has_weight (weight s j)) (design_variables s)),
+      some_of_sum (weight s j) (has_weight (weight s j)) (design_variables s),
+    )
 
 number_within : (s : SpecValue) (b j n : ℕ) → IsWellFormed s → TermsWithin (2 ^ 60 + 1) 0 (below_var s b j + 1) (unused_terms s j ++ not_below s b j n ∷ [])
 unfolding all_variables
 number_within s b j n wf =
     terms_then (2 ^ 60 + 1) 0 (design_variables s) (unused_terms s j) (not_below s b j n)
     (terms_wider (2 ^ 40) (2 ^ 60 + 1) 0 (design_variables s) 0 (design_variables s) (unused_terms s j) (omega arith) (omega arith) (omega arith)
-        (weights_rise (weight s j) false (design_variables s) (λ x. weight-small s j x wf)))
+    (weights_rise (weight s j) false (design_variables s) (λ x. weight-small s j x wf)))
     (record { from = omega arith; some = omega arith; small = omega (arith, total-small s j wf) })
 
 pub number_normal : (s : SpecValue) (b j n g : ℕ) (ts : List Term) → IsWellFormed s → g ≡ gap s j n → ts ≡ unused_terms s j ++ not_below s b j n ∷ [] → IsNormal ts g
@@ -94,7 +99,7 @@ block_normal s b v wf =
     (subst (λ (c : Linear). IsNormal c.terms c.degree) (sym (somewhere_is s b)) (somewhere_normal s b (map (is_below s b) (below (length s.objectives))) wf refl))
     (All-ones (λ (c : Linear). IsNormal c.terms c.degree) (below_place s b v) (length v)
     (λ j l. subst (λ (c : Linear). IsNormal c.terms c.degree) (sym (number_is s b j (slice_index v j) wf))
-        (number_normal s b j (slice_index v j) (gap s j (slice_index v j)) (unused_terms s j ++ not_below s b j (slice_index v j) ∷ []) wf refl refl)))
+    (number_normal s b j (slice_index v j) (gap s j (slice_index v j)) (unused_terms s j ++ not_below s b j (slice_index v j) ∷ []) wf refl refl)))
 
 -- the variables of the block
 abbrev IsUpTo : ℕ → Term → Type 0
@@ -103,8 +108,12 @@ IsUpTo n t = t.lit.var < n
 own_up_to : (s : SpecValue) (b n : ℕ) → below_var s b (0 + length s.objectives) ≤ n → All (IsUpTo n) (below_somewhere s b).terms
 own_up_to s b n l =
     let k : ℕ = length s.objectives in
-    at_least-each (IsUpTo n) 1 (map (is_below s b) (below k)) (λ i d h. omega (arith, l, below_within (2 ^ 40) (below_var s b 0) (below_var s b (0 + k)) (map (is_below s b) (below k))
-        (own_within s b 0 k) i d h))
+    at_least-each (IsUpTo n) 1 (map (is_below s b) (below k)) (λ i d h. omega (
+      arith,
+      l,
+      below_within (2 ^ 40) (below_var s b 0) (below_var s b (0 + k)) (map (is_below s b) (below k))
+          (own_within s b 0 k) i d h,
+    ))
 
 number_up_to : (s : SpecValue) (b j m n : ℕ) → below_var s b j + 1 ≤ n → All (IsUpTo n) (below_number s b j m).terms
 unfolding weighted all_variables
@@ -112,7 +121,7 @@ number_up_to s b j m n l =
     at_least-each (IsUpTo n) (gap s j m) (unused_terms s j ++ not_below s b j m ∷ [])
     (All-append (IsUpTo n) (unused_terms s j) (not_below s b j m ∷ [])
     (All-map (IsUpTo n) (weighted (weight s j) false) (those (has_weight (weight s j)) (design_variables s))
-        (All-those (λ (x : ℕ). x < n) (has_weight (weight s j)) (design_variables s) (λ x h e. omega (arith, l, h))))
+    (All-those (λ (x : ℕ). x < n) (has_weight (weight s j)) (design_variables s) (λ x h e. omega (arith, l, h))))
     (All-from_recursion (IsUpTo n) (not_below s b j m ∷ []) (omega (arith, l), tt)))
 
 -- one block more

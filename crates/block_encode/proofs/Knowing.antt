@@ -49,7 +49,7 @@ own_known s b j v l =
     let x : ℕ = below_var s b j in
     let e : 0 + j ≡ j = omega arith in
     let has : HasVariable x (map (is_below s b) (below (length s.objectives))) = subst (λ (k : ℕ). HasVariable (below_var s b k) (map (is_below s b) (below (length s.objectives)))) e
-        (in_map (is_below s b) (length s.objectives) 0 j l) in
+    (in_map (is_below s b) (length s.objectives) 0 j l) in
     ap (λ (t : Bool). cond t true (any_mentions (map (below_place s b v) (below (length v))) x)) (at_least-mentions x 1 (map (is_below s b) (below (length s.objectives))) has)
 
 -- one block more
@@ -84,11 +84,11 @@ blocks_known s (cover v ∷ ls) b cs h known =
     let block : List Linear = block_of s (b + 1) v in
     subst (λ (n : ℕ). KnowsBelow (cs ++ (block ++ blocks_from (cover_frame s) (b + 1) ls)) (variables_to s n)) e
     (subst (λ (ds : List Linear). KnowsBelow ds (variables_to s ((b + 1) + covers_in ls))) (append_assoc cs block (blocks_from (cover_frame s) (b + 1) ls))
-        (blocks_known s ls (b + 1) (cs ++ block) (All-tail (HasNumbers (length s.objectives)) (cover v) ls h) (block_known s b v cs one known)))
+    (blocks_known s ls (b + 1) (cs ++ block) (All-tail (HasNumbers (length s.objectives)) (cover v) ls h) (block_known s b v cs one known)))
 
 pub frames_know : FramesKnow
 frames_know s ls wf h =
     let e : all_variables s ≡ variables_to s 0 = omega arith in
     let count : 0 + covers_in ls ≡ covers_in ls = omega arith in
     subst (λ (n : ℕ). KnowsBelow (encoding s ++ blocks_by (cover_frame s) ls) (variables_to s n)) count
-        (blocks_known s ls 0 (encoding s) h (subst (λ (n : ℕ). KnowsBelow (encoding s) n) e (encoding_known s wf)))
+    (blocks_known s ls 0 (encoding s) h (subst (λ (n : ℕ). KnowsBelow (encoding s) n) e (encoding_known s wf)))

@@ -47,15 +47,22 @@ one_variable s f j x = at (cases_lt 0 (weight s j x))
     at (inr l) =
         let no_weight : weight s j x ≡ 0 = omega (arith, l) in
         subst (λ (b : Bool). true_weight f (map (weighted (weight s j) false) (cond b (x ∷ []) [])) + weight_if_true s f j x ≡ weight s j x) (sym (le-ltb 0 (weight s j x) l))
-            (omega (arith, no_weight, none (f x) (weight s j x) no_weight))
+        (omega (arith, no_weight, none (f x) (weight s j x) no_weight))
 
 -- the weights that a design leaves unused and its own are all weights
 unused_and_used : (s : SpecValue) (f : Bits) (j n : ℕ) → true_weight f (unused_below s j n) + sum_by (weight_if_true s f j) (below n) ≡ sum_by (weight s j) (below n)
 unused_and_used s f j zero = refl
 unused_and_used s f j (suc n) =
     subst (λ (k : ℕ). true_weight f (unused_below s j k) + sum_by (weight_if_true s f j) (below k) ≡ sum_by (weight s j) (below k)) (add-one n)
-    (omega (arith, ap (true_weight f) (unused-more s j n), sum_by-append (counts f) (unused_below s j n) (map (weighted (weight s j) false) (cond (has_weight (weight s j) n) (n ∷ []) [])),
-        sum_by-below_more (weight_if_true s f j) n, sum_by-below_more (weight s j) n, one_variable s f j n, unused_and_used s f j n))
+    (omega (
+      arith,
+      ap (true_weight f) (unused-more s j n),
+      sum_by-append (counts f) (unused_below s j n) (map (weighted (weight s j) false) (cond (has_weight (weight s j) n) (n ∷ []) [])),
+      sum_by-below_more (weight_if_true s f j) n,
+      sum_by-below_more (weight s j) n,
+      one_variable s f j n,
+      unused_and_used s f j n,
+    ))
 
 used : (s : SpecValue) (f : Bits) (j : ℕ) → true_weight f (unused_terms s j) + vector_at s f j ≡ total_weight s j
 unfolding vector_at total_weight
@@ -121,7 +128,7 @@ module _ (s : SpecValue) (b : ℕ) (v : List ℕ) (f : Bits) (long : length v �
   at_own j l =
       let place : below_var s b j - start ≡ j = omega arith in
       ap (λ (t : Bool). cond t (f (below_var s b j)) (cond (ltb (below_var s b j - start) (length s.objectives)) (is_less (below_var s b j - start)) (f (below_var s b j))))
-          (le-ltb (below_var s b j) start (omega arith))
+      (le-ltb (below_var s b j) start (omega arith))
       ∙ (ap (λ (i : ℕ). cond (ltb i (length s.objectives)) (is_less i) (f (below_var s b j))) place ∙ ap (λ (t : Bool). cond t (is_less j) (f (below_var s b j))) (lt-ltb j (length s.objectives) l))
 
   elsewhere : AgreeOutside s b extended f
@@ -132,7 +139,7 @@ module _ (s : SpecValue) (b : ℕ) (v : List ℕ) (f : Bits) (long : length v �
       at (inr l) (inl k) = absurd (h (x - start) k (omega (arith, l)))
       at (inr l) (inr k) =
           ap (λ (t : Bool). cond t (f x) (cond (ltb (x - start) (length s.objectives)) (is_less (x - start)) (f x))) (le-ltb x start l)
-              ∙ ap (λ (t : Bool). cond t (is_less (x - start)) (f x)) (le-ltb (x - start) (length s.objectives) k)
+          ∙ ap (λ (t : Bool). cond t (is_less (x - start)) (f x)) (le-ltb (x - start) (length s.objectives) k)
 
   -- no number below: covered
   covered_of_none : count_by is_less (below (length s.objectives)) ≡ 0 → IsAtMost v (vector_of s f)
@@ -158,13 +165,16 @@ module _ (s : SpecValue) (b : ℕ) (v : List ℕ) (f : Bits) (long : length v �
   place_holds within j l =
       let there : j < length s.objectives = omega (arith, l, long) in
       true_of_below s extended b j (slice_index v j) (within j l) (λ e. (let less = ltb-true (vector_at s f j) (slice_index v j) (sym (at_own j there) ∙ e) in
-          omega (arith, less, same_number s extended f (same_design s b extended f elsewhere) j)))
+      omega (arith, less, same_number s extended f (same_design s b extended f elsewhere) j)))
 
   somewhere_holds : ¬ IsAtMost v (vector_of s f) → Holds extended (below_somewhere s b)
   somewhere_holds h =
       let x = some_below is_less (length s.objectives) (some_less h) in
-      at_least-holds extended 1 (map (is_below s b) (below (length s.objectives))) (omega (arith, somewhere_weight s extended b,
-          counted_below (own_bit s extended b) (length s.objectives) x.0 x.1 (at_own x.0 x.1 ∙ x.2)))
+      at_least-holds extended 1 (map (is_below s b) (below (length s.objectives))) (omega (
+        arith,
+        somewhere_weight s extended b,
+        counted_below (own_bit s extended b) (length s.objectives) x.0 x.1 (at_own x.0 x.1 ∙ x.2),
+      ))
 
   pub extends : IsWithinWeights s v → ¬ IsAtMost v (vector_of s f) → Extends s b v f
   unfolding block_of

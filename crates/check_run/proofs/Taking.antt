@@ -81,8 +81,6 @@ pub fault_on : (T : Type 0) (old now next : ProofLines) (bytes rest body after :
 fault_on T old now next bytes rest body after (lines.Refused r) cut takes follows = refused_on old now bytes rest body after r cut takes follows
 fault_on T old now next bytes rest body after lines.NoMemory cut takes follows = tt
 
-}
-
 -- ---- the end
 
 pub ends_empty : (reader : ProofLines) → reader.held.items ≡ [] → left_to reader [] ≡ reader.checker.progress
@@ -95,10 +93,8 @@ ends_line reader some clean =
 
 pub refused_verdict : (p : Progress) (r : Refused) → p.refused ≡ Some r → verdict_of p ≡ verdicts.Refused r
 refused_verdict p r e = ap (verdict_if p) e
+  -- ---- the file
 
--- ---- the file
-
-}
   where
     none_found : (files : Option Files) → IfSome files (λ all. [] ≡ take 0 (content all name))
     none_found None = tt

@@ -54,19 +54,19 @@ weakened context a done (t ∷ ts) k d st b f n =
     let le = f.0 in
     let oc = open-cons a t ts in
     go (is_false a t.lit) (open_weight a (t ∷ ts)) oc (weakened context a (done ++ t ∷ []) ts (t.lit.var + 1) d st (Below-push k (t.lit.var + 1) done t (omega arith) (omega arith) b) f.1 n.1)
-        (weakened context a done ts (t.lit.var + 1) d st (Below-weaker k (t.lit.var + 1) done (omega arith) b) f.1 n.1)
+    (weakened context a done ts (t.lit.var + 1) d st (Below-weaker k (t.lit.var + 1) done (omega arith) b) f.1 n.1)
   where
     go : (o : Bool) (w : ℕ) → w ≡ cond o 0 t.coef + open_weight a ts →
         apply_all context (weakenings a ts) (record { terms = (done ++ t ∷ []) ++ ts; degree = d + open_weight a ts } ∷ st)
-            ≡ Ok (record { terms = (done ++ t ∷ []) ++ false_terms a ts; degree = d } ∷ st) →
+        ≡ Ok (record { terms = (done ++ t ∷ []) ++ false_terms a ts; degree = d } ∷ st) →
         apply_all context (weakenings a ts) (record { terms = done ++ ts; degree = d + open_weight a ts } ∷ st) ≡ Ok (record { terms = done ++ false_terms a ts; degree = d } ∷ st) →
         apply_all context (cond o (weakenings a ts) (Weaken t.lit.var ∷ weakenings a ts)) (record { terms = done ++ t ∷ ts; degree = d + w } ∷ st)
-            ≡ Ok (record { terms = done ++ cond o (t ∷ false_terms a ts) (false_terms a ts); degree = d } ∷ st)
+        ≡ Ok (record { terms = done ++ cond o (t ∷ false_terms a ts) (false_terms a ts); degree = d } ∷ st)
     go true w e kept gone =
         let P : List Term → List Linear = λ us. record { terms = us; degree = d + open_weight a ts } ∷ st in
         let Q : List Term → Result (List Linear) Fault = λ us. Ok (record { terms = us; degree = d } ∷ st) in
         let R : ℕ → Type 0 = λ m. apply_all context (weakenings a ts) (record { terms = done ++ t ∷ ts; degree = d + m } ∷ st)
-            ≡ Ok (record { terms = done ++ t ∷ false_terms a ts; degree = d } ∷ st) in
+        ≡ Ok (record { terms = done ++ t ∷ false_terms a ts; degree = d } ∷ st) in
         let e' : open_weight a ts ≡ w = omega arith in
         subst R e' (ap (λ us. apply_all context (weakenings a ts) (P us)) (sym (append_assoc done (t ∷ []) ts)) ∙ kept ∙ ap Q (append_assoc done (t ∷ []) (false_terms a ts)))
     go false w e kept gone =
@@ -75,7 +75,7 @@ weakened context a done (t ∷ ts) k d st b f n =
         let R : List Term → ℕ → List Linear = λ us m. record { terms = us; degree = m } ∷ st in
         let num : d + w - coef_of t.lit.var (done ++ t ∷ ts) ≡ d + open_weight a ts = rw x.1 (omega arith) in
         rw (known.0, known.1) (ap (λ us. apply_all context (weakenings a ts) (R us (d + w - coef_of t.lit.var (done ++ t ∷ ts)))) x.0
-            ∙ ap (λ m. apply_all context (weakenings a ts) (R (done ++ ts) m)) num ∙ gone)
+        ∙ ap (λ m. apply_all context (weakenings a ts) (R (done ++ ts) m)) num ∙ gone)
 
 -- what is left of a constraint, finished
 finished : (context : Context) (d : ℕ) (ts us : List Term) (st : List Linear) → 0 < d → d < 2 ^ 63 → Positive ts → map (divided d) (cut d ts) ≡ us

@@ -35,7 +35,7 @@ usable-terms live n c u normal = Terms-of n (constraint_of live c).terms (constr
 pub learning-start : (live : List Live) (es : List Entry) (n : ℕ) (c : ConId) → n < 2 ^ 62 → IsUsable live n c → IsNormal (constraint_of live c).terms (constraint_of live c).degree
     → InConflict (value_in es) (constraint_of live c) → (0 < level_of es → HasCurrent es (constraint_of live c).terms) →
     Learning live es n (length es) (false_signs (value_in es) (constraint_of live c).terms) (currents n 0 es (false_signs (value_in es) (constraint_of live c).terms))
-        (clause_ops (proof_id_of live c) (value_in es) (constraint_of live c))
+    (clause_ops (proof_id_of live c) (value_in es) (constraint_of live c))
 learning-start live es n c few u normal conflict current =
     let k : Linear = constraint_of live c in
     let a : ℕ → Option Bool = value_in es in
@@ -135,7 +135,7 @@ learning-resolve live es n p d f h count ops r b small lt distinct forced normal
   derives = λ context knows has. (
       let u = forced.usable in
       let made = making_gives context n (proof_id_of live r) (flipped a lit) k (clause_of n f ∷ []) knows (has r u.live_there) (omega arith) terms normal.small_degree
-          (forced-flip a k lit forced.forces) in
+      (forced-flip a k lit forced.forces) in
       let res = resolving_gives context n f g [] small one in
       let same : clause_of n (λ x. resolved (f x) (g x)) ≡ clause_of n h = ap (clause_of n) (fun_ext resolvent_is) in
       apply_all-append context ops (clause_ops (proof_id_of live r) (flipped a lit) k ++ Add ∷ Saturate ∷ []) [] (clause_of n f ∷ []) (l.derives context knows has)
@@ -147,8 +147,11 @@ learning-resolve live es n p d f h count ops r b small lt distinct forced normal
   ];
   false_before = λ y c q. elim (cases_eq y x) [
     | inl e ↦ absurd (let z = is.here in let q' : h x ≡ Some c = ap h (sym e) ∙ q in cc)
-    | inr ne ↦ (elim (either-cases (f y) (g0 y) c (sym (is.other y ne) ∙ q)) [ inl s ↦ sym (meets.same y ne) ∙ l.false_before y c s | inr s ↦
-        (signs-false a k.terms n (forced.usable).in_range y c s).0 ])
+    | inr ne ↦ (elim (either-cases (f y) (g0 y) c (sym (is.other y ne) ∙ q)) [
+      | inl s ↦ sym (meets.same y ne) ∙ l.false_before y c s
+      | inr s ↦
+          (signs-false a k.terms n (forced.usable).in_range y c s).0
+    ])
   ];
   propagated = λ q closed falsified. (
       let too : FalseToo a q k.terms = signs-too a q 0 k.terms terms.from (λ y c s. falsified y c (has_second y c s)) in
@@ -225,7 +228,7 @@ learning-resolve live es n p d f h count ops r b small lt distinct forced normal
         let hit : eqb x x ≡ true = grind (arith, nat_tests) in
         let f-is : flipped (value_in (take p es)) (get_or es p d).lit x ≡ Some (not (get_or es p d).lit.yes) = rw hit refl in
         let z : is_false (flipped (value_in (take p es)) (get_or es p d).lit) (get_or es p d).lit ≡ true =
-            falsifies-not (flipped (value_in (take p es)) (get_or es p d).lit x) (get_or es p d).lit.yes f-is in
+        falsifies-not (flipped (value_in (take p es)) (get_or es p d).lit x) (get_or es p d).lit.yes f-is in
         subst Q at (signs-at (flipped (value_in (take p es)) (get_or es p d).lit) 0 (constraint_of live r).terms i t terms.from (fs.there).1 (subst P (sym at) z))
 
     f-here : f x ≡ Some (not (get_or es p d).lit.yes)

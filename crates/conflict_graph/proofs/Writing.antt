@@ -89,15 +89,12 @@ explain-end a c id room most i old now last ts e l x p =
     p ∙ ap (λ os. os ++ finishing (c.degree - room) most) w ∙ ap (λ os. ((old ++ Id id ∷ []) ++ weakenings a c.terms) ++ os) same
     ∙ append_assoc (old ++ Id id ∷ []) (weakenings a c.terms) tail ∙ append_assoc old (Id id ∷ []) (weakenings a c.terms ++ tail)
 
-]
 
-]
   where
     nothing : (o : Option Bool) → o ≡ either o None
     nothing None = refl
     nothing (Some b) = refl
 
-]
   where
     nothing : (o : Option Bool) → o ≡ either o None
     nothing None = refl

@@ -127,14 +127,14 @@ close_more old ts us olds ss used place to s t h u e es ec ed ep part-is below b
     let pushed : live_from us 0 (take used ss ++ Some t ∷ []) ≡ front ++ live_in us used t ∷ [] = live_from-push us 0 (take used ss) t used count-is in
     let moved : live_in us used t ≡ live_in ts used s = same_live part-is ed ep in
     let back : live_from us (place + 1) (drop (place + 1) ss) ≡ live_from ts (place + 1) (drop (place + 1) ss) =
-        live_behind ts us (place + 1) (s.start + s.count) (length ts) (drop (place + 1) ss) follows.1 behind in
+    live_behind ts us (place + 1) (s.start + s.count) (length ts) (drop (place + 1) ss) follows.1 behind in
     let B = renumbered (used + 1) (live_from ts (place + 1) (drop (place + 1) ss)) in
     let first : live_from us 0 (take (used + 1) (set ss used (Some t))) ≡ live_from ts 0 (take used ss) ++ live_in ts used s ∷ [] = ap (live_from us 0) now ∙ pushed
-        ∙ ap (λ (x : Live). front ++ x ∷ []) moved ∙ ap (λ (xs : List Live). xs ++ live_in ts used s ∷ []) front-is in
+    ∙ ap (λ (x : Live). front ++ x ∷ []) moved ∙ ap (λ (xs : List Live). xs ++ live_in ts used s ∷ []) front-is in
     let second : renumbered (used + 1) (live_from us (place + 1) (drop (place + 1) (set ss used (Some t)))) ≡ B =
-        ap (λ (xs : List (Option Span)). renumbered (used + 1) (live_from us (place + 1) xs)) later ∙ ap (renumbered (used + 1)) back in
+    ap (λ (xs : List (Option Span)). renumbered (used + 1) (live_from us (place + 1) xs)) later ∙ ap (renumbered (used + 1)) back in
     ap2 first second ∙ append_assoc (live_from ts 0 (take used ss)) (live_in ts used s ∷ []) B ∙ sym
-        (ap (λ (xs : List (Option Span)). live_from ts 0 (take used ss) ++ renumbered used (live_from ts place xs)) open-rest) ∙ ih
+    (ap (λ (xs : List (Option Span)). live_from ts 0 (take used ss) ++ renumbered used (live_from ts place xs)) open-rest) ∙ ih
   where
     ap2 : {a b c d : List Live} → a ≡ b → c ≡ d → a ++ c ≡ b ++ d
     ap2 {a} {b} {c} {d} p q = ap (λ (xs : List Live). xs ++ c) p ∙ ap (λ (xs : List Live). b ++ xs) q
@@ -187,7 +187,7 @@ added_live ts more us ss qs s c k f eu eq es ec et ed ek =
     let terms : part us s ≡ c.terms = ap (take s.count) rest ∙ take_all s.count more (omega (arith, ec)) ∙ et in
     let last : live_in us k s ≡ record { id = record { 0 = k }; constraint = c; proof_id = s.proof_id } = ap (λ (xs : List Term). make xs s.degree) terms ∙ ap (λ (n : ℕ). make c.terms n) ed in
     ap (live_from us 0) eq ∙ live_from-push us 0 ss s k (omega (arith, ek)) ∙ ap (λ (xs : List Live). xs ++ live_in us k s ∷ []) (live_below ts us 0 0 (length ts) ss f front)
-        ∙ ap (λ (x : Live). live_from ts 0 ss ++ x ∷ []) last
+    ∙ ap (λ (x : Live). live_from ts 0 ss ++ x ∷ []) last
   where
     make : List Term → ℕ → Live
     make xs n = record { id = record { 0 = k }; constraint = record { terms = xs; degree = n }; proof_id = s.proof_id }
@@ -235,7 +235,7 @@ closed_live old ts us olds ss rs used place end h f live eu er =
     let front : take end us ≡ take end ts = ap (take end) eu ∙ take-take end end ts (omega arith) in
     let none : renumbered used (live_from ts place (drop place ss)) ≡ [] = ap (λ (xs : List (Option Span)). renumbered used (live_from ts place xs)) (drop_all place ss h) in
     ap (live_from us 0) er ∙ live_below ts us 0 0 end (take used ss) f front ∙ sym (append-nil (live_from ts 0 (take used ss)))
-        ∙ sym (ap (λ (xs : List Live). live_from ts 0 (take used ss) ++ xs) none) ∙ live
+    ∙ sym (ap (λ (xs : List Live). live_from ts 0 (take used ss) ++ xs) none) ∙ live
 
 -- a part that was read ends within
 pub read_within : (from to : ℕ) (ss : List (Option Span)) (i : ℕ) (o : Option Span) (s : Span) → i < length ss → o ≡ get_or ss i o → o ≡ Some s → Follow from to (drop i ss) → (from ≤ s.start)
@@ -259,4 +259,4 @@ pub close_rest : (ss : List (Option Span)) (used place end to more : ℕ) (s t :
 close_rest ss used place end to more s t u h e f =
     let later : drop (place + 1) (set ss used (Some t)) ≡ drop (place + 1) ss = drop-set-lt (place + 1) ss used (Some t) (omega arith) in
     subst (Follow (end + s.count) more) (sym later) (subst (λ (m : ℕ). Follow (end + s.count) m (drop (place + 1) ss)) e
-        (follow_earlier (s.start + s.count) (end + s.count) to (drop (place + 1) ss) (omega arith) f))
+    (follow_earlier (s.start + s.count) (end + s.count) to (drop (place + 1) ss) (omega arith) f))

@@ -21,7 +21,7 @@ lookup-push_here : (test : List ℕ → Bool) (files : Files) (name bytes : List
 lookup-push_here test [] name bytes = λ e is. rw is refl
 lookup-push_here test (f ∷ fs) name bytes =
     let go : (b : Bool) → cond b (Some f.1) (lookup test fs) ≡ None → test name ≡ true → cond b (Some f.1) (lookup test (fs ++ (name, bytes) ∷ [])) ≡ Some bytes =
-        elim [ true ↦ λ e is. cc | false ↦ λ e is. lookup-push_here test fs name bytes e is ] in
+    elim [ true ↦ λ e is. cc | false ↦ λ e is. lookup-push_here test fs name bytes e is ] in
     go (test f.0)
 
 lookup-push_other : (test : List ℕ → Bool) (files : Files) (name bytes : List ℕ) → test name ≡ false → lookup test (files ++ (name, bytes) ∷ []) ≡ lookup test files

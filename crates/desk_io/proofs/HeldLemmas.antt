@@ -22,7 +22,7 @@ absent_from : (name : List ℕ) (k : ℕ) (held : List HeldFile) → position_fr
 absent_from name k [] = λ e. refl
 absent_from name k (f ∷ fs) =
     let go : (b : Bool) → cond b (Some k) (position_from (has_name name) (k + 1) fs) ≡ None → cond b (Some f.1.items) (file_at (entries fs) name) ≡ None =
-        elim [ true ↦ λ e. cc | false ↦ λ e. absent_from name (k + 1) fs e ] in
+    elim [ true ↦ λ e. cc | false ↦ λ e. absent_from name (k + 1) fs e ] in
     go (has_name name f)
 
 pub absent : (held : List HeldFile) (name : List ℕ) → None ≡ position (has_name name) held → file_at (entries held) name ≡ None
@@ -33,7 +33,7 @@ placeless_from : (name : List ℕ) (k : ℕ) (held : List HeldFile) → file_at 
 placeless_from name k [] = λ e. refl
 placeless_from name k (f ∷ fs) =
     let go : (b : Bool) → cond b (Some f.1.items) (file_at (entries fs) name) ≡ None → cond b (Some k) (position_from (has_name name) (k + 1) fs) ≡ None =
-        elim [ true ↦ λ e. cc | false ↦ λ e. placeless_from name (k + 1) fs e ] in
+    elim [ true ↦ λ e. cc | false ↦ λ e. placeless_from name (k + 1) fs e ] in
     go (has_name name f)
 
 placeless : (held : List HeldFile) (name : List ℕ) → file_at (entries held) name ≡ None → position (has_name name) held ≡ None

@@ -49,8 +49,12 @@ one_more i bs ws h k = ap₂ weighted (drop_more bs i 0 h) (drop_more ws i 0 k)
 -- the sum of a part is within the whole
 pub part_bound : (i n : ℕ) (bs ws : List ℕ) → All (λ b. b ≤ 1) bs → weighted (chunk i n bs) (chunk i n ws) ≤ sum ws
 part_bound i n bs ws all =
-    omega (arith, weighted_bound (chunk i n bs) (chunk i n ws) (All-take (λ b. b ≤ 1) n (drop i bs) (All-drop (λ b. b ≤ 1) i bs all)), sum_by-take-drop (λ x. x) (drop i ws) n,
-    sum_by-take-drop (λ x. x) ws i)
+    omega (
+      arith,
+      weighted_bound (chunk i n bs) (chunk i n ws) (All-take (λ b. b ≤ 1) n (drop i bs) (All-drop (λ b. b ≤ 1) i bs all)),
+      sum_by-take-drop (λ x. x) (drop i ws) n,
+      sum_by-take-drop (λ x. x) ws i,
+    )
 
 pub group_fits : (i : ℕ) (bs ws : List ℕ) → All (λ b. b ≤ 1) bs → ((k : ℕ) → Fits w64 (get_or ws k 0)) → Each2 (λ a b. Fits w64 (a * b)) (map (λ x. x) (chunk i 8 bs)) (chunk i 8 ws)
 group_fits i bs ws all fit = products_fit (chunk i 8 bs) (chunk i 8 ws) (All-take (λ b. b ≤ 1) 8 (drop i bs) (All-drop (λ b. b ≤ 1) i bs all)) (chunk-fits w64 i 8 ws fit)

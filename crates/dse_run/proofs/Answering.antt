@@ -37,8 +37,6 @@ answered asked tools calls files now_files names inputs tried reply names_is loa
 
 -- ---- what is left
 
-})
-
 -- ---- usage
 
 not_usage : (e : Ending) → status_of e ≡ Usage → ⊥

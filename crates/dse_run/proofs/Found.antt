@@ -37,7 +37,7 @@ finds back wanted s genes Budget log outcome h ending text writes = inr (inr (re
   few = h.lines.few;
   says = text ∙ said wanted.budget h.lines.most h.lines.given;
   proof = written wanted.proof log outcome.writes _ writes (of_lines back (LinesUseUp s h.lines.most) (cover_frame s) log.lines (h.lines.lines.honest.honest.after, h.lines.lines.honest.honest.legal)
-  h.lines.lines);
+      h.lines.lines);
 }))
   where
     said : (budget : Option ℕ) (n : ℕ) → budget ≡ Some n → answer_text s budget Budget ≡ answer_text s (Some n) Budget

@@ -4,6 +4,7 @@ ghost use Rattle.std.specs.Prelude.{◌≡◌, ◌⊎◌, ◌≤◌, ◌-◌, �
 ghost use Rattle.desk_io.specs.Causes.{HasCause};
 ghost use Rattle.run_words.specs.Fit.{IsFit};
 ghost use Rattle.run_words.specs.Values.{request_value};
+ghost use Rattle.run_words.specs.Exploring.{most_rounds};
 ghost use Rattle.run_base.specs.Worlds.{World, AreLoaded, names_value};
 ghost use Rattle.check_run.specs.Calls.{NoneFailed};
 ghost use Rattle.dse_run.specs.Commands.{ComesTo, KeepsTools, MayCall, names_of};
@@ -69,7 +70,7 @@ pub(crate) fn answer<D: Desk>(
     tools: &mut Vec<Box<dyn Evaluator>>,
 ) -> Result<Result<Outcome, ReadFault>, DeskError>
     requires fit { IsFit (vec_len tools.old) (request_value request.now) }
-    requires room { All (λ n. n ≤ 2 ^ 63 - 65536) (map calls tools.old.items) }
+    requires room { All (λ n. n ≤ 2 ^ 63 - most_rounds) (map calls tools.old.items) }
     ensures comes { IfOk result (λ tried. (world : World) → AreLoaded inputs.now world → ComesTo (request_value request.now) (record { tags = map text tools.old.items; calls = map calls tools.old.items; values = λ s f. map (λ t. value t s f) tools.old.items }) (map calls tools.new.items) (D.files desk.old) world tried) }
     ensures kept { KeepsTools (Some (request_value request.now)) (record { tags = map text tools.old.items; calls = map calls tools.old.items; values = λ s f. map (λ t. value t s f) tools.old.items }) (record { tags = map text tools.new.items; calls = map calls tools.new.items; values = λ s f. map (λ t. value t s f) tools.new.items }) }
     ensures files { D.files desk.new ≡ D.files desk.old }

@@ -74,8 +74,15 @@ module _ (s : SpecValue) (f : Bits) (parts : HasParts s) (walked : (m : ℕ) →
       let cs = map (cover_of s r) (messages_of s) in
       let v = resource_var s r in
       let all = holds-at_least f 1 (positives os ++ negative v ∷ positives cs) h in
-      let sum : 1 ≤ count_by f os + count_by f cs = omega (arith, all, true_weight-append f (positives os) (negative v ∷ positives cs), true_weight-cons f (negative v) (positives cs),
-          weight-positives f os, weight-positives f cs, not_bit (f v) al) in
+      let sum : 1 ≤ count_by f os + count_by f cs = omega (
+        arith,
+        all,
+        true_weight-append f (positives os) (negative v ∷ positives cs),
+        true_weight-cons f (negative v) (positives cs),
+        weight-positives f os,
+        weight-positives f cs,
+        not_bit (f v) al,
+      ) in
       elim (cases_lt 0 (count_by f os)) [
         | inl l ↦ option_of_use r (omega (arith, l))
         | inr l ↦ cover_of_use r hr (omega (arith, l, sum))
@@ -89,7 +96,7 @@ module _ (s : SpecValue) (f : Bits) (parts : HasParts s) (walked : (m : ℕ) →
   resource_of_needed h has_walk r hr (inr x) =
       let t = x.touched in
       then_if f (covered_var s x.message r) (resource_var s r) (h.covers x.message r x.in_range hr) (covered_of_touch x.message r t.arc x.in_range t.used
-          (has_walk x.message t.arc x.in_range t.used) t.at_end)
+      (has_walk x.message t.arc x.in_range t.used) t.at_end)
 
   pub needed_of_link : (l : ℕ) → Holds f (link_has_use s l) → f (link_var s l) ≡ true → IsLinkNeeded s f l
   unfolding link_has_use link_arcs of_link
@@ -123,8 +130,14 @@ module _ (s : SpecValue) (f : Bits) (parts : HasParts s) (walked : (m : ℕ) →
       let os = options_on s r in
       let cs = map (cover_of s r) (messages_of s) in
       let v = resource_var s r in
-      at_least-holds f 1 (positives os ++ negative v ∷ positives cs) (omega (arith, sum (f v) refl, true_weight-append f (positives os) (negative v ∷ positives cs),
-          true_weight-cons f (negative v) (positives cs), weight-positives f os, weight-positives f cs))
+      at_least-holds f 1 (positives os ++ negative v ∷ positives cs) (omega (
+        arith,
+        sum (f v) refl,
+        true_weight-append f (positives os) (negative v ∷ positives cs),
+        true_weight-cons f (negative v) (positives cs),
+        weight-positives f os,
+        weight-positives f cs,
+      ))
     where
       sum : (b : Bool) → f (resource_var s r) ≡ b → 1 ≤ count_by f (options_on s r) + count_by f (map (cover_of s r) (messages_of s)) + cond (not b) 1 0
       sum true e = omega (arith, use_of_needed r hr routed.has_walk ((routed.resource_use r hr).0 e))
@@ -133,8 +146,13 @@ module _ (s : SpecValue) (f : Bits) (parts : HasParts s) (walked : (m : ℕ) →
   link_use_holds : IsRouted s f → (l : ℕ) → l < length s.links → Holds f (link_has_use s l)
   unfolding link_has_use link_arcs of_link
   link_use_holds routed l hl =
-      at_least-holds f 1 (positives us ++ negative (link_var s l) ∷ []) (omega (arith, sum (f (link_var s l)) refl, true_weight-append f (positives us) (negative (link_var s l) ∷ []),
-          true_weight-cons f (negative (link_var s l)) [], weight-positives f us))
+      at_least-holds f 1 (positives us ++ negative (link_var s l) ∷ []) (omega (
+        arith,
+        sum (f (link_var s l)) refl,
+        true_weight-append f (positives us) (negative (link_var s l) ∷ []),
+        true_weight-cons f (negative (link_var s l)) [],
+        weight-positives f us,
+      ))
     where
       us : List ℕ
       us = flat_map (link_arcs s l) (messages_of s)

@@ -83,8 +83,19 @@ module _ (s : SpecValue) (f : Bits) (m : ℕ) where
       let c = covered_var s m r in
       let one = holds-at_least f ((message_at s m).limit + 1) (negatives xs ++ positive c ∷ []) (All-first (Holds f) _ _ h) in
       let some = holds-at_least f 1 (positives xs ++ negative c ∷ []) (All-second (Holds f) _ _ h) in
-      omega (arith, one, some, true_weight-append f (negatives xs) (positive c ∷ []), true_weight-append f (positives xs) (negative c ∷ []), weight-positives f xs, weight-negatives f xs,
-          length_steps s m r 0, true_weight-cons f (positive c) [], true_weight-cons f (negative c) [], both_bits (f c))
+      omega (
+        arith,
+        one,
+        some,
+        true_weight-append f (negatives xs) (positive c ∷ []),
+        true_weight-append f (positives xs) (negative c ∷ []),
+        weight-positives f xs,
+        weight-negatives f xs,
+        length_steps s m r 0,
+        true_weight-cons f (positive c) [],
+        true_weight-cons f (negative c) [],
+        both_bits (f c),
+      )
 
   -- one arc in
   into_is : (r : ℕ) → All (Holds f) (one_arc_in s m r) → uses_into s f m r ≡ steps_true s f m r 1
@@ -94,8 +105,20 @@ module _ (s : SpecValue) (f : Bits) (m : ℕ) where
       let us = arc_vars s m (arcs_into s r) in
       let one = holds-at_least f (message_at s m).limit (positives us ++ negatives xs) (All-first (Holds f) _ _ h) in
       let some = holds-at_least f (length (arcs_into s r)) (negatives us ++ positives xs) (All-second (Holds f) _ _ h) in
-      omega (arith, one, some, true_weight-append f (positives us) (negatives xs), true_weight-append f (negatives us) (positives xs), weight-positives f xs, weight-negatives f xs,
-          weight-positives f us, weight-negatives f us, length_steps s m r 1, length-map (arcs_into s r) (arc_var s m), count-map f (arc_var s m) (arcs_into s r))
+      omega (
+        arith,
+        one,
+        some,
+        true_weight-append f (positives us) (negatives xs),
+        true_weight-append f (negatives us) (positives xs),
+        weight-positives f xs,
+        weight-negatives f xs,
+        weight-positives f us,
+        weight-negatives f us,
+        length_steps s m r 1,
+        length-map (arcs_into s r) (arc_var s m),
+        count-map f (arc_var s m) (arcs_into s r),
+      )
 
   -- arcs carry steps
   carry_is : (a t : ℕ) → All (Holds f) (arc_carries s m a) → t < (message_at s m).limit → f (arc_var s m a) ≡ true → f (step_var s m (arc_at s a).tail t) ≡ true
@@ -103,7 +126,7 @@ module _ (s : SpecValue) (f : Bits) (m : ℕ) where
   unfolding carries
   carry_is a t h l u w =
       if_both_then f (arc_var s m a) (step_var s m (arc_at s a).tail t) (step_var s m (arc_at s a).head (t + 1))
-          (All-one (Holds f) (carries s m a) (message_at s m).limit t (All-left (Holds f) (map (carries s m a) (below (message_at s m).limit)) _ h) l) u w
+      (All-one (Holds f) (carries s m a) (message_at s m).limit t (All-left (Holds f) (map (carries s m a) (below (message_at s m).limit)) _ h) l) u w
 
   tail_is_covered : (a : ℕ) → All (Holds f) (arc_carries s m a) → f (arc_var s m a) ≡ true → f (covered_var s m (arc_at s a).tail) ≡ true
   tail_is_covered a h u =
@@ -124,8 +147,15 @@ module _ (s : SpecValue) (f : Bits) (m : ℕ) where
       let all = holds-at_least f 1 (positives ros ++ positives us ++ positive h0 ∷ (negative cv ∷ [])) (recursion_from_All (Holds f) (no_dangling s m r) h).0 in
       let covered : true_weight f (negative cv ∷ []) ≡ 0 = true_weight-cons f (negative cv) [] ∙ ap (λ (b : Bool). cond (not b) 1 0 + true_weight f []) c in
       let not_start : true_weight f (positive h0 ∷ (negative cv ∷ [])) ≡ 0 = omega (arith, covered, true_weight-cons f (positive h0) (negative cv ∷ []), ap bit (false_from_ne_true (f h0) start)) in
-      let sum : 1 ≤ count_by f us + count_by f ros = omega (arith, all, true_weight-append f (positives ros ++ positives us) (positive h0 ∷ (negative cv ∷ [])),
-          true_weight-append f (positives ros) (positives us), weight-positives f us, weight-positives f ros, not_start) in
+      let sum : 1 ≤ count_by f us + count_by f ros = omega (
+        arith,
+        all,
+        true_weight-append f (positives ros ++ positives us) (positive h0 ∷ (negative cv ∷ [])),
+        true_weight-append f (positives ros) (positives us),
+        weight-positives f us,
+        weight-positives f ros,
+        not_start,
+      ) in
       elim (cases_lt 0 (count_by f us)) [
         | inl l ↦
             let x = some_those (λ a. f (arc_var s m a)) (leaves s r) (length s.arcs) (omega (arith, l, count-map f (arc_var s m) (arcs_from s r))) in

@@ -68,7 +68,7 @@ module _ (s : SpecValue) (f : Bits) where
   route_model : (m : ℕ) → All (Holds f) (flat_map (sender_start s m) (resources_of s)) → All (Holds f) (routes_of s m) → IsRouteModel s f m
   route_model m starts routes =
       let parts = five (Holds f) (flat_map (covered_once s m) (resources_of s)) (flat_map (one_arc_in s m) (resources_of s)) (flat_map (arc_carries s m) (below (length s.arcs)))
-          (flat_map (steps_have_cause s m) (resources_of s)) (flat_map (no_dangling s m) (resources_of s)) routes in
+      (flat_map (steps_have_cause s m) (resources_of s)) (flat_map (no_dangling s m) (resources_of s)) routes in
       record {
         starts = λ r h. All-piece (Holds f) (sender_start s m) (length s.resources) r starts h;
         covers = λ r h. All-piece (Holds f) (covered_once s m) (length s.resources) r parts.first h;
@@ -84,7 +84,7 @@ module _ (s : SpecValue) (f : Bits) where
   routes_hold : (m : ℕ) → IsRouteModel s f m → All (Holds f) (routes_of s m)
   routes_hold m h =
       from_five (Holds f) (flat_map (covered_once s m) (resources_of s)) (flat_map (one_arc_in s m) (resources_of s)) (flat_map (arc_carries s m) (below (length s.arcs)))
-          (flat_map (steps_have_cause s m) (resources_of s)) (flat_map (no_dangling s m) (resources_of s)) (record {
+      (flat_map (steps_have_cause s m) (resources_of s)) (flat_map (no_dangling s m) (resources_of s)) (record {
         first = All-pieces (Holds f) (covered_once s m) (length s.resources) h.covers;
         second = All-pieces (Holds f) (one_arc_in s m) (length s.resources) h.arcs_in;
         third = All-pieces (Holds f) (arc_carries s m) (length s.arcs) h.carried;
@@ -95,7 +95,7 @@ module _ (s : SpecValue) (f : Bits) where
   allocation_model : All (Holds f) (allocation s) → IsAllocationModel s f
   allocation_model h =
       let parts = five (Holds f) (map (option_allocates s) (below (length s.options))) (flat_map (covers_allocate s) (messages_of s)) (map (resource_has_use s) (resources_of s))
-          (flat_map (arcs_allocate s) (messages_of s)) (map (link_has_use s) (below (length s.links))) h in
+      (flat_map (arcs_allocate s) (messages_of s)) (map (link_has_use s) (below (length s.links))) h in
       record {
         options = λ o l. All-one (Holds f) (option_allocates s) (length s.options) o parts.first l;
         covers = λ m r hm hr. All-one (Holds f) (cover_allocates s m) (length s.resources) r (All-piece (Holds f) (covers_allocate s) (length s.messages) m parts.second hm) hr;
@@ -107,7 +107,7 @@ module _ (s : SpecValue) (f : Bits) where
   allocation_holds : IsAllocationModel s f → All (Holds f) (allocation s)
   allocation_holds h =
       from_five (Holds f) (map (option_allocates s) (below (length s.options))) (flat_map (covers_allocate s) (messages_of s)) (map (resource_has_use s) (resources_of s))
-          (flat_map (arcs_allocate s) (messages_of s)) (map (link_has_use s) (below (length s.links))) (record {
+      (flat_map (arcs_allocate s) (messages_of s)) (map (link_has_use s) (below (length s.links))) (record {
         first = All-ones (Holds f) (option_allocates s) (length s.options) h.options;
         second = All-pieces (Holds f) (covers_allocate s) (length s.messages) (λ m hm. All-ones (Holds f) (cover_allocates s m) (length s.resources) (λ r hr. h.covers m r hm hr));
         third = All-ones (Holds f) (resource_has_use s) (length s.resources) h.resources;
@@ -123,7 +123,7 @@ module _ (s : SpecValue) (f : Bits) where
         options = λ t l. All-piece (Holds f) (one_option s) (length s.tasks) t parts.0 l;
         routes = λ m l. (let part = All-piece (Holds f) (route_part s) (length s.messages) m parts.1 l in
             route_model m (All-left (Holds f) (flat_map (sender_start s m) (resources_of s)) (routes_of s m) part)
-                (All-right (Holds f) (flat_map (sender_start s m) (resources_of s)) (routes_of s m) part));
+            (All-right (Holds f) (flat_map (sender_start s m) (resources_of s)) (routes_of s m) part));
         allocated = allocation_model parts.2;
       }
 
@@ -133,7 +133,7 @@ module _ (s : SpecValue) (f : Bits) where
       from_three (Holds f) (options_chosen s) (flat_map (route_part s) (messages_of s)) (allocation s)
       (All-pieces (Holds f) (one_option s) (length s.tasks) h.options)
       (All-pieces (Holds f) (route_part s) (length s.messages) (λ m l. All-append (Holds f) (flat_map (sender_start s m) (resources_of s)) (routes_of s m) (starts_hold m (h.routes m l))
-          (routes_hold m (h.routes m l))))
+      (routes_hold m (h.routes m l))))
       (allocation_holds h.allocated)
 
   -- the receivers of each message are covered
@@ -145,7 +145,7 @@ module _ (s : SpecValue) (f : Bits) where
   families_of_encoding h =
       let parts = three_of (Holds f) (options_chosen s) (flat_map (message_part s) (messages_of s)) (allocation s) h in
       let of_message : (m : ℕ) → m < length s.messages → All (Holds f) (flat_map (sender_start s m) (resources_of s)) × All (Holds f) (receivers_covered s m) × All (Holds f) (routes_of s m) =
-          λ m l. three_of (Holds f) (flat_map (sender_start s m) (resources_of s)) (receivers_covered s m) (routes_of s m) (All-piece (Holds f) (message_part s) (length s.messages) m parts.1 l) in (
+      λ m l. three_of (Holds f) (flat_map (sender_start s m) (resources_of s)) (receivers_covered s m) (routes_of s m) (All-piece (Holds f) (message_part s) (length s.messages) m parts.1 l) in (
         record {
           options = λ t l. All-piece (Holds f) (one_option s) (length s.tasks) t parts.0 l;
           routes = λ m l. route_model m (of_message m l).0 (of_message m l).2;
@@ -160,5 +160,5 @@ module _ (s : SpecValue) (f : Bits) where
       from_three (Holds f) (options_chosen s) (flat_map (message_part s) (messages_of s)) (allocation s)
       (All-pieces (Holds f) (one_option s) (length s.tasks) h.options)
       (All-pieces (Holds f) (message_part s) (length s.messages) (λ m l. from_three (Holds f) (flat_map (sender_start s m) (resources_of s)) (receivers_covered s m) (routes_of s m)
-          (starts_hold m (h.routes m l)) (c m l) (routes_hold m (h.routes m l))))
+      (starts_hold m (h.routes m l)) (c m l) (routes_hold m (h.routes m l))))
       (allocation_holds h.allocated)

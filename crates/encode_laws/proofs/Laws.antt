@@ -81,8 +81,8 @@ module _ (s : SpecValue) (f : Bits) (m w : ℕ) (hm : m < length s.messages) (pa
   unfolding option_covers of_task
   holds_of_covered h =
       All-map (Holds f) (option_covers s m) (options_of s w) (All-those (λ o. Holds f (option_covers s m o)) (of_task s w) (length s.options)
-          (λ o l e. from_if_then f o (covered_var s m (option_at s o).resource) (λ c. h (option_at s o).resource
-          (record { choice = o; in_range = l; chosen = c; of_task = eqb-true _ _ e; on_resource = refl }))))
+      (λ o l e. from_if_then f o (covered_var s m (option_at s o).resource) (λ c. h (option_at s o).resource
+      (record { choice = o; in_range = l; chosen = c; of_task = eqb-true _ _ e; on_resource = refl }))))
 
   pub reached_of_covered : IsCovered → (r : ℕ) → IsOn s f w r → (n : ℕ) × Walk s f m r n
   reached_of_covered h r on = let x = walks.short_walk r (on_in_range r on) (h r on) in (x.0, x.2)
@@ -99,8 +99,13 @@ module _ (s : SpecValue) (f : Bits) (m w : ℕ) (hm : m < length s.messages) (pa
       at : (b : Bool) → f (covered_var s m r) ≡ b → b ≡ true
       at true e = refl
       at false e =
-          absurd (h (record { receiver = member; resource = r; on = on; no_walk = λ n v. absurd (false≢true
-          (sym e ∙ walks.cover r (on_in_range r on) (n, omega (arith, walk_short s f m r n hm routed parts v), v))) }))
+          absurd (h (record {
+            receiver = member;
+            resource = r;
+            on = on;
+            no_walk = λ n v. absurd (false≢true
+                (sym e ∙ walks.cover r (on_in_range r on) (n, omega (arith, walk_short s f m r n hm routed parts v), v)));
+          }))
 
   pub not_unreached_of_covered : IsCovered → ¬ IsUnreached s f m w
   not_unreached_of_covered h x =
@@ -197,7 +202,7 @@ valid_of_model s f wf h =
       routed = routed;
       reached = λ m w r hm member on. (let walks = walked s f wf both.0 m hm in
           reached_of_covered s f m w hm there routed walks (covered_of_holds s f m w hm there routed walks
-              (All-piece_of (Holds f) (receiver_covered s m) (message_at s m).receivers w (both.1 m hm) member)) r on);
+          (All-piece_of (Holds f) (receiver_covered s m) (message_at s m).receivers w (both.1 m hm) member)) r on);
     }
 
 pub models_are_valid : ModelsAreValid

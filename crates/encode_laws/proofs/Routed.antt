@@ -83,10 +83,21 @@ module _ (s : SpecValue) (f : Bits) (m : ℕ) (hm : m < length s.messages) (part
       let p = option_on s (sender_of s m) r in
       let h = step_var s m r 0 in
       All-two (Holds f) _ _
-      (at_least-holds f (length p) (negatives p ++ positive h ∷ []) (omega (arith, start_is r hr, true_weight-append f (negatives p) (positive h ∷ []), weight-negatives f p,
-          true_weight-cons f (positive h) [])))
-      (at_least-holds f 1 (positives p ++ negative h ∷ []) (omega (arith, start_is r hr, true_weight-append f (positives p) (negative h ∷ []), weight-positives f p,
-          true_weight-cons f (negative h) [], both_bits (f h))))
+      (at_least-holds f (length p) (negatives p ++ positive h ∷ []) (omega (
+        arith,
+        start_is r hr,
+        true_weight-append f (negatives p) (positive h ∷ []),
+        weight-negatives f p,
+        true_weight-cons f (positive h) [],
+      )))
+      (at_least-holds f 1 (positives p ++ negative h ∷ []) (omega (
+        arith,
+        start_is r hr,
+        true_weight-append f (positives p) (negative h ∷ []),
+        weight-positives f p,
+        true_weight-cons f (negative h) [],
+        both_bits (f h),
+      )))
 
   -- covered once
   cover_is : (r : ℕ) → r < length s.resources → steps_true s f m r 0 ≡ bit (f (covered_var s m r))
@@ -115,10 +126,22 @@ module _ (s : SpecValue) (f : Bits) (m : ℕ) (hm : m < length s.messages) (part
       let xs = steps_from s m r 0 in
       let c = covered_var s m r in
       All-two (Holds f) _ _
-      (at_least-holds f ((message_at s m).limit + 1) (negatives xs ++ positive c ∷ []) (omega (arith, cover_is r hr, true_weight-append f (negatives xs) (positive c ∷ []), weight-negatives f xs,
-          length_steps s m r 0, true_weight-cons f (positive c) [])))
-      (at_least-holds f 1 (positives xs ++ negative c ∷ []) (omega (arith, cover_is r hr, true_weight-append f (positives xs) (negative c ∷ []), weight-positives f xs,
-          true_weight-cons f (negative c) [], both_bits (f c))))
+      (at_least-holds f ((message_at s m).limit + 1) (negatives xs ++ positive c ∷ []) (omega (
+        arith,
+        cover_is r hr,
+        true_weight-append f (negatives xs) (positive c ∷ []),
+        weight-negatives f xs,
+        length_steps s m r 0,
+        true_weight-cons f (positive c) [],
+      )))
+      (at_least-holds f 1 (positives xs ++ negative c ∷ []) (omega (
+        arith,
+        cover_is r hr,
+        true_weight-append f (positives xs) (negative c ∷ []),
+        weight-positives f xs,
+        true_weight-cons f (negative c) [],
+        both_bits (f c),
+      )))
 
   -- one arc in
   step_suc : (r t : ℕ) → r < length s.resources → suc t ≤ (message_at s m).limit → f (step_var s m r (1 + t)) ≡ true → Walk s f m r (suc t)
@@ -176,10 +199,24 @@ module _ (s : SpecValue) (f : Bits) (m : ℕ) (hm : m < length s.messages) (part
       let xs = steps_from s m r 1 in
       let us = arc_vars s m (arcs_into s r) in
       All-two (Holds f) _ _
-      (at_least-holds f (message_at s m).limit (positives us ++ negatives xs) (omega (arith, into_is r hr, true_weight-append f (positives us) (negatives xs), weight-positives f us,
-          weight-negatives f xs, length_steps s m r 1, count-map f (arc_var s m) (arcs_into s r))))
-      (at_least-holds f (length (arcs_into s r)) (negatives us ++ positives xs) (omega (arith, into_is r hr, true_weight-append f (negatives us) (positives xs), weight-negatives f us,
-          weight-positives f xs, length-map (arcs_into s r) (arc_var s m), count-map f (arc_var s m) (arcs_into s r))))
+      (at_least-holds f (message_at s m).limit (positives us ++ negatives xs) (omega (
+        arith,
+        into_is r hr,
+        true_weight-append f (positives us) (negatives xs),
+        weight-positives f us,
+        weight-negatives f xs,
+        length_steps s m r 1,
+        count-map f (arc_var s m) (arcs_into s r),
+      )))
+      (at_least-holds f (length (arcs_into s r)) (negatives us ++ positives xs) (omega (
+        arith,
+        into_is r hr,
+        true_weight-append f (negatives us) (positives xs),
+        weight-negatives f us,
+        weight-positives f xs,
+        length-map (arcs_into s r) (arc_var s m),
+        count-map f (arc_var s m) (arcs_into s r),
+      )))
 
   -- arcs carry steps
   carry_holds : (a : ℕ) → a < length s.arcs → All (Holds f) (arc_carries s m a)
@@ -187,11 +224,11 @@ module _ (s : SpecValue) (f : Bits) (m : ℕ) (hm : m < length s.messages) (part
   carry_holds a ha =
       All-append (Holds f) (map (carries s m a) (below (message_at s m).limit)) _
       (All-ones (Holds f) (carries s m a) (message_at s m).limit (λ t ht. from_if_both_then f (arc_var s m a) (step_var s m p t) (step_var s m q (t + 1))
-          (λ u e. walked.step q (t + 1) hq (omega (arith, ht)) (longer t (record { in_range = ha; bit = u }) (walked.walk p t hp (omega (arith, ht)) e)))))
+      (λ u e. walked.step q (t + 1) hq (omega (arith, ht)) (longer t (record { in_range = ha; bit = u }) (walked.walk p t hp (omega (arith, ht)) e)))))
       (All-two (Holds f) _ _
       (from_if_then f (arc_var s m a) (covered_var s m p) (λ u. (let w = routed.has_walk m a hm (record { in_range = ha; bit = u }) in walked.cover p hp (w.0, omega (arith, w.1), w.2))))
       (from_not_both f (arc_var s m a) (step_var s m p (message_at s m).limit) (λ u. false_from_ne_true (f (step_var s m p (message_at s m).limit))
-          (λ e. too_late u (walked.walk p (message_at s m).limit hp (omega arith) e)))))
+      (λ e. too_late u (walked.walk p (message_at s m).limit hp (omega arith) e)))))
     where
       p : ℕ
       p = (arc_at s a).tail
@@ -261,9 +298,20 @@ module _ (s : SpecValue) (f : Bits) (m : ℕ) (hm : m < length s.messages) (part
       let ros = receiver_options s m r in
       let h = step_var s m r 0 in
       let c = covered_var s m r in
-      All-from_recursion (Holds f) (no_dangling s m r) (at_least-holds f 1 (positives ros ++ positives us ++ positive h ∷ (negative c ∷ []))
-          (omega (arith, end_sum r hr (f c) refl, true_weight-append f (positives ros ++ positives us) (positive h ∷ (negative c ∷ [])), true_weight-append f (positives ros) (positives us),
-          weight-positives f ros, weight-positives f us, true_weight-cons f (positive h) (negative c ∷ []), true_weight-cons f (negative c) [])), tt)
+      All-from_recursion (Holds f) (no_dangling s m r) (
+        at_least-holds f 1 (positives ros ++ positives us ++ positive h ∷ (negative c ∷ []))
+            (omega (
+              arith,
+              end_sum r hr (f c) refl,
+              true_weight-append f (positives ros ++ positives us) (positive h ∷ (negative c ∷ [])),
+              true_weight-append f (positives ros) (positives us),
+              weight-positives f ros,
+              weight-positives f us,
+              true_weight-cons f (positive h) (negative c ∷ []),
+              true_weight-cons f (negative c) [],
+            )),
+        tt,
+      )
 
   pub route_model_of : IsRouteModel s f m
   route_model_of = record {

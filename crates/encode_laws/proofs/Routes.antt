@@ -86,7 +86,7 @@ module _ (s : SpecValue) (f : Bits) (m : ℕ) (ends_in : HasEnds s) (eqs : Equat
   rule_three r hr =
       let first = count-below_first (λ k. f (step_var s m r k)) (message_at s m).limit in
       let n : count_by (λ k. f (step_var s m r k)) (below ((message_at s m).limit + 1)) ≡ count_by (λ k. f (step_var s m r k)) (below (suc (message_at s m).limit)) =
-          ap (λ (k : ℕ). count_by (λ t. f (step_var s m r t)) (below k)) (plus_one (message_at s m).limit) in
+      ap (λ (k : ℕ). count_by (λ t. f (step_var s m r t)) (below k)) (plus_one (message_at s m).limit) in
       omega (arith, first, n, steps_0 s f m r, steps_1 s f m r, eqs.cover r hr, eqs.into r hr, bit-le (f (covered_var s m r)))
     where
       plus_one : (k : ℕ) → k + 1 ≡ suc k

@@ -122,14 +122,14 @@ module _ (s : SpecValue) (x : ℕ) (none : All (Lacks x) (encoding s)) where
   unfolding option_allocates
   no_option o l e =
       let at = All-one (Lacks x) (option_allocates s) (length s.options) o (All-left (Lacks x) O C (All-left (Lacks x) (O ++ C) R
-          (All-left (Lacks x) (O ++ C ++ R) A (All-left (Lacks x) (O ++ C ++ R ++ A) L allocated)))) l in
+      (All-left (Lacks x) (O ++ C ++ R) A (All-left (Lacks x) (O ++ C ++ R ++ A) L allocated)))) l in
       not_there x (option_allocates s o) at (at_least-mentions x 1 (negative o ∷ (positive (resource_var s (option_at s o).resource) ∷ [])) (inl (sym e)))
 
   no_resource : (r : ℕ) → r < length s.resources → x ≡ resource_var s r → ⊥
   unfolding resource_has_use
   no_resource r l e =
       let at = All-one (Lacks x) (resource_has_use s) (length s.resources) r (All-right (Lacks x) (O ++ C) R
-          (All-left (Lacks x) (O ++ C ++ R) A (All-left (Lacks x) (O ++ C ++ R ++ A) L allocated))) l in
+      (All-left (Lacks x) (O ++ C ++ R) A (All-left (Lacks x) (O ++ C ++ R ++ A) L allocated))) l in
       let ls : List Term = negative (resource_var s r) ∷ positives (map (cover_of s r) (messages_of s)) in
       not_there x (resource_has_use s r) at (at_least-mentions x 1 (positives (options_on s r) ++ ls) (in_right x (positives (options_on s r)) ls (inl (sym e))))
 
@@ -137,7 +137,7 @@ module _ (s : SpecValue) (x : ℕ) (none : All (Lacks x) (encoding s)) where
   unfolding arc_allocates
   no_arc m a hm ha e =
       let at = All-one (Lacks x) (arc_allocates s m) (length s.arcs) a (All-piece (Lacks x) (arcs_allocate s) M m
-          (All-right (Lacks x) (O ++ C ++ R) A (All-left (Lacks x) (O ++ C ++ R ++ A) L allocated)) hm) ha in
+      (All-right (Lacks x) (O ++ C ++ R) A (All-left (Lacks x) (O ++ C ++ R ++ A) L allocated)) hm) ha in
       not_there x (arc_allocates s m a) at (at_least-mentions x 1 (negative (arc_var s m a) ∷ (positive (link_var s (arc_at s a).link) ∷ [])) (inl (sym e)))
 
   no_link : (l : ℕ) → l < length s.links → x ≡ link_var s l → ⊥
@@ -146,7 +146,7 @@ module _ (s : SpecValue) (x : ℕ) (none : All (Lacks x) (encoding s)) where
       let at = All-one (Lacks x) (link_has_use s) (length s.links) l (All-right (Lacks x) (O ++ C ++ R ++ A) L allocated) hl in
       let ls : List Term = negative (link_var s l) ∷ [] in
       not_there x (link_has_use s l) at (at_least-mentions x 1 (positives (flat_map (link_arcs s l) (messages_of s)) ++ ls)
-          (in_right x (positives (flat_map (link_arcs s l) (messages_of s))) ls (inl (sym e))))
+      (in_right x (positives (flat_map (link_arcs s l) (messages_of s))) ls (inl (sym e))))
 
   -- a resource of a message
   once : (m r : ℕ) → m < M → r < length s.resources → Lacks x (at_least 1 (positives (steps_from s m r 0) ++ negative (covered_var s m r) ∷ []))
@@ -158,7 +158,7 @@ module _ (s : SpecValue) (x : ℕ) (none : All (Lacks x) (encoding s)) where
       let d = flat_map (no_dangling s m) (resources_of s) in
       let routes : All (Lacks x) (routes_of s m) = All-right (Lacks x) (flat_map (sender_start s m) (resources_of s) ++ receivers_covered s m) (routes_of s m) (message m hm) in
       All-second (Lacks x) _ _ (All-piece (Lacks x) (covered_once s m) (length s.resources) r (All-left (Lacks x) c i
-          (All-left (Lacks x) (c ++ i) k (All-left (Lacks x) (c ++ i ++ k) h (All-left (Lacks x) (c ++ i ++ k ++ h) d routes)))) hr)
+      (All-left (Lacks x) (c ++ i) k (All-left (Lacks x) (c ++ i ++ k) h (All-left (Lacks x) (c ++ i ++ k ++ h) d routes)))) hr)
 
   no_step : (m r t : ℕ) → m < M → r < length s.resources → t ≤ (message_at s m).limit → x ≡ step_var s m r t → ⊥
   unfolding step_after
@@ -168,13 +168,13 @@ module _ (s : SpecValue) (x : ℕ) (none : All (Lacks x) (encoding s)) where
       let there : HasVariable (step_after s m r 0 (0 + t)) (positives (steps_from s m r 0)) = in_positives (step_after s m r 0) ((message_at s m).limit + 1 - 0) 0 t (omega (arith, ht)) in
       let is : step_after s m r 0 (0 + t) ≡ x = ap (λ (k : ℕ). step_var s m r k) twice ∙ sym e in
       not_there x (at_least 1 (positives (steps_from s m r 0) ++ negative (covered_var s m r) ∷ [])) (once m r hm hr)
-          (at_least-mentions x 1 (positives (steps_from s m r 0) ++ negative (covered_var s m r) ∷ [])
-          (in_left x (positives (steps_from s m r 0)) (negative (covered_var s m r) ∷ []) (subst (λ (y : ℕ). HasVariable y (positives (steps_from s m r 0))) is there)))
+      (at_least-mentions x 1 (positives (steps_from s m r 0) ++ negative (covered_var s m r) ∷ [])
+      (in_left x (positives (steps_from s m r 0)) (negative (covered_var s m r) ∷ []) (subst (λ (y : ℕ). HasVariable y (positives (steps_from s m r 0))) is there)))
 
   no_cover : (m r : ℕ) → m < M → r < length s.resources → x ≡ covered_var s m r → ⊥
   no_cover m r hm hr e =
       not_there x (at_least 1 (positives (steps_from s m r 0) ++ negative (covered_var s m r) ∷ [])) (once m r hm hr)
-          (at_least-mentions x 1 (positives (steps_from s m r 0) ++ negative (covered_var s m r) ∷ []) (in_right x (positives (steps_from s m r 0)) (negative (covered_var s m r) ∷ []) (inl (sym e))))
+      (at_least-mentions x 1 (positives (steps_from s m r 0) ++ negative (covered_var s m r) ∷ []) (in_right x (positives (steps_from s m r 0)) (negative (covered_var s m r) ∷ []) (inl (sym e))))
 
   no_design : x < design_variables s → ⊥
   no_design l = at (cases_lt x (length s.options)) (cases_lt x (length s.options + M * length s.arcs)) (cases_lt x (length s.options + M * length s.arcs + length s.resources))
@@ -202,9 +202,9 @@ pub encoding_knows : (s : SpecValue) (x : ℕ) → x < all_variables s → any_m
 unfolding all_variables base
 encoding_knows s x l =
     agree_at s (any_mentions (encoding s)) (λ _. true) (λ v h. there v (λ none. no_design s v none h))
-        (λ m r t hm hr ht. there (step_var s m r t) (λ none. no_step s (step_var s m r t) none m r t hm hr ht refl))
-        (λ m r hm hr. there (covered_var s m r) (λ none. no_cover s (covered_var s m r) none m r hm hr refl)) x
-        (omega (arith, l, ap (sum_by (further s)) (take_all (length s.messages) s.messages (omega arith))))
+    (λ m r t hm hr ht. there (step_var s m r t) (λ none. no_step s (step_var s m r t) none m r t hm hr ht refl))
+    (λ m r hm hr. there (covered_var s m r) (λ none. no_cover s (covered_var s m r) none m r hm hr refl)) x
+    (omega (arith, l, ap (sum_by (further s)) (take_all (length s.messages) s.messages (omega arith))))
   where
     there : (v : ℕ) → (All (Lacks v) (encoding s) → ⊥) → any_mentions (encoding s) v ≡ true
     there v h =

@@ -62,7 +62,7 @@ pub rises-pieces : (g : ℕ → List ℕ) (c : ℕ → ℕ) (n : ℕ) → ((i : 
 rises-pieces g c zero h = omega arith
 rises-pieces g c (suc n) h =
     subst (λ (k : ℕ). RisesWithin (c 0) (c k) (flat_map g (below k))) (add-one n) (subst (λ (xs : List ℕ). RisesWithin (c 0) (c (n + 1)) xs) (sym (flat_map-below_more g n))
-        (joined (c 0) (c n) (c (n + 1)) (flat_map g (below n)) (g n) (rises-pieces g c n (λ i l. h i (omega arith))) (h n (omega arith))))
+    (joined (c 0) (c n) (c (n + 1)) (flat_map g (below n)) (g n) (rises-pieces g c n (λ i l. h i (omega arith))) (h n (omega arith))))
 
 -- a literal with coefficient 1
 abbrev pub literal : Bool → ℕ → Term

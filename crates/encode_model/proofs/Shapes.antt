@@ -29,8 +29,10 @@ two n v w y z h g = record { rises = (literal_from 0 v y (omega arith), (literal
 
 pub options : (s : SpecValue) (t : ℕ) (y : Bool) → IsRising (all_variables s) (map (literal y) (options_of s t))
 options s t y =
-    record { rises = literals 0 (all_variables s) y (options_of s t) (wider 0 (length s.options) 0 (all_variables s) (options_of s t) (omega arith) (omega (arith, design_variables-le s))
-    (rises-numbers (of_task s t) (length s.options))) }
+    record {
+      rises = literals 0 (all_variables s) y (options_of s t) (wider 0 (length s.options) 0 (all_variables s) (options_of s t) (omega arith) (omega (arith, design_variables-le s))
+          (rises-numbers (of_task s t) (length s.options)));
+    }
 
 module _ (s : SpecValue) (m : ℕ) (hm : m < length s.messages) where
   pub start : (r : ℕ) (y z : Bool) → r < length s.resources → IsRising (all_variables s) (map (literal y) (option_on s (sender_of s m) r) ++ literal z (step_var s m r 0) ∷ [])
@@ -55,8 +57,10 @@ module _ (s : SpecValue) (m : ℕ) (hm : m < length s.messages) where
   pub steps_cover : (r : ℕ) (y z : Bool) → r < length s.resources → IsRising (all_variables s) (map (literal y) (steps_from s m r 0) ++ literal z (covered_var s m r) ∷ [])
   steps_cover r y z hr =
       let steps = literals (step_var s m r 0) (step_var s m r 0 + ((message_at s m).limit + 1)) y (steps_from s m r 0) (steps_rise r 0 hr (omega arith)) in
-      record { rises = one_more (covered_var s m 0) (all_variables s) (covered_var s m r) z (map (literal y) (steps_from s m r 0)) (omega arith) (covered_var-lt s m r hm hr)
-          (small_wider (step_var s m r 0) (step_var s m r 0 + ((message_at s m).limit + 1)) 0 (covered_var s m 0) (map (literal y) (steps_from s m r 0)) (omega arith) (row_end r hr) steps) }
+      record {
+        rises = one_more (covered_var s m 0) (all_variables s) (covered_var s m r) z (map (literal y) (steps_from s m r 0)) (omega arith) (covered_var-lt s m r hm hr)
+            (small_wider (step_var s m r 0) (step_var s m r 0 + ((message_at s m).limit + 1)) 0 (covered_var s m 0) (map (literal y) (steps_from s m r 0)) (omega arith) (row_end r hr) steps);
+      }
 
   arcs_rise : (p : ℕ → Bool) → RisesWithin (arc_var s m 0) (arc_var s m 0 + length s.arcs) (arc_vars s m (those p (length s.arcs)))
   arcs_rise p =
@@ -71,10 +75,10 @@ module _ (s : SpecValue) (m : ℕ) (hm : m < length s.messages) where
   pub arcs_steps : (r : ℕ) (y z : Bool) → r < length s.resources → IsRising (all_variables s) (map (literal y) (arc_vars s m (arcs_into s r)) ++ map (literal z) (steps_from s m r 1))
   arcs_steps r y z hr =
       let arcs = small_wider (arc_var s m 0) (arc_var s m 0 + length s.arcs) 0 (step_var s m r 0) (map (literal y) (arc_vars s m (arcs_into s r))) (omega arith)
-          (omega (arith, arcs_end, base-ge s m)) (literals (arc_var s m 0) (arc_var s m 0 + length s.arcs) y (arc_vars s m (arcs_into s r)) (arcs_rise (goes_into s r))) in
+      (omega (arith, arcs_end, base-ge s m)) (literals (arc_var s m 0) (arc_var s m 0 + length s.arcs) y (arc_vars s m (arcs_into s r)) (arcs_rise (goes_into s r))) in
       let steps = small_wider (step_var s m r 0) (step_var s m r 0 + ((message_at s m).limit + 1)) (step_var s m r 0) (all_variables s) (map (literal z) (steps_from s m r 1)) (omega arith)
-          (omega (arith, row_end r hr, covered_var-lt s m r hm hr)) (literals (step_var s m r 0) (step_var s m r 0 + ((message_at s m).limit + 1)) z (steps_from s m r 1)
-          (steps_rise r 1 hr (omega arith))) in
+      (omega (arith, row_end r hr, covered_var-lt s m r hm hr)) (literals (step_var s m r 0) (step_var s m r 0 + ((message_at s m).limit + 1)) z (steps_from s m r 1)
+      (steps_rise r 1 hr (omega arith))) in
       record { rises = terms_joined (2 ^ 40) 0 (step_var s m r 0) (all_variables s) (map (literal y) (arc_vars s m (arcs_into s r))) (map (literal z) (steps_from s m r 1)) arcs steps }
 
   pub arc_cover : (a p : ℕ) (y z : Bool) → a < length s.arcs → p < length s.resources → IsRising (all_variables s) (literal y (arc_var s m a) ∷ (literal z (covered_var s m p) ∷ []))
@@ -98,8 +102,13 @@ module _ (s : SpecValue) (m : ℕ) (hm : m < length s.messages) where
       let u = arc_var s m a in
       let later = arc_step a q (t + 1) false true ha hq (omega (arith, ht)) in
       let here = arc_step a p t false false ha hp (omega (arith, ht)) in
-      record { rises = (literal_from 0 u false (omega arith), terms_put (2 ^ 40) (u + 1) (all_variables s) (negative (step_var s m p t)) (positive (step_var s m q (t + 1)) ∷ []) here.rises.1.0
-          (step_var-lt s m p t hm hp (omega (arith, ht))) ((λ e. steps_apart q p (t + 1) t (omega (arith, ht)) (omega (arith, ht)) (λ e'. ne (sym e')) e), tt) later.rises.1) }
+      record {
+        rises = (
+          literal_from 0 u false (omega arith),
+          terms_put (2 ^ 40) (u + 1) (all_variables s) (negative (step_var s m p t)) (positive (step_var s m q (t + 1)) ∷ []) here.rises.1.0
+              (step_var-lt s m p t hm hp (omega (arith, ht))) ((λ e. steps_apart q p (t + 1) t (omega (arith, ht)) (omega (arith, ht)) (λ e'. ne (sym e')) e), tt) later.rises.1,
+        );
+      }
 
   -- the steps of the neighbours of a resource
   pub earlier_rise : (q t : ℕ) → t < (message_at s m).limit → IsRising (all_variables s) (positives (map (step_at s m t) (neighbours s q)))
@@ -114,14 +123,15 @@ module _ (s : SpecValue) (m : ℕ) (hm : m < length s.messages) where
   end_literals r hr =
       let ros = literals 0 (length s.options) true (receiver_options s m r) (rises-numbers (for_receiver s m r) (length s.options)) in
       let us = small_wider (arc_var s m 0) (arc_var s m 0 + length s.arcs) (length s.options) (design_variables s) (positives (arc_vars s m (arcs_from s r))) (omega arith) arcs_end
-          (literals (arc_var s m 0) (arc_var s m 0 + length s.arcs) true (arc_vars s m (arcs_from s r)) (arcs_rise (leaves s r))) in
+      (literals (arc_var s m 0) (arc_var s m 0 + length s.arcs) true (arc_vars s m (arcs_from s r)) (arcs_rise (leaves s r))) in
       record {
         rises =
             terms_joined (2 ^ 40) 0 (design_variables s) (all_variables s) (positives (receiver_options s m r) ++ positives (arc_vars s m (arcs_from s r)))
             (positive (step_var s m r 0) ∷ (negative (covered_var s m r) ∷ []))
-            (terms_joined (2 ^ 40) 0 (length s.options) (design_variables s) (positives (receiver_options s m r)) (positives (arc_vars s m (arcs_from s r))) ros us)
-            (literal_from (design_variables s) (step_var s m r 0) true (omega (arith, base-ge s m)),
-                (literal_from (step_var s m r 0 + 1) (covered_var s m r) false (omega (arith, row_end r hr)), omega (arith, covered_var-lt s m r hm hr)));
+            (terms_joined (2 ^ 40) 0 (length s.options) (design_variables s) (positives (receiver_options s m r)) (positives (arc_vars s m (arcs_from s r))) ros us) (
+              literal_from (design_variables s) (step_var s m r 0) true (omega (arith, base-ge s m)),
+              (literal_from (step_var s m r 0 + 1) (covered_var s m r) false (omega (arith, row_end r hr)), omega (arith, covered_var-lt s m r hm hr)),
+            );
       }
 
   pub cover_allocated : (r : ℕ) (y z : Bool) → r < length s.resources → IsRising (all_variables s) (literal y (resource_var s r) ∷ (literal z (covered_var s m r) ∷ []))
@@ -175,9 +185,11 @@ resource_uses s r hr =
     let os = literals 0 (length s.options) true (options_on s r) (rises-numbers (on_resource s r) (length s.options)) in
     let cs = literals (design_variables s) (all_variables s) true (map (cover_of s r) (messages_of s)) (covers_rise s r hr) in
     record {
-      rises = terms_joined (2 ^ 40) 0 (length s.options) (all_variables s) (positives (options_on s r)) (negative (resource_var s r) ∷ positives (map (cover_of s r) (messages_of s))) os
-          (literal_from (length s.options) (resource_var s r) false (omega arith), small_wider (design_variables s) (all_variables s) (resource_var s r + 1) (all_variables s)
-              (positives (map (cover_of s r) (messages_of s))) (omega (arith, hr)) (omega arith) cs);
+      rises = terms_joined (2 ^ 40) 0 (length s.options) (all_variables s) (positives (options_on s r)) (negative (resource_var s r) ∷ positives (map (cover_of s r) (messages_of s))) os (
+        literal_from (length s.options) (resource_var s r) false (omega arith),
+        small_wider (design_variables s) (all_variables s) (resource_var s r + 1) (all_variables s)
+            (positives (map (cover_of s r) (messages_of s))) (omega (arith, hr)) (omega arith) cs,
+      );
     }
 
 pub link_uses : (s : SpecValue) (l : ℕ) → l < length s.links → IsRising (all_variables s) (positives (flat_map (link_arcs s l) (messages_of s)) ++ negative (link_var s l) ∷ [])
@@ -185,11 +197,13 @@ unfolding link_arcs
 link_uses s l hl =
     let vs = flat_map (link_arcs s l) (messages_of s) in
     let rise : RisesWithin (arc_var s 0 0) (arc_var s (length s.messages) 0) vs = rises-pieces (link_arcs s l) (λ m. arc_var s m 0) (length s.messages)
-        (λ m hm. wider (arc_var s m 0) (arc_var s m 0 + length s.arcs) (arc_var s m 0) (arc_var s (m + 1) 0) (arc_vars s m (arcs_of s l)) (omega arith) (omega (arith, next m))
-        (arcs_rise s m hm (of_link s l))) in
-    record { rises = one_more (arc_var s (length s.messages) 0) (all_variables s) (link_var s l) false (positives vs) (omega arith) (omega (arith, hl, design_variables-le s))
-        (small_wider (arc_var s 0 0) (arc_var s (length s.messages) 0) 0 (arc_var s (length s.messages) 0) (positives vs) (omega arith) (omega arith)
-        (literals (arc_var s 0 0) (arc_var s (length s.messages) 0) true vs rise)) }
+    (λ m hm. wider (arc_var s m 0) (arc_var s m 0 + length s.arcs) (arc_var s m 0) (arc_var s (m + 1) 0) (arc_vars s m (arcs_of s l)) (omega arith) (omega (arith, next m))
+    (arcs_rise s m hm (of_link s l))) in
+    record {
+      rises = one_more (arc_var s (length s.messages) 0) (all_variables s) (link_var s l) false (positives vs) (omega arith) (omega (arith, hl, design_variables-le s))
+          (small_wider (arc_var s 0 0) (arc_var s (length s.messages) 0) 0 (arc_var s (length s.messages) 0) (positives vs) (omega arith) (omega arith)
+          (literals (arc_var s 0 0) (arc_var s (length s.messages) 0) true vs rise));
+    }
   where
     next : (m : ℕ) → m * length s.arcs + length s.arcs ≤ (m + 1) * length s.arcs
     next m = row_fits m (length s.arcs) (m + 1) (length s.arcs) (omega arith) (omega arith)
@@ -217,10 +231,10 @@ carry_shape s t m a p q k n ls e wf hm ha ep eq hk en el =
     let w = subst IsWellFormed e wf in
     let arc = arc_in s a w ha in
     let el' : ls ≡ put (negative (arc_var s m a)) (put (negative (step_var s m (arc_at s a).tail k)) (positive (step_var s m (arc_at s a).head (k + 1)) ∷ [])) = el
-        ∙ (ap (λ (x : ℕ). put (negative (arc_var s m a)) (put (negative (step_var s m x k)) (positive (step_var s m q (k + 1)) ∷ []))) ep
-        ∙ ap (λ (x : ℕ). put (negative (arc_var s m a)) (put (negative (step_var s m (arc_at s a).tail k)) (positive (step_var s m x (k + 1)) ∷ []))) eq) in
+    ∙ (ap (λ (x : ℕ). put (negative (arc_var s m a)) (put (negative (step_var s m x k)) (positive (step_var s m q (k + 1)) ∷ []))) ep
+    ∙ ap (λ (x : ℕ). put (negative (arc_var s m a)) (put (negative (step_var s m (arc_at s a).tail k)) (positive (step_var s m x (k + 1)) ∷ []))) eq) in
     let both = carry_is (all_variables s) (arc_var s m a) (step_var s m (arc_at s a).tail k) (step_var s m (arc_at s a).head (k + 1)) ls (arc_before s m hm a (arc_at s a).tail k ha)
-        (arc_before s m hm a (arc_at s a).head (k + 1) ha) (carried s m hm a (arc_at s a).tail (arc_at s a).head k ha arc.tail arc.head arc.apart hk) el' in
+    (arc_before s m hm a (arc_at s a).head (k + 1) ha) (carried s m hm a (arc_at s a).tail (arc_at s a).head k ha arc.tail arc.head arc.apart hk) el' in
     (subst (λ (x : ℕ). IsRising x ls) (sym en) both.0, both.1)
 
 pub cause_shape : (s t : SpecValue) (m q k n : ℕ) (ls : List Term) → t ≡ s → IsWellFormed t → m < length s.messages → q < length s.resources → k < (message_at s m).limit → n ≡ all_variables s

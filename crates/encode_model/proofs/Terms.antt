@@ -96,7 +96,7 @@ two-terms n m ls ks = omega (arith, terms-cons (at_least n ls) (at_least m ks �
 length-those_suc : (p : ℕ → Bool) (n : ℕ) → length (those p (suc n)) ≡ length (those p n) + cond (p n) 1 0
 length-those_suc p n =
     let at : length (those p (n + 1)) ≡ length (those p n) + cond (p n) 1 0 = ap length (those-more p n)
-        ∙ (length-append (those p n) (cond (p n) (n ∷ []) []) ∙ ap (λ (k : ℕ). length (those p n) + k) (one (p n))) in
+    ∙ (length-append (those p n) (cond (p n) (n ∷ []) []) ∙ ap (λ (k : ℕ). length (those p n) + k) (one (p n))) in
     subst (λ (k : ℕ). length (those p k) ≡ length (those p n) + cond (p n) 1 0) (add-one n) at
   where
     one : (b : Bool) → length (cond b (n ∷ []) []) ≡ cond b 1 0
@@ -136,10 +136,16 @@ classes : (p : ℕ → Bool) (key : ℕ → ℕ) (count n : ℕ) → sum_by (λ 
 classes p key zero n = omega (arith, sum-same 0 n)
 classes p key (suc count) n =
     let one : (r : ℕ) → length (those (λ i. p i && nat_eq (key i) r) (suc count)) ≤ length (those (λ i. p i && nat_eq (key i) r) count) + cond (p count && nat_eq (key count) r) 1 0 =
-        λ r. omega (arith, length-those_suc (λ i. p i && nat_eq (key i) r) count) in
-    omega (arith, sum-le (λ r. length (those (λ i. p i && nat_eq (key i) r) (suc count))) (λ r. length (those (λ i. p i && nat_eq (key i) r) count) + cond (p count && nat_eq (key count) r) 1 0) n
-        (λ r l. one r), sum-plus (λ r. length (those (λ i. p i && nat_eq (key i) r) count)) (λ r. cond (p count && nat_eq (key count) r) 1 0) n, classes p key count n,
-        met_of (p count) (key count) n, length-those_suc p count)
+    λ r. omega (arith, length-those_suc (λ i. p i && nat_eq (key i) r) count) in
+    omega (
+      arith,
+      sum-le (λ r. length (those (λ i. p i && nat_eq (key i) r) (suc count))) (λ r. length (those (λ i. p i && nat_eq (key i) r) count) + cond (p count && nat_eq (key count) r) 1 0) n
+          (λ r l. one r),
+      sum-plus (λ r. length (those (λ i. p i && nat_eq (key i) r) count)) (λ r. cond (p count && nat_eq (key count) r) 1 0) n,
+      classes p key count n,
+      met_of (p count) (key count) n,
+      length-those_suc p count,
+    )
 
 abbrev always : ℕ → Bool
 always i = true
@@ -188,8 +194,14 @@ for_some s [] = omega (arith, none (length s.options))
     none zero = refl
     none (suc n) = omega (arith, length-those_suc (λ p. false) n, none n)
 for_some s (w ∷ ws) =
-    omega (arith, for_some s ws, sum_by-cons (option_count s) w ws, turned (length s.options), either (λ o. nat_eq w (option_at s o).task) (λ o. list_any (is_number (option_at s o).task) ws)
-        (length s.options))
+    omega (
+      arith,
+      for_some s ws,
+      sum_by-cons (option_count s) w ws,
+      turned (length s.options),
+      either (λ o. nat_eq w (option_at s o).task) (λ o. list_any (is_number (option_at s o).task) ws)
+          (length s.options),
+    )
   where
     turn : (a b : ℕ) → nat_eq a b ≡ nat_eq b a
     turn a b = grind (arith, nat_tests)
@@ -206,8 +218,12 @@ chosen-terms s =
       arith,
       pieces-terms (one_option s) (below (length s.tasks)),
       sum-le (λ t. terms_of (one_option s t)) (λ t. 2 * length (options_of s t)) (length s.tasks) (λ t l.
-          omega (arith, two-terms 1 (length (options_of s t) - 1) (positives (options_of s t)) (negatives (options_of s t)), length-map (options_of s t) positive,
-          length-map (options_of s t) negative)),
+          omega (
+            arith,
+            two-terms 1 (length (options_of s t) - 1) (positives (options_of s t)) (negatives (options_of s t)),
+            length-map (options_of s t) positive,
+            length-map (options_of s t) negative,
+          )),
       sum-times 2 (λ t. length (options_of s t)) (length s.tasks),
       all_classes (λ o. (option_at s o).task) (length s.options) (length s.tasks),
     )
@@ -242,8 +258,14 @@ module _ (s : SpecValue) (m : ℕ) where
       one r =
           let p = option_on s (sender_of s m) r in
           let h = step_var s m r 0 in
-          omega (arith, two-terms (length p) 1 (negatives p ++ positive h ∷ []) (positives p ++ negative h ∷ []), length-append (negatives p) (positive h ∷ []),
-              length-append (positives p) (negative h ∷ []), length-map p positive, length-map p negative)
+          omega (
+            arith,
+            two-terms (length p) 1 (negatives p ++ positive h ∷ []) (positives p ++ negative h ∷ []),
+            length-append (negatives p) (positive h ∷ []),
+            length-append (positives p) (negative h ∷ []),
+            length-map p positive,
+            length-map p negative,
+          )
 
   receivers-terms : terms_of (receivers_covered s m) ≤ 2 * sum_by (option_count s) (message_at s m).receivers
   unfolding option_covers
@@ -267,8 +289,15 @@ module _ (s : SpecValue) (m : ℕ) where
       one r =
           let xs = steps_from s m r 0 in
           let c = covered_var s m r in
-          omega (arith, two-terms (limit + 1) 1 (negatives xs ++ positive c ∷ []) (positives xs ++ negative c ∷ []), length-append (negatives xs) (positive c ∷ []),
-              length-append (positives xs) (negative c ∷ []), length-map xs positive, length-map xs negative, length_steps r 0)
+          omega (
+            arith,
+            two-terms (limit + 1) 1 (negatives xs ++ positive c ∷ []) (positives xs ++ negative c ∷ []),
+            length-append (negatives xs) (positive c ∷ []),
+            length-append (positives xs) (negative c ∷ []),
+            length-map xs positive,
+            length-map xs negative,
+            length_steps r 0,
+          )
 
   into-all : sum_by (λ r. length (arcs_into s r)) (resources_of s) ≤ arcs
   unfolding goes_into
@@ -290,9 +319,18 @@ module _ (s : SpecValue) (m : ℕ) where
       one r =
           let xs = steps_from s m r 1 in
           let us = arc_vars s m (arcs_into s r) in
-          omega (arith, two-terms limit (length (arcs_into s r)) (positives us ++ negatives xs) (negatives us ++ positives xs), length-append (positives us) (negatives xs),
-              length-append (negatives us) (positives xs), length-map xs positive, length-map xs negative, length-map us positive, length-map us negative, length-map (arcs_into s r) (arc_var s m),
-              length_steps r 1)
+          omega (
+            arith,
+            two-terms limit (length (arcs_into s r)) (positives us ++ negatives xs) (negatives us ++ positives xs),
+            length-append (positives us) (negatives xs),
+            length-append (negatives us) (positives xs),
+            length-map xs positive,
+            length-map xs negative,
+            length-map us positive,
+            length-map us negative,
+            length-map (arcs_into s r) (arc_var s m),
+            length_steps r 1,
+          )
 
   carries-terms : terms_of (flat_map (arc_carries s m) (below arcs)) ≤ arcs * (3 * limit + 4)
   unfolding carries
@@ -309,8 +347,11 @@ module _ (s : SpecValue) (m : ℕ) where
             terms-append (map (carries s m a) (below limit)) (at_least 1 (negative u ∷ (positive (covered_var s m p) ∷ [])) ∷ (at_least 1 (negative u ∷ (negative (step_var s m p limit) ∷ [])) ∷ [])),
             two-terms 1 1 (negative u ∷ (positive (covered_var s m p) ∷ [])) (negative u ∷ (negative (step_var s m p limit) ∷ [])),
             ones-terms (carries s m a) (below limit),
-            sum-le (λ t. length (carries s m a t).terms) (λ t. 3) limit (λ t l. omega (arith, length-at_least 1
-                (negative u ∷ (negative (step_var s m p t) ∷ (positive (step_var s m q (t + 1)) ∷ []))))),
+            sum-le (λ t. length (carries s m a t).terms) (λ t. 3) limit (λ t l. omega (
+              arith,
+              length-at_least 1
+                  (negative u ∷ (negative (step_var s m p t) ∷ (positive (step_var s m q (t + 1)) ∷ []))),
+            )),
             sum-same 3 limit,
           )
 
@@ -331,12 +372,22 @@ module _ (s : SpecValue) (m : ℕ) where
       mul-le_right k a b h = mul-le k a k b (omega arith) h
 
       each : (q t : ℕ) → length (has_cause s m q t).terms ≤ 1 + length (arcs_into s q)
-      each q t = omega (arith, length-at_least 1 (negative (step_var s m q (t + 1)) ∷ positives (map (step_at s m t) (neighbours s q))), length-map (map (step_at s m t) (neighbours s q)) positive,
-          length-map (neighbours s q) (step_at s m t), few_neighbours s q)
+      each q t = omega (
+        arith,
+        length-at_least 1 (negative (step_var s m q (t + 1)) ∷ positives (map (step_at s m t) (neighbours s q))),
+        length-map (map (step_at s m t) (neighbours s q)) positive,
+        length-map (neighbours s q) (step_at s m t),
+        few_neighbours s q,
+      )
 
       one : (q : ℕ) → terms_of (steps_have_cause s m q) ≤ limit + limit * length (arcs_into s q)
-      one q = omega (arith, ones-terms (has_cause s m q) (below limit), sum-le (λ t. length (has_cause s m q t).terms) (λ t. 1 + length (arcs_into s q)) limit (λ t l. each q t),
-          sum-same (1 + length (arcs_into s q)) limit, spread limit (length (arcs_into s q)))
+      one q = omega (
+        arith,
+        ones-terms (has_cause s m q) (below limit),
+        sum-le (λ t. length (has_cause s m q t).terms) (λ t. 1 + length (arcs_into s q)) limit (λ t l. each q t),
+        sum-same (1 + length (arcs_into s q)) limit,
+        spread limit (length (arcs_into s q)),
+      )
         where
           spread : (k a : ℕ) → k * (1 + a) ≡ k + k * a
           spread k a = omega arith
@@ -361,16 +412,34 @@ module _ (s : SpecValue) (m : ℕ) where
           let ros = receiver_options s m r in
           let us = arc_vars s m (arcs_from s r) in
           let last : List Term = positive (step_var s m r 0) ∷ (negative (covered_var s m r) ∷ []) in
-          omega (arith, terms-cons (at_least 1 (positives ros ++ positives us ++ last)) [], length-at_least 1 (positives ros ++ positives us ++ last),
-              length-append (positives ros ++ positives us) last, length-append (positives ros) (positives us), length-map ros positive, length-map us positive,
-              length-map (arcs_from s r) (arc_var s m))
+          omega (
+            arith,
+            terms-cons (at_least 1 (positives ros ++ positives us ++ last)) [],
+            length-at_least 1 (positives ros ++ positives us ++ last),
+            length-append (positives ros ++ positives us) last,
+            length-append (positives ros) (positives us),
+            length-map ros positive,
+            length-map us positive,
+            length-map (arcs_from s r) (arc_var s m),
+          )
 
 -- what allocates, and what uses what is allocated
 allocation-terms : (s : SpecValue) → terms_of (allocation s) ≤ 3 * length s.options + length s.resources + length s.links + length s.messages * (3 * length s.resources + 3 * length s.arcs)
 unfolding option_allocates cover_allocates resource_has_use cover_of arc_allocates link_has_use link_arcs on_resource of_link
 allocation-terms s =
-    omega (arith, terms-append (a ++ b ++ c ++ d) e, terms-append (a ++ b ++ c) d, terms-append (a ++ b) c, terms-append a b, options, covers, uses, arcs, links,
-        spread (length s.messages) (length s.resources) (length s.arcs))
+    omega (
+      arith,
+      terms-append (a ++ b ++ c ++ d) e,
+      terms-append (a ++ b ++ c) d,
+      terms-append (a ++ b) c,
+      terms-append a b,
+      options,
+      covers,
+      uses,
+      arcs,
+      links,
+      spread (length s.messages) (length s.resources) (length s.arcs),
+    )
   where
     a : List Linear
     a = map (option_allocates s) (below (length s.options))
@@ -391,39 +460,82 @@ allocation-terms s =
     spread m r a = omega arith
 
     options : terms_of a ≤ length s.options * 2
-    options = omega (arith, ones-terms (option_allocates s) (below (length s.options)), sum-le (λ o. length (option_allocates s o).terms) (λ o. 2) (length s.options)
-        (λ o l. omega (arith, length-at_least 1 (negative o ∷ (positive (resource_var s (option_at s o).resource) ∷ [])))), sum-same 2 (length s.options))
+    options = omega (
+      arith,
+      ones-terms (option_allocates s) (below (length s.options)),
+      sum-le (λ o. length (option_allocates s o).terms) (λ o. 2) (length s.options)
+          (λ o l. omega (arith, length-at_least 1 (negative o ∷ (positive (resource_var s (option_at s o).resource) ∷ [])))),
+      sum-same 2 (length s.options),
+    )
 
     covers : terms_of b ≤ length s.messages * (length s.resources * 2)
-    covers = omega (arith, pieces-terms (covers_allocate s) (messages_of s), sum-le (λ m. terms_of (covers_allocate s m)) (λ m. length s.resources * 2) (length s.messages)
-        (λ m l. omega (arith, ones-terms (cover_allocates s m) (resources_of s), sum-le (λ r. length (cover_allocates s m r).terms) (λ r. 2) (length s.resources)
-        (λ r k. omega (arith, length-at_least 1 (positive (resource_var s r) ∷ (negative (covered_var s m r) ∷ [])))), sum-same 2 (length s.resources))),
-        sum-same (length s.resources * 2) (length s.messages))
+    covers = omega (
+      arith,
+      pieces-terms (covers_allocate s) (messages_of s),
+      sum-le (λ m. terms_of (covers_allocate s m)) (λ m. length s.resources * 2) (length s.messages)
+          (λ m l. omega (
+            arith,
+            ones-terms (cover_allocates s m) (resources_of s),
+            sum-le (λ r. length (cover_allocates s m r).terms) (λ r. 2) (length s.resources)
+                (λ r k. omega (arith, length-at_least 1 (positive (resource_var s r) ∷ (negative (covered_var s m r) ∷ [])))),
+            sum-same 2 (length s.resources),
+          )),
+      sum-same (length s.resources * 2) (length s.messages),
+    )
 
     uses : terms_of c ≤ length s.options + length s.resources * (1 + length s.messages)
-    uses = omega (arith, ones-terms (resource_has_use s) (resources_of s), sum-le (λ r. length (resource_has_use s r).terms) (λ r. length (options_on s r) + (1 + length s.messages))
-        (length s.resources) (λ r l. one r), sum-plus (λ r. length (options_on s r)) (λ r. 1 + length s.messages) (length s.resources), sum-same (1 + length s.messages) (length s.resources),
-        all_classes (λ o. (option_at s o).resource) (length s.options) (length s.resources))
+    uses = omega (
+      arith,
+      ones-terms (resource_has_use s) (resources_of s),
+      sum-le (λ r. length (resource_has_use s r).terms) (λ r. length (options_on s r) + (1 + length s.messages))
+          (length s.resources) (λ r l. one r),
+      sum-plus (λ r. length (options_on s r)) (λ r. 1 + length s.messages) (length s.resources),
+      sum-same (1 + length s.messages) (length s.resources),
+      all_classes (λ o. (option_at s o).resource) (length s.options) (length s.resources),
+    )
       where
         one : (r : ℕ) → length (resource_has_use s r).terms ≤ length (options_on s r) + (1 + length s.messages)
         one r =
             let os = options_on s r in
             let rest = positives (map (cover_of s r) (messages_of s)) in
             let v = negative (resource_var s r) in
-            omega (arith, length-at_least 1 (positives os ++ v ∷ rest), length-append (positives os) (v ∷ rest), length-map os positive, length-map (map (cover_of s r) (messages_of s)) positive,
-                length-map (messages_of s) (cover_of s r), length-range_with_len 0 (length s.messages))
+            omega (
+              arith,
+              length-at_least 1 (positives os ++ v ∷ rest),
+              length-append (positives os) (v ∷ rest),
+              length-map os positive,
+              length-map (map (cover_of s r) (messages_of s)) positive,
+              length-map (messages_of s) (cover_of s r),
+              length-range_with_len 0 (length s.messages),
+            )
 
     arcs : terms_of d ≤ length s.messages * (length s.arcs * 2)
-    arcs = omega (arith, pieces-terms (arcs_allocate s) (messages_of s), sum-le (λ m. terms_of (arcs_allocate s m)) (λ m. length s.arcs * 2) (length s.messages)
-        (λ m l. omega (arith, ones-terms (arc_allocates s m) (below (length s.arcs)), sum-le (λ k. length (arc_allocates s m k).terms) (λ k. 2) (length s.arcs)
-        (λ k h. omega (arith, length-at_least 1 (negative (arc_var s m k) ∷ (positive (link_var s (arc_at s k).link) ∷ [])))), sum-same 2 (length s.arcs))),
-        sum-same (length s.arcs * 2) (length s.messages))
+    arcs = omega (
+      arith,
+      pieces-terms (arcs_allocate s) (messages_of s),
+      sum-le (λ m. terms_of (arcs_allocate s m)) (λ m. length s.arcs * 2) (length s.messages)
+          (λ m l. omega (
+            arith,
+            ones-terms (arc_allocates s m) (below (length s.arcs)),
+            sum-le (λ k. length (arc_allocates s m k).terms) (λ k. 2) (length s.arcs)
+                (λ k h. omega (arith, length-at_least 1 (negative (arc_var s m k) ∷ (positive (link_var s (arc_at s k).link) ∷ [])))),
+            sum-same 2 (length s.arcs),
+          )),
+      sum-same (length s.arcs * 2) (length s.messages),
+    )
 
     links : terms_of e ≤ length s.messages * length s.arcs + length s.links
-    links = omega (arith, ones-terms (link_has_use s) (below (length s.links)), sum-le (λ l. length (link_has_use s l).terms) (λ l. length s.messages * length (arcs_of s l) + 1) (length s.links)
-        (λ l k. one l), sum-plus (λ l. length s.messages * length (arcs_of s l)) (λ l. 1) (length s.links), sum-times (length s.messages) (λ l. length (arcs_of s l)) (length s.links),
-        sum-same 1 (length s.links), mul-le (length s.messages) (sum_by (λ l. length (arcs_of s l)) (below (length s.links))) (length s.messages) (length s.arcs) (omega arith)
-        (all_classes (λ k. (arc_at s k).link) (length s.arcs) (length s.links)))
+    links = omega (
+      arith,
+      ones-terms (link_has_use s) (below (length s.links)),
+      sum-le (λ l. length (link_has_use s l).terms) (λ l. length s.messages * length (arcs_of s l) + 1) (length s.links)
+          (λ l k. one l),
+      sum-plus (λ l. length s.messages * length (arcs_of s l)) (λ l. 1) (length s.links),
+      sum-times (length s.messages) (λ l. length (arcs_of s l)) (length s.links),
+      sum-same 1 (length s.links),
+      mul-le (length s.messages) (sum_by (λ l. length (arcs_of s l)) (below (length s.links))) (length s.messages) (length s.arcs) (omega arith)
+          (all_classes (λ k. (arc_at s k).link) (length s.arcs) (length s.links)),
+    )
       where
         long : (l : ℕ) (ms : List ℕ) → length (flat_map (link_arcs s l) ms) ≡ length ms * length (arcs_of s l)
         long l [] = omega arith
@@ -436,8 +548,14 @@ allocation-terms s =
         one : (l : ℕ) → length (link_has_use s l).terms ≤ length s.messages * length (arcs_of s l) + 1
         one l =
             let vs = flat_map (link_arcs s l) (messages_of s) in
-            omega (arith, length-at_least 1 (positives vs ++ negative (link_var s l) ∷ []), length-append (positives vs) (negative (link_var s l) ∷ []), length-map vs positive,
-                long l (messages_of s), ap (λ (n : ℕ). n * length (arcs_of s l)) (length-range_with_len 0 (length s.messages)))
+            omega (
+              arith,
+              length-at_least 1 (positives vs ++ negative (link_var s l) ∷ []),
+              length-append (positives vs) (negative (link_var s l) ∷ []),
+              length-map vs positive,
+              long l (messages_of s),
+              ap (λ (n : ℕ). n * length (arcs_of s l)) (length-range_with_len 0 (length s.messages)),
+            )
 
 -- a sum over the places of a list
 places-sum : {X : Type 0} (f : X → ℕ) (xs : List X) (x : X) (n : ℕ) → n ≤ length xs → sum_by (λ i. f (get_or xs i x)) (below n) ≡ sum_by f (take n xs)

@@ -63,7 +63,7 @@ find-below_here p n i l pi none = from n 0 i l (subst (λ (j : ℕ). p j ≡ tru
         let y : (a + 1) + i ≡ a + suc i = omega arith in
         ap (λ (b : Bool). cond b (Some a) (find p (range_with_len (a + 1) n))) (subst (λ (j : ℕ). p j ≡ false) z (none' 0 (omega arith)))
         ∙ (from n (a + 1) i (omega (arith, h)) (subst (λ (j : ℕ). p j ≡ true) (sym y) q) (λ k l. let x : a + suc k ≡ (a + 1) + k = omega arith in
-            subst (λ (j : ℕ). p j ≡ false) x (none' (suc k) (omega (arith, l))))
+        subst (λ (j : ℕ). p j ≡ false) x (none' (suc k) (omega (arith, l))))
         ∙ ap Some y)
 
 pub find-below_none : (p : ℕ → Bool) (n : ℕ) → ((k : ℕ) → k < n → p k ≡ false) → find p (below n) ≡ None
@@ -71,4 +71,4 @@ find-below_none p zero none = refl
 find-below_none p (suc n) none =
     subst (λ (k : ℕ). find p (below k) ≡ None) (add-one n)
     (ap (find p) (below-more n) ∙ (find-append p (below n) (n ∷ []) ∙ (ap (λ (o : Option ℕ). option_or o (find p (n ∷ []))) (find-below_none p n (λ k l. none k (omega (arith, l))))
-        ∙ ap (λ (b : Bool). cond b (Some n) None) (none n (omega arith)))))
+    ∙ ap (λ (b : Bool). cond b (Some n) None) (none n (omega arith)))))

@@ -64,14 +64,14 @@ pub sent_more : (s : SpecValue) (marks now next : List Bool) (m : ℕ) → sende
     → ((t : ℕ) → is_marked next t ≡ (is_marked now t || goes_to s t m)) → (t : ℕ) → is_marked next t ≡ is_sent_to s marks (m + 1) t
 sent_more s marks now next m sender before marked t =
     marked t ∙ (ap (λ (b : Bool). b || goes_to s t m) (before t) ∙ sym (any-those_more (sender_marked s marks) (goes_to s t) m
-        ∙ ap (λ (b : Bool). is_sent_to s marks m t || b) (ap (λ (b : Bool). goes_to s t m && b) sender ∙ and-true (goes_to s t m))))
+    ∙ ap (λ (b : Bool). is_sent_to s marks m t || b) (ap (λ (b : Bool). goes_to s t m && b) sender ∙ and-true (goes_to s t m))))
 
 -- one message more, whose sender isn't
 pub sent_same : (s : SpecValue) (marks now : List Bool) (m : ℕ) → sender_marked s marks m ≡ false → ((t : ℕ) → is_marked now t ≡ is_sent_to s marks m t) → (t : ℕ)
     → is_marked now t ≡ is_sent_to s marks (m + 1) t
 sent_same s marks now m sender before t =
     before t ∙ sym (any-those_more (sender_marked s marks) (goes_to s t) m ∙ (ap (λ (b : Bool). is_sent_to s marks m t || b)
-        (ap (λ (b : Bool). goes_to s t m && b) sender ∙ and-false (goes_to s t m)) ∙ or-false (is_sent_to s marks m t)))
+    (ap (λ (b : Bool). goes_to s t m && b) sender ∙ and-false (goes_to s t m)) ∙ or-false (is_sent_to s marks m t)))
 
 -- the mark of a message's sender
 pub sender_is : (s : SpecValue) (marks : List Bool) (m sender : ℕ) (b : Bool) → sender ≡ (message_at s m).sender → is_marked marks sender ≡ b → sender_marked s marks m ≡ b

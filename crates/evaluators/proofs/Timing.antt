@@ -10,8 +10,6 @@ use Rattle.evaluators.specs.Placed.{AreEnds, IsNoLater, EndsBy}
 use Rattle.evaluators.specs.declared.timetable.Timetable.{Timetable}
 use Rattle.evaluators.proofs.Greatest.{greatest-push, greatest-map_those_more}
 
-]
-
 -- a later bound
 pub later : (xs : List ℕ) (a b : ℕ) → a ≤ b → All (IsNoLater a) xs → All (IsNoLater b) xs
 later xs a b l all k d h = omega (arith, all k d h, l)
@@ -44,7 +42,7 @@ pub start_later : (g : ℕ → ℕ) (p : ℕ → Bool) (n first start at now : �
     → now ≡ max first (greatest (map g (those p (n + 1))))
 start_later g p n first start at now passes before here e =
     let more : greatest (map g (those p (n + 1))) ≡ max (greatest (map g (those p n))) (g n) = greatest-map_those_more g p n
-        ∙ ap (λ (b : Bool). cond b (max (greatest (map g (those p n))) (g n)) (greatest (map g (those p n)))) passes in
+    ∙ ap (λ (b : Bool). cond b (max (greatest (map g (those p n))) (g n)) (greatest (map g (those p n)))) passes in
     omega (arith, before, here, e, more)
 
 pub start_same : (g : ℕ → ℕ) (p : ℕ → Bool) (n first start : ℕ) → p n ≡ false → start ≡ max first (greatest (map g (those p n))) → start ≡ max first (greatest (map g (those p (n + 1))))

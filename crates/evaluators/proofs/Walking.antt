@@ -25,7 +25,7 @@ walk_length-found s f m to now i back l on =
     let whole : Walk s f m to (0 + i) = back.whole_of 0 on in
     let zero_left : 0 + i ≡ i = omega arith in
     ap (λ (o : Option ℕ). unwrap_or o 0) (find-below_here (has_walk_of s f m to) ((message_at s m).limit + 1) i l (ap (has_walk_of s f m to) (sym zero_left) ∙ test_some s f m to (0 + i) whole)
-        (λ k h. test_none s f m to k (back.none_shorter k h)))
+    (λ k h. test_none s f m to k (back.none_shorter k h)))
 
 none_below : (s : SpecValue) (f : Bits) (m to : ℕ) → ¬ WalkBelow s f m to ((message_at s m).limit + 1) → walk_length s f m to ≡ 0
 unfolding walk_length

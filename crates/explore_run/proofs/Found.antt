@@ -75,9 +75,9 @@ done_is_feasible e = absurd (cc)
 pub finds : LegalReadBack → DecodingsStayShown → (s : SpecValue) → IsFrameOf s (cover_frame s) → (wanted : WantedValue) (tools : ToolsValue) (calls : List ℕ) (last : Lcg) (run : Run) (end : End)
     (outcome : Outcome)
     → EndsBy s word_of next_of (measured_by tools wanted.chosen s) (seeded wanted.seed) last run wanted.rounds end → (end ≡ Infeasible) ↔ FindsNone s wanted.rounds → IsLogOf s run.log
-        → RoseBy (length run.history) wanted.chosen tools.calls calls
+    → RoseBy (length run.history) wanted.chosen tools.calls calls
     → outcome.ending ≡ ending_of end → outcome.text.items ≡ explored_text s (tags_at tools.tags wanted.chosen) (length run.history) run.archive.members end
-        → outcome.writes ≡ files_of wanted.proof run.log → Finds wanted tools calls s outcome
+    → outcome.writes ≡ files_of wanted.proof run.log → Finds wanted tools calls s outcome
 finds back law s frame wanted tools calls last run Done outcome h causes of counted ending text writes =
     let len : length run.history ≡ length h.entries = ap length h.history_is ∙ length-map h.entries vector_in in
     inl (record {
@@ -107,9 +107,9 @@ pub finds_from : LegalReadBack → DecodingsStayShown → (s : SpecValue) → Is
     (tags : List (List ℕ)) (start last : Lcg) (run : Run) (outcome : Outcome)
     → rounds ≡ wanted.rounds → chosen ≡ wanted.chosen → tags ≡ tools.tags → start ≡ seeded wanted.seed
     → EndsBy s word_of next_of (measured_by tools chosen s) start last run rounds run.end → (run.end ≡ Infeasible) ↔ FindsNone s rounds → IsLogOf s run.log
-        → RoseBy (length run.history) chosen tools.calls calls
+    → RoseBy (length run.history) chosen tools.calls calls
     → outcome.ending ≡ ending_of run.end → outcome.text.items ≡ explored_text s (tags_at tags wanted.chosen) (length run.history) run.archive.members run.end
-        → outcome.writes ≡ files_of wanted.proof run.log → Finds wanted tools calls s outcome
+    → outcome.writes ≡ files_of wanted.proof run.log → Finds wanted tools calls s outcome
 finds_from back law s frame wanted tools calls rounds chosen tags start last run outcome rounds_is chosen_is tags_is start_is ends causes of counted ending text writes =
     let by_rounds = subst (λ (n : ℕ). EndsBy s word_of next_of (measured_by tools chosen s) start last run n run.end) rounds_is ends in
     let by_chosen = subst (λ (ps : List ℕ). EndsBy s word_of next_of (measured_by tools ps s) start last run wanted.rounds run.end) chosen_is by_rounds in

@@ -25,7 +25,7 @@ end_ranked end e (h ∷ before) = e h.words before
 -- the rules stand in their order where those of what follows the header do
 pub in_order_headed : (is_header : Words → Bool) (later : Later) (end : End)
     → ((header : Words) (before : List Statement) (ws : Words) → IsRanked (rank NoHeader) (later header before ws))
-        → ((header : Words) (before : List Statement) → IsRanked (rank NoHeader) (end header before))
+    → ((header : Words) (before : List Statement) → IsRanked (rank NoHeader) (end header before))
     → AreInOrder (headed_rules is_header later end)
 in_order_headed is_header later end s e = in_order (after_header is_header later) (end_after_header end) (statement_ranked is_header later s) (end_ranked end e)
 

@@ -56,8 +56,12 @@ pub filled_line : (start now : Option Files) (name : List ℕ) (ls : List Line) 
 filled_line start now name ls i piece longer lt e h =
     let l : List ℕ = line_text (line_at ls i) in
     leaves_rewrites start now name (Filled ls i piece) (Filled ls (i + 1) longer)
-    (λ u v k. record { gained = k.gained; more = k.more; text = ap (λ (t : List ℕ). k.gained ++ t) e
-        ∙ (sym (append_assoc k.gained piece l) ∙ (ap (λ (t : List ℕ). t ++ l) k.text ∙ sym (text_goes_on ls i lt))) }) h
+    (λ u v k. record {
+      gained = k.gained;
+      more = k.more;
+      text = ap (λ (t : List ℕ). k.gained ++ t) e
+          ∙ (sym (append_assoc k.gained piece l) ∙ (ap (λ (t : List ℕ). t ++ l) k.text ∙ sym (text_goes_on ls i lt)));
+    }) h
 
 -- what a piece adds to a file
 gained_more : (u v w gained piece : List ℕ) → v ≡ u ++ gained → w ≡ v ++ piece → w ≡ u ++ (gained ++ piece)
@@ -96,6 +100,6 @@ filled_cut start now new name ls i piece h k =
     let front : List ℕ = take appends.0 piece in
     let rest : List ℕ = drop appends.0 piece in
     let text : (filled.gained ++ front) ++ rest ≡ proof_text (take i ls) = append_assoc filled.gained front rest
-        ∙ (ap (λ (t : List ℕ). filled.gained ++ t) (take-append-drop appends.0 piece) ∙ filled.text) in
+    ∙ (ap (λ (t : List ℕ). filled.gained ++ t) (take-append-drop appends.0 piece) ∙ filled.text) in
     gains_part ls i (filled.gained ++ front) rest u w (gained_more u v w filled.gained front filled.more appends.1) text)
     h (of_edits now new name (AppendsPrefix piece) k)

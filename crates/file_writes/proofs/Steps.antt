@@ -13,7 +13,7 @@ cut_at : (ws : List Write) (k : ℕ) (w : Write) → k < length ws → map file_
 cut_at ws k w lt =
     let e : suc k ≡ k + 1 = omega arith in
     let split : ws ≡ take k ws ++ get_or ws k w ∷ drop (k + 1) ws = sym (take-append-drop k ws) ∙ ap (λ (xs : List Write). take k ws ++ xs)
-        (drop-cons ws k w lt ∙ ap (λ (n : ℕ). get_or ws k w ∷ drop n ws) e) in
+    (drop-cons ws k w lt ∙ ap (λ (n : ℕ). get_or ws k w ∷ drop n ws) e) in
     ap (map file_of) split ∙ map-append file_of (take k ws) (get_or ws k w ∷ drop (k + 1) ws)
 
 -- the name at a place is none of those before
@@ -37,4 +37,4 @@ writes_cut start now new ws k w lt d h r =
     let rest : Files = map file_of (drop (k + 1) ws) in
     subst (λ (fs : Files). Leaves start new (ArePartlyWritten fs)) (sym (cut_at ws k w lt))
     (leaves_and start now new (AreWritten done) (Rewrites file.0 (KeepsOrBecomesPart file.1)) (ArePartlyWritten (done ++ file ∷ rest))
-        (λ x y z p q. cut done file rest x y z (new_at ws k w lt d) p q) h r)
+    (λ x y z p q. cut done file rest x y z (new_at ws k w lt d) p q) h r)

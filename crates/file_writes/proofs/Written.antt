@@ -24,7 +24,7 @@ differ a b ne =
 head_apart : (f : File) (fs : Files) (name : List ℕ) → file_at (f ∷ fs) name ≡ None → (bytes_eq name f.0 ≡ false) × (file_at fs name ≡ None)
 head_apart f fs name =
     let go : (r : Bool) → bytes_eq name f.0 ≡ r → cond r (Some f.1) (file_at fs name) ≡ None → (bytes_eq name f.0 ≡ false) × (file_at fs name ≡ None) =
-        elim [ true ↦ λ is e. absurd (cc) | false ↦ λ is e. (is, e) ] in
+    elim [ true ↦ λ is e. absurd (cc) | false ↦ λ is e. (is, e) ] in
     go (bytes_eq name f.0) refl
 
 none_at : (files : Files) (name : List ℕ) → file_at files name ≡ None → All (λ f. f.0 ≢ name) files

@@ -109,7 +109,7 @@ level_is title R words d =
     rw (no_faults (settled R end).rows R d) refl in
     none-or_else (walk_fault s [] (walk_from nothing_held) words) (or_else (settle_fault R false end) (or_else (defaults_fault (settled R end).rows R) (check_fault s (finished R end) false)))
     ∙ ap (λ b. none (walk_fault s [] (walk_from nothing_held) words) && b) (none-or_else (settle_fault R false end)
-        (or_else (defaults_fault (settled R end).rows R) (check_fault s (finished R end) false)))
+    (or_else (defaults_fault (settled R end).rows R) (check_fault s (finished R end) false)))
     ∙ sym (and_assoc (none (walk_fault s [] (walk_from nothing_held) words)) (none (settle_fault R false end)) _)
     ∙ ap₂ (λ a b. a && b) (passes_is s (walk_from nothing_held) words refl) (last ∙ checks)
 

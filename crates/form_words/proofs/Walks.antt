@@ -211,10 +211,10 @@ module _ (title : Text) (R : List Rule) (options : List Text) where
       ≡ (settles rows pending && none (use_fault false (taker n long i required) (v ∷ []) (settled_rows R pending rows)))
   given_turn rows pending waiting p x n v long i required (inl w) e l a =
       rw (w, e, l, a) (none-or_else (or_else (settle_fault R false (held rows pending)) (use_fault false (taker n long i required) (v ∷ []) (settled_rows R pending rows))) [] ∙ and-true _
-          ∙ none-or_else _ _)
+      ∙ none-or_else _ _)
   given_turn rows pending waiting p x n v long i required (inr w) e l a =
       rw (w.1, e, l, a) (none-or_else (or_else (settle_fault R false (held rows pending)) (use_fault false (taker n long i required) (v ∷ []) (settled_rows R pending rows))) [] ∙ and-true _
-          ∙ none-or_else _ _)
+      ∙ none-or_else _ _)
 
   given_next : (rows : List Row) (pending : Pending) (waiting : Waiting) (p : ℕ) (x n v : Text) (long : Option Text) (i : Option ℕ) (required : Bool) → Asks waiting
       → bytes_eq x hyphens ≡ false → long_of x ≡ Some (n, Some v) → arg_by_long R n ≡ Some (taker n long i required)
@@ -347,7 +347,7 @@ module _ (title : Text) (R : List Rule) (options : List Text) where
           (given_turn rows pending idle p x n v (Some n) None by.0 (inl refl) e l by.1)
           (given_next rows pending idle p x n v (Some n) None by.0 (inl refl) e l by.1) in
           let l2 : passes s (state (settled_rows R pending rows) None idle false p) (x ∷ xs) ≡ ((true && f) && passes s nw xs) =
-              step_passes (state (settled_rows R pending rows) None idle false p) nw x xs _
+          step_passes (state (settled_rows R pending rows) None idle false p) nw x xs _
           (given_turn (settled_rows R pending rows) None idle p x n v (Some n) None by.0 (inl refl) e l by.1)
           (given_next (settled_rows R pending rows) None idle p x n v (Some n) None by.0 (inl refl) e l by.1) in (
             l1 ∙ and_assoc (settles rows pending) f (passes s nw xs) ∙ ap (λ b. settles rows pending && b) (sym l2),
@@ -359,14 +359,14 @@ module _ (title : Text) (R : List Rule) (options : List Text) where
       by_look_of ends k places has =
           let rest = lag_ended xs rows pending idle p places has in
           let l1 = step_passes (state rows pending idle false p) (state rows pending idle true p) x xs true (ends_turn rows pending idle p x (inl refl) k)
-              (ends_next rows pending idle p x (inl refl) k) in
+          (ends_next rows pending idle p x (inl refl) k) in
           let l2 = step_passes (state (settled_rows R pending rows) None idle false p) (state (settled_rows R pending rows) None idle true p) x xs true
           (ends_turn (settled_rows R pending rows) None idle p x (inl refl) k) (ends_next (settled_rows R pending rows) None idle p x (inl refl) k) in (
             l1 ∙ rest.0 ∙ ap (λ b. settles rows pending && b) (sym l2),
             λ ok. step_rows (state rows pending idle false p) (state rows pending idle true p) x xs (ends_next rows pending idle p x (inl refl) k)
                 ∙ rest.1 (sym l1 ∙ ok)
                 ∙ sym (step_rows (state (settled_rows R pending rows) None idle false p) (state (settled_rows R pending rows) None idle true p) x xs
-                    (ends_next (settled_rows R pending rows) None idle p x (inl refl) k)),
+                (ends_next (settled_rows R pending rows) None idle p x (inl refl) k)),
           )
       by_look_of (option n v) k places has = by_option n v (has_text options n) (serves.by_name n) k.0 k.1
       by_look_of dashed k places has =

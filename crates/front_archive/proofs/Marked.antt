@@ -110,5 +110,3 @@ keeps_columns members columns ms are = record {
   same = ap (unmarked ms) are.same ∙ vectors-unmarked ms members;
   widths = All-unmarked (HasWidth columns.width) ms members are.widths;
 }
-
-}

@@ -50,6 +50,6 @@ whole_is_longest s whole found w p =
       | inl longer ↦
           let same : whole ≡ take (length whole) found = found_is_one s whole found w.prefix p (omega (arith, longer)) in
           let next : IsNext s (vectors_in whole) (get_or found (length whole) none_of) = subst (λ (es : List EntryValue). IsNext s (vectors_in es) (get_or found (length whole) none_of)) (sym same)
-              (p (length whole) none_of longer) in
+          (p (length whole) none_of longer) in
           absurd (w.none_left (bits_of (get_or found (length whole) none_of).design) next.first.meets)
     ]

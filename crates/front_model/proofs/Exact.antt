@@ -88,11 +88,11 @@ refuted s us ls x wf r valid none =
     let whole : All (MayStand s us) (r.early ++ derived r.last ∷ []) = subst (λ (ks : List Line). All (MayStand s us) ks) r.whole r.covers in
     let early : All (MayStand s us) r.early = All-left (MayStand s us) r.early (derived r.last ∷ []) whole in
     let open_each : All (OfCover (LeavesOpen s one.model)) r.early = All-weaker (MayStand s us) (OfCover (LeavesOpen s one.model))
-        (leaves s us one.model x (same_vector s one.model x one.only.same) none) r.early early in
+    (leaves s us one.model x (same_vector s one.model x one.only.same) none) r.early early in
     let made = all_extend s r.early one.model wf one.only.holds open_each in
     let f = cover_frame s in
     let given : IsModel r.before.constraints made.values = given-sound made.values f (base_of f) r.before r.early r.legal (models-front made.values f.base (blocks_by f r.early) made.model)
-        (models-back made.values f.base (blocks_by f r.early) made.model) in
+    (models-back made.values f.base (blocks_by f r.early) made.model) in
     empty_clash made.values r.clash r.clashes (line-sound made.values (context_of r.before) r.last r.clash (under-holds (Holds made.values) r.before.constraints given) r.gives)
 
 pub reached : (s : SpecValue) (us : List (List ℕ)) (ls : List Line) (x : Bits) → IsWellFormed s → Refute s us ls → IsValid s x → HasBelow us (vector_of s x)

@@ -213,7 +213,7 @@ of_proves s us text x =
     let legal = given-push f (base_of f) r.before r.early r.last r.clash r.legal r.gives in
     let cut = file_cut text ls (ap (λ (t : List ℕ). lines_in t) (x.is ∙ ap proof_text r.whole) ∙ read_again ls (lines_are f (base_of f) (with_derived r.before r.clash) ls legal)) in
     ap (λ (ps : List (List ℕ)). verdict_of (take_lines s us (begun s) ps)) cut.cut ∙ back s us r.early r.last cut.more 1 (base_of f) r.before false r.clash refl cut.said early r.legal r.gives
-        r.clashes
+    r.clashes
 
 pub judged_exactly : JudgedExactly
 judged_exactly s us text = (proves_of s us text (pieces text) (pieces_join text) (pieces_cut text), of_proves s us text)

@@ -76,7 +76,7 @@ finds back s wanted budget found front log ends.Budget outcome given few prefix 
   is_open = complete;
   proof = proof_text log.lines;
   lines = of_lines back (LinesUseUp s found budget) (cover_frame s) log.lines (says.honest.honest.after, says.honest.honest.legal)
-  (record { covers = covers; count = says.used_up; honest = says.honest });
+      (record { covers = covers; count = says.used_up; honest = says.honest });
   writes = writes;
   says = text ∙ said_open front.complete (length front.entries) complete;
 })

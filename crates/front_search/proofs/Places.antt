@@ -74,8 +74,6 @@ kept_less found early front e h dominated = record {
   rising = h.rising;
 }
 
-}
-
 pub kept_all : (found early front : List EntryValue) → early ≡ found → AreKeptOf found early front → AreUndominated found front
 kept_all found early front e h = record {
   only = h.only;

@@ -115,7 +115,7 @@ pub record HasSolved (s : SpecValue) (old new : SolverValue) (ls : List Line) : 
 pub searching_solved : (s : SpecValue) (found : List EntryValue) (old new : SolverValue) (ls : List Line) → IsSearching s found old → HasSolved s old new ls → IsSearching s found new
 searching_solved s found old new ls h x =
     let blocks : blocks_by (cover_frame s) new.log.lines ≡ blocks_by (cover_frame s) old.log.lines = ap (blocks_from (cover_frame s) 0) x.lines_are
-        ∙ blocks-derived (cover_frame s) 0 old.log.lines ls x.derived_each in
+    ∙ blocks-derived (cover_frame s) 0 old.log.lines ls x.derived_each in
     record {
       variables_are = x.variables_same ∙ h.variables_are;
       given_are = ap constraints_of x.given_same ∙ (h.given_are ∙ sym (ap (λ (cs : List Linear). encoding s ++ cs) blocks));
@@ -192,7 +192,7 @@ refutes s found old new ls g h base stand e each legal whole r = go r.last r.spl
         let steps : given_from (cover_frame s) g r.steps ≡ Some front.0 = subst (λ (k : Given). given_from (cover_frame s) k r.steps ≡ Some front.0) (sym same) mid.2 in
         let one = first-line (cover_frame s) front.0 h (derived ops) [] front.2 in
         last_of ops split front.0 front.1 steps (goes (cover_frame s) front.0 one.0 (derived ops) one.1)
-            (subst (λ (ms : List Line). derived_from (cover_frame s) g ms ≡ derived_from (cover_frame s) g r.steps ++ contradiction ∷ []) q r.contradicts)
+        (subst (λ (ms : List Line). derived_from (cover_frame s) g ms ≡ derived_from (cover_frame s) g r.steps ++ contradiction ∷ []) q r.contradicts)
       where
         some_same : (a b : Given) → Some a ≡ Some b → a ≡ b
         some_same a b q = cc
@@ -269,7 +269,7 @@ searching_covered s found e id old new wf h next x =
     let sized : length block ≡ length v + 1 = a.frame.sized (b + 1) v in
     let old_stand : All (StandsIn (context_of after)) old.given = stands-on f g after (cover v ∷ []) old.given (given-cover f g g [] v refl small) a.stand in
     let new_there : All (StandsIn (context_of after)) (numbered id block) = numbered-stand after id g.constraints block (ap (λ (cs : List Linear). g.constraints ++ cs) blocks) place
-        (omega (arith, x.small, sized)) in
+    (omega (arith, x.small, sized)) in
     let len : length (found ++ e ∷ []) ≡ length found + 1 = length_push found e in
     let number : 0 + b + 1 ≡ b + 1 = omega arith in
     record {
@@ -277,7 +277,7 @@ searching_covered s found e id old new wf h next x =
       given_are =
           ap constraints_of x.given_more ∙ (map-append (λ (c : Content). c.constraint) old.given (numbered id block) ∙ (ap₂ (λ (cs ds : List Linear). cs ++ ds) h.given_are (numbered_back id block)
           ∙ (append_assoc (encoding s) (blocks_by f old.log.lines) block ∙ sym (ap (λ (cs : List Linear). encoding s ++ cs)
-              (ap (blocks_from f 0) lines_are ∙ (blocks-cover f 0 old.log.lines v ∙ ap (λ (n : ℕ). blocks_from f 0 old.log.lines ++ block_of s n v) number))))));
+          (ap (blocks_from f 0) lines_are ∙ (blocks-cover f 0 old.log.lines v ∙ ap (λ (n : ℕ). blocks_from f 0 old.log.lines ++ block_of s n v) number))))));
       covers_are = ap covers_of lines_are ∙ (covers-append old.log.lines (cover v ∷ []) ∙ (ap (λ (us : List (List ℕ)). us ++ v ∷ []) h.covers_are ∙ sym (map-append vector_in found (e ∷ []))));
       agrees = record {
         frame = a.frame;
@@ -344,7 +344,7 @@ given-next start now next first cs i id x l read e is step =
     let one : List Content = record { constraint = x; proof_id = id } ∷ [] in
     step ∙ (ap (λ (sv : SolverValue). record sv { given = sv.given ++ one }) is
     ∙ ap (λ (ds : List Content). record start { given = ds }) (append_assoc start.given (numbered first (take i cs)) one
-        ∙ ap (λ (ds : List Content). start.given ++ ds) (sym (numbered-next first cs i id x l read e))))
+    ∙ ap (λ (ds : List Content). start.given ++ ds) (sym (numbered-next first cs i id x l read e))))
 
 pub block_given : (log new : LogValue) (v : List ℕ) (first i : ℕ) → new ≡ record log { lines = log.lines ++ cover v ∷ [] } → first ≡ next_id log → 0 < next_id log → i < length v + 1
     → IsGivenId new (first + i)

@@ -80,7 +80,7 @@ module _ (s : SpecValue) (found : List EntryValue) (old new : SolverValue) (orde
 
   pub model_turn : (n : ℕ) (values : List Bool) (e : EntryValue) (first : IsFirst (constraints_of old.given) order values)
       → IsOrderOf (natural (design_variables s)) n order → design_variables s ≤ n → length e.design ≡ design_variables s → e.design ≡ take (design_variables s) values
-          → e.vector ≡ vector_of s (bits_of e.design)
+      → e.vector ≡ vector_of s (bits_of e.design)
       → IsNext s (vectors_in found) e
   model_turn n values e first o few len part vector =
       let is_first : IsFirstModel (searched s old.log.lines) order (bits_of values) = subst (λ (cs : List Linear). IsFirstModel cs order (bits_of values)) h.given_are first.first in
@@ -114,8 +114,12 @@ module _ (s : SpecValue) (found : List EntryValue) (old new : SolverValue) (orde
       record {
         used_up = all;
         small =
-            λ vs each. (let few = found_are_few s found vs h.prefix each in omega (arith, all, most,
-            most_grows s (length found + 1) (length vs + 1) (length found) (length vs) (omega (arith, few)) few));
+            λ vs each. (let few = found_are_few s found vs h.prefix each in omega (
+              arith,
+              all,
+              most,
+              most_grows s (length found + 1) (length vs + 1) (length found) (length vs) (omega (arith, few)) few,
+            ));
         honest = honest_log s new.log.lines said.0 said.1;
       }
 
@@ -124,7 +128,7 @@ module _ (s : SpecValue) (found : List EntryValue) (old new : SolverValue) (orde
   last_gives g legal r =
       ap (λ (v : LogValue). derived_by (cover_frame s) v.lines) goes.kept ∙ (derived-append (cover_frame s) (base_of (cover_frame s)) g old.log.lines (new_lines old.log new.log) legal
       ∙ (ap (λ (cs : List Linear). derived_by (cover_frame s) old.log.lines ++ cs) r.contradicts ∙ sym
-          (append_assoc (derived_by (cover_frame s) old.log.lines) (derived_from (cover_frame s) g r.steps) (contradiction ∷ []))))
+      (append_assoc (derived_by (cover_frame s) old.log.lines) (derived_from (cover_frame s) g r.steps) (contradiction ∷ []))))
 
   pub nothing_turn : (answer : Answer) → answer ≡ answers.Nothing → covers_of new.log.lines ≡ vectors_in found → AnswersInFrames old new order answer
       → AnswerSays (constraints_of old.given) order answer → CountSays old.variables left (length (new_lines old.log new.log)) answer → EndSays s budget found new.log.lines ends.Complete

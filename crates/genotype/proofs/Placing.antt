@@ -163,7 +163,7 @@ order_is genes variables front order fits led is =
     let total : length order ≡ variables = ap length is ∙ omega (arith, length-append front others, others_len, count, fits) in
     let owns : All (IsOwn genes) front = All-permutation (IsOwn genes) own front led.permutation (own_literals genes) in
     let front_at : (i : ℕ) (d : Literal) → i < n → get_or order i d ≡ get_or front i d = λ i d lt. ap (λ (xs : List Literal). get_or xs i d) is
-        ∙ get_or_append_left front others d i (omega (arith, lt, count)) in
+    ∙ get_or_append_left front others d i (omega (arith, lt, count)) in
     let own_at : (i : ℕ) (d : Literal) → i < n → IsOwn genes (get_or order i d) = λ i d lt. subst (IsOwn genes) (sym (front_at i d lt)) (owns i d (omega (arith, lt, count))) in
     record {
       len = total;

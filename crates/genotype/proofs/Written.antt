@@ -46,9 +46,13 @@ abbrev gene_body : ℕ → GeneValue → List ℕ
 gene_body v g = codes "gene" ++ 32 ∷ (decimal v ++ 32 ∷ (decimal g.priority ++ 32 ∷ (phase_digit g.phase ∷ [])))
 
 gene_word : IsWritten (codes "gene")
-gene_word =
-    (letter 103 (omega arith) (omega arith) (omega arith), (letter 101 (omega arith) (omega arith) (omega arith),
-    (letter 110 (omega arith) (omega arith) (omega arith), (letter 101 (omega arith) (omega arith) (omega arith), tt))))
+gene_word = (
+  letter 103 (omega arith) (omega arith) (omega arith),
+  (
+    letter 101 (omega arith) (omega arith) (omega arith),
+    (letter 110 (omega arith) (omega arith) (omega arith), (letter 101 (omega arith) (omega arith) (omega arith), tt)),
+  ),
+)
 
 body_line : (v : ℕ) (g : GeneValue) → v < 2 ^ 63 → g.priority < 2 ^ 32 → IsLine (gene_body v g)
 body_line v g lt small =
@@ -152,14 +156,14 @@ genes_read n (g ∷ rest) front number v head done len total few small least so_
           let numbers = stated_gene v g small_v here in
           let text : genes_text v (g ∷ rest) ≡ gene_body v g ++ 10 ∷ genes_text (v + 1) rest = rw written (line_body v g (genes_text (v + 1) rest)) in
           let fine : first_broken (statement n (head ∷ done) (gene_words v g)) ≡ None = ap (λ (stated : Option Stated). first_broken (stated_tests n (least_from 0 done) stated)) numbers
-              ∙ gene_fine n (least_from 0 done) v g below_n least here in
+          ∙ gene_fine n (least_from 0 done) v g below_n least here in
           let next_least : least_from 0 (done ++ s ∷ []) ≡ v + 1 = least_from-push 0 done s ∙ ap (least_after (least_from 0 done)) numbers in
           let set_here : with_stated (front ++ plain_gene ∷ tail) (Some (numbers_of v g)) ≡ front ++ g ∷ tail =
           ap (λ (x : GeneValue). slice_set (front ++ plain_gene ∷ tail) v x) (gene_back g.priority g.phase) ∙ ap (λ (k : ℕ). slice_set (front ++ plain_gene ∷ tail) k g) (sym len)
-              ∙ set-append_seam front plain_gene tail g in
+          ∙ set-append_seam front plain_gene tail g in
           let seen : with_all (natural n) (done ++ s ∷ []) ≡ (front ++ g ∷ []) ++ tail =
           with_all-push (natural n) done s ∙ ap (with_stated (with_all (natural n) done)) numbers ∙ ap (λ (genes : List GeneValue). with_stated genes (Some (numbers_of v g))) so_far ∙ set_here
-              ∙ sym (append_assoc front (g ∷ []) tail) in
+          ∙ sym (append_assoc front (g ∷ []) tail) in
           let more = genes_read n rest (front ++ g ∷ []) (number + 1) (v + 1) head (done ++ s ∷ []) longer count few others (omega (arith, next_least)) seen in
           record {
             all = more.all;
@@ -171,10 +175,25 @@ genes_read n (g ∷ rest) front number v head done len total few small least so_
     ]
 
 header_word : IsWritten (codes "genotype")
-header_word = (letter 103 (omega arith) (omega arith) (omega arith), (letter 101 (omega arith) (omega arith) (omega arith),
-    (letter 110 (omega arith) (omega arith) (omega arith), (letter 111 (omega arith) (omega arith) (omega arith),
-    (letter 116 (omega arith) (omega arith) (omega arith), (letter 121 (omega arith) (omega arith) (omega arith),
-    (letter 112 (omega arith) (omega arith) (omega arith), (letter 101 (omega arith) (omega arith) (omega arith), tt))))))))
+header_word = (
+  letter 103 (omega arith) (omega arith) (omega arith),
+  (
+    letter 101 (omega arith) (omega arith) (omega arith),
+    (
+      letter 110 (omega arith) (omega arith) (omega arith),
+      (
+        letter 111 (omega arith) (omega arith) (omega arith),
+        (
+          letter 116 (omega arith) (omega arith) (omega arith),
+          (
+            letter 121 (omega arith) (omega arith) (omega arith),
+            (letter 112 (omega arith) (omega arith) (omega arith), (letter 101 (omega arith) (omega arith) (omega arith), tt)),
+          ),
+        ),
+      ),
+    ),
+  ),
+)
 
 text_read : (genes : List GeneValue) → length genes < 2 ^ 63 → All HasPriority genes → Gives (length genes) (run (genotype_rules (length genes)) 1 [] (lines (genotype_text genes))) genes
 text_read genes few small =
@@ -184,7 +203,7 @@ text_read genes few small =
     let one : IsWritten (codes "1") = (letter 49 (omega arith) (omega arith) (omega arith), tt) in
     let line = line_parts (codes "genotype") (codes "1") header_word (word_line (codes "1") one) in
     let words_are : texts (words_from 0 body) ≡ ws = first_word (codes "genotype") (codes "1") 0 (omega arith) header_word
-        ∙ ap (λ (w : Words). codes "genotype" ∷ w) (last_word (codes "1") _ (omega arith) one) in
+    ∙ ap (λ (w : Words). codes "genotype" ∷ w) (last_word (codes "1") _ (omega arith) one) in
     let states = line_states body (codes "genotype") (codes "1" ∷ []) line (omega arith) words_are in
     let head : Statement = record { number = 1; words = ws } in
     let start : with_all (natural n) [] ≡ [] ++ replicate (length genes) plain_gene = refl in

@@ -31,22 +31,30 @@ pub record IsFilled (clock : ℕ) (old : SpecValue) (gs : List Graph) (p : SpecV
   pub tasks : length p.tasks ≡ sum_by task_count gs
   pub messages : length p.messages ≡ sum_by arc_count gs
 
-}
-
 -- ---- one graph more
 
 of_more : {X : Type 0} (in_plan : X → Name) (own_name : X → Name) (gs : List Graph) (g : Graph) (names : List Name) (xs : List X)
     → ((x : X) → in_plan x ≡ name_in g.index (own_name x)) → ((xs : List X) (name : Name) → Contains (map in_plan xs) name → (x : X) × (in_plan x ≡ name)) → AreOf gs names
-        → AreOf (gs ++ g ∷ []) (names ++ map in_plan xs)
+    → AreOf (gs ++ g ∷ []) (names ++ map in_plan xs)
 of_more in_plan own_name gs g names xs is from all name c =
     let more : map graph_index (gs ++ g ∷ []) ≡ map graph_index gs ++ g.index ∷ [] = map_push graph_index gs g in
     elim (Contains-append_cases names (map in_plan xs) name c) [
       | inl t ↦ let o =
-          all name t in record { index = o.index; among = subst (λ (ns : List ℕ). Contains ns o.index) (sym more) (Contains-append_left (map graph_index gs) (g.index ∷ []) o.index o.among); own =
-          o.own; is = o.is }
+          all name t in record {
+            index = o.index;
+            among = subst (λ (ns : List ℕ). Contains ns o.index) (sym more) (Contains-append_left (map graph_index gs) (g.index ∷ []) o.index o.among);
+            own =
+                o.own;
+            is = o.is;
+          }
       | inr t ↦ let x =
-          from xs name t in record { index = g.index; among = subst (λ (ns : List ℕ). Contains ns g.index) (sym more) (Contains-push (map graph_index gs) g.index); own = own_name x.0; is = sym x.1
-          ∙ is x.0 }
+          from xs name t in record {
+            index = g.index;
+            among = subst (λ (ns : List ℕ). Contains ns g.index) (sym more) (Contains-push (map graph_index gs) g.index);
+            own = own_name x.0;
+            is = sym x.1
+                ∙ is x.0;
+          }
     ]
 
 mapped : {X : Type 0} (f : X → Name) (xs : List X) (name : Name) → Contains (map f xs) name → (x : X) × (f x ≡ name)

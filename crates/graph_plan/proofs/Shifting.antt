@@ -77,7 +77,7 @@ never_closes first older arcs i arc before none l at x =
     let so_far = take i arcs in
     let ms : List Message = messages_of so_far ++ own_message arc ∷ [] in
     let way : Chain (older ++ map (message_of first) so_far) x.reaches.hops (first + arc.to) (first + arc.from) =
-        subst (λ (s : ℕ). Chain (older ++ map (message_of first) so_far) x.reaches.hops s (first + arc.from)) (sym (among_one (first + arc.to) x.start x.among)) x.reaches.chain in
+    subst (λ (s : ℕ). Chain (older ++ map (message_of first) so_far) x.reaches.hops s (first + arc.from)) (sym (among_one (first + arc.to) x.start x.among)) x.reaches.chain in
     let lead : Leads (messages_of so_far) (arc.to ∷ []) arc.from = record {
       start = arc.to;
       among = (0, omega arith, refl);

@@ -2,7 +2,8 @@
 use Rattle.std.specs.Prelude.{ℕ, ◌+◌, ◌-◌, ◌^◌, min, List, [], ◌∷◌, ◌++◌, length, map, fold, Option, Some, decimal}
 use Rattle.std.specs.List.{flat_map}
 use Rattle.spec_model.specs.Spec.{Name, SpecValue, Message, Deadline}
-use Rattle.arch_reader.specs.Numbers.{at_scale, greatest}
+use Rattle.spec_model.specs.Limits.{most_number}
+use Rattle.arch_reader.specs.Numbers.{at_scale}
 use Rattle.tgff_reader.specs.declared.file.Graph.{Graph}
 use Rattle.tgff_reader.specs.declared.file.TgffTask.{TgffTask}
 use Rattle.tgff_reader.specs.declared.file.TgffArc.{TgffArc}
@@ -27,7 +28,7 @@ message_of first arc = record { sender = first + arc.from; receivers = (first + 
 
 -- the deadline at the clock's scale, cut toward zero; one below zero counts as 0, and one that is too big as the greatest
 abbrev pub deadline_of : ℕ → ℕ → TgffDeadline → Deadline
-deadline_of clock first deadline = record { task = first + deadline.task; time = min (at_scale clock deadline.at) greatest }
+deadline_of clock first deadline = record { task = first + deadline.task; time = min (at_scale clock deadline.at) most_number }
 
 -- a plan with the tasks, arcs and deadlines of one more graph
 abbrev pub with_graph : ℕ → SpecValue → Graph → SpecValue

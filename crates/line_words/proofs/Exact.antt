@@ -49,7 +49,7 @@ cut : (ds : List ℕ) (keep j : ℕ) → AllDigits 10 ds → keep + j ≡ length
 cut ds keep j h e =
     let len : length (drop keep ds) ≡ j = omega (arith, length-drop keep ds) in
     let parts : V ds ≡ V (take keep ds) * 10 ^ j + V (drop keep ds) = ap V (sym (take-append-drop keep ds)) ∙ V-append (take keep ds) (drop keep ds)
-        ∙ ap (λ (k : ℕ). V (take keep ds) * 10 ^ k + V (drop keep ds)) len in
+    ∙ ap (λ (k : ℕ). V (take keep ds) * 10 ^ k + V (drop keep ds)) len in
     let small : V (drop keep ds) < 10 ^ j = subst (λ (k : ℕ). V (drop keep ds) < 10 ^ k) len (digits_value-lt 10 (drop keep ds) (AllDigits-drop keep ds h)) in
     rw parts (div-mul-add (V (take keep ds)) (10 ^ j) (V (drop keep ds)) small)
 
@@ -164,10 +164,10 @@ units_by false whole fraction exponent e keep h e_is short k_is =
           let k = exponent + 12 + length (whole ++ fraction) - (length fraction + 0) in
           let a : take keep (whole ++ fraction) ≡ whole ++ fraction = take_all keep (whole ++ fraction) (omega (arith, n)) in
           let b : take (exponent + 12 + length (whole ++ fraction) - (length fraction + 0)) (whole ++ fraction) ≡ whole ++ fraction =
-              take_all (exponent + 12 + length (whole ++ fraction) - (length fraction + 0)) (whole ++ fraction) (omega (arith, n)) in
+          take_all (exponent + 12 + length (whole ++ fraction) - (length fraction + 0)) (whole ++ fraction) (omega (arith, n)) in
           rw (exact (whole ++ fraction) (exponent + 12) (length fraction + 0) h, a, b)
           (many_zeros (V (whole ++ fraction)) (keep - length (whole ++ fraction)) (exponent + 12 + length (whole ++ fraction) - (length fraction + 0) - length (whole ++ fraction))
-              (omega (arith, n)) (omega (arith, n)))
+          (omega (arith, n)) (omega (arith, n)))
     ]
 
 -- the units of a numeral, from the digits that are kept and zeros, at most the bound
@@ -218,6 +218,6 @@ assembled p e keep a b v1 v2 z res hw hf e_is short k_is a_is b_is v1_is v2_is z
     ∙ ap (λ (ds : List ℕ). min (V ds) most) (two_parts p.whole p.fraction keep a b a_is b_is)) in
     let z_same : z ≡ keep - length (p.whole ++ p.fraction) = omega (arith, n) in
     let k_same : keep ≡ (cond p.exponent_negative 0 e + 12) + length (p.whole ++ p.fraction) - (length p.fraction + cond p.exponent_negative e 0) = k_is
-        ∙ ap (λ (k : ℕ). cond p.exponent_negative 0 e + 12 + k - (length p.fraction + cond p.exponent_negative e 0)) (sym n) in
+    ∙ ap (λ (k : ℕ). cond p.exponent_negative 0 e + 12 + k - (length p.fraction + cond p.exponent_negative e 0)) (sym n) in
     res_is ∙ ap (λ (k : ℕ). min (v2 * 10 ^ k) most) z_same ∙ sat-zeros v2 (V (take keep (p.whole ++ p.fraction))) (keep - length (p.whole ++ p.fraction)) second
     ∙ units_cut p e keep (AllDigits-append p.whole p.fraction hw hf) e_is short k_same

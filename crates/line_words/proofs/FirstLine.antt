@@ -69,7 +69,7 @@ content-line_of (b ∷ bs) =
             | inr g ↦
                 let goes : ends_content b ≡ false = rw (f, g) refl in
                 ap content (before_first-more is_lf b bs f) ∙ before_first-more is_hash b (line_of bs) g ∙ ap (λ (t : List ℕ). b ∷ t) (content-line_of bs)
-                    ∙ sym (before_first-more ends_content b bs goes)
+                ∙ sym (before_first-more ends_content b bs goes)
           ]
     ]
 

@@ -201,7 +201,7 @@ from_here rules lines (l ∷ ls) n o le e fine =
     let next : FineBelow rules lines (n + 1) → Outcome rules lines (run rules (n + 1 + 1) (before ++ at_number (n + 1) (rules.stated l)) ls)
     = λ f. subst (λ (st : List Statement). Outcome rules lines (run rules (n + 1 + 1) st ls)) more (from_here rules lines ls (n + 1) o (omega arith) rest f) in
     rw run-cons (subst (λ (x : List ℕ). Outcome rules lines (unless_broken (n + 1) (first_broken (tests_after rules before x))
-        (run rules (n + 1 + 1) (before ++ at_number (n + 1) (rules.stated l)) ls))) (sym is)
+    (run rules (n + 1 + 1) (before ++ at_number (n + 1) (rules.stated l)) ls))) (sym is)
     (at_line rules lines n (first_broken (tests_at rules lines n)) (run rules (n + 1 + 1) (before ++ at_number (n + 1) (rules.stated l)) ls) o lt refl fine next))
 
 -- Reading from the front gives what the file is, for each kind of file whose rules stand in their order.

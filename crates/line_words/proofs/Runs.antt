@@ -67,7 +67,7 @@ one_more at b n e bs ws = rw (eq-eqb (at + 1) (at + 1) refl) refl
 -- a run of other bytes is a word
 pub words_from-run : (bs : List ℕ) (at : ℕ) → 0 < position_or_len is_blank bs
     → words_from at bs ≡ record { start = at; end = at + position_or_len is_blank bs; text = take (position_or_len is_blank bs) bs }
-        ∷ words_from (at + position_or_len is_blank bs) (drop (position_or_len is_blank bs) bs)
+    ∷ words_from (at + position_or_len is_blank bs) (drop (position_or_len is_blank bs) bs)
 words_from-run [] at h = absurd (omega arith)
 words_from-run (b ∷ []) at h =
     elim (cases_Bool (is_blank b)) [
@@ -91,8 +91,8 @@ words_from-run (b ∷ c ∷ bs) at h =
                 let len : position_or_len is_blank (b ∷ c ∷ bs) ≡ suc n = rw f (omega arith) in
                 let at_is : at + 1 + n ≡ at + suc n = omega arith in
                 rw len (words_from-byte at b (c ∷ bs) f ∙ ap (onto_word at b) (words_from-run (c ∷ bs) (at + 1) some)
-                    ∙ one_more at b n (at + 1 + n) (c ∷ bs) (words_from (at + 1 + n) (drop n (c ∷ bs)))
-                    ∙ ap (λ (k : ℕ). record { start = at; end = k; text = b ∷ take n (c ∷ bs) } ∷ words_from k (drop n (c ∷ bs))) at_is)
+                ∙ one_more at b n (at + 1 + n) (c ∷ bs) (words_from (at + 1 + n) (drop n (c ∷ bs)))
+                ∙ ap (λ (k : ℕ). record { start = at; end = k; text = b ∷ take n (c ∷ bs) } ∷ words_from k (drop n (c ∷ bs))) at_is)
           ]
     ]
 

@@ -32,7 +32,7 @@ ranked low (t ∷ ts) e = let parts = and_parts (nat_le low (rank t.0)) (is_rank
 -- Rules of statements that stand in their order, from the header on, are in order with those of the line.
 pub in_order : (statement : List Statement → Words → List Test) (end : List Statement → List Test)
     → ((before : List Statement) (ws : Words) → IsRanked (rank NoHeader) (statement before ws)) → ((before : List Statement) → IsRanked (rank NoHeader) (end before))
-        → AreInOrder (text_rules statement end)
+    → AreInOrder (text_rules statement end)
 in_order statement end s e = record {
   at_lines = λ before line. (omega arith, (omega arith, stated_ranked statement end before (stated_words line) s));
   at_end = λ before. ranked_below 0 (rank NoHeader) (end before) (omega arith) (e before);

@@ -6,10 +6,11 @@ use Rattle.std.proofs.lemmas.List.{length-append, length-map, length_push, get_o
 use Rattle.std.proofs.lemmas.List.Elements.{All-nil, All-push, All-map, All-set, All-replicate, All-weaker}
 use Rattle.names.specs.Names.{number_of}
 use Rattle.spec_model.specs.Spec.{Name, Message as MessageValue, Arc, Choice}
+use Rattle.spec_model.specs.Limits.{most_number}
 use Rattle.spec_graph.specs.Plan.{arcs_of_link}
 use Rattle.spec_graph.specs.Changes.{changed, with_weight}
 use Rattle.spec_graph.specs.declared.messages.Change.TheVariants as changes
-use Rattle.arch_reader.specs.Numbers.{at_scale, greatest}
+use Rattle.arch_reader.specs.Numbers.{at_scale}
 use Rattle.arch_reader.specs.declared.statement.KeyAmount.{KeyAmount}
 use Rattle.arch_reader.specs.declared.statement.Statement.TheVariants.{Resource, Link, Task, Message, Map, Hops}
 use Rattle.spec_join.specs.Joining.{Joining, weight_of, no_weights, message_between}
@@ -103,7 +104,7 @@ low_set : (rows : List (List ℕ)) (i j w : ℕ) → All IsLow rows → w ≤ 2 
 low_set rows i j w h low = All-set IsLow rows i _ (All-set (λ x. x ≤ 2 ^ 40) (slice_index_or rows i []) j w low (low_row rows i h)) h
 
 low_one : at_scale 0 (amount 1) ≤ 2 ^ 40
-low_one = ltb-false greatest (at_scale 0 (amount 1)) (number 1 (omega arith)).low
+low_one = ltb-false most_number (at_scale 0 (amount 1)) (number 1 (omega arith)).low
 
 scaled_one : (j : ℕ) → weight_of (0 ∷ 0 ∷ []) j (amount 1) ≤ 2 ^ 40
 scaled_one zero = low_one

@@ -100,9 +100,11 @@ energy_step = record { statement = Objective (codes "energy") None false; line =
 link_pair : (r : ℕ) (words : Stream) (e a b : ℕ) → AreOf32Bits words → e < 40 → are_joined r a b ≡ true
     → Goes (having r e false) (link_between e a b (1 + draw words 9 0) ∷ traffic_words e ∷ []) (having r (e + 1) false)
 link_pair r words e a b h few joined =
-    let cost = drawn words 9 0 h (omega arith) in
-    (having r (e + 1) false, link_step r e a b (1 + draw words 9 0) (joined_of r a b joined) few (omega (arith, cost)),
-        one_step (having r (e + 1) false) (having r (e + 1) false) (traffic_words e) (traffic_step r e few))
+    let cost = drawn words 9 0 h (omega arith) in (
+      having r (e + 1) false,
+      link_step r e a b (1 + draw words 9 0) (joined_of r a b joined) few (omega (arith, cost)),
+      one_step (having r (e + 1) false) (having r (e + 1) false) (traffic_words e) (traffic_step r e few),
+    )
 
 -- all parts after the objectives
 abbrev pub parts_of : ℕ → Stream → List Words

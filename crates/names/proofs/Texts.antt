@@ -45,7 +45,7 @@ find_in names name = go (cases_lt n (length names))
         let e : position (bytes_eq name) names ≡ Some n = ap (λ (b : Bool). cond b (Some n) None) (lt-ltb n (length names) l) in
         let p = position-Some (bytes_eq name) names n [] e in
         subst (λ (r : Option ℕ). MatchOption r (Contains names name → ⊥) (IsNumberOf names name)) (sym e)
-            (record { within = l; same = sym ((bytes_eq-Decides name (get_or names n [])).0 p.1); first = refl })
+        (record { within = l; same = sym ((bytes_eq-Decides name (get_or names n [])).0 p.1); first = refl })
     go (inr l) =
         let e : position (bytes_eq name) names ≡ None = ap (λ (b : Bool). cond b (Some n) None) (le-ltb n (length names) l) in
         subst (λ (r : Option ℕ). MatchOption r (Contains names name → ⊥) (IsNumberOf names name)) (sym e) (λ h. not_there h l)

@@ -54,7 +54,7 @@ steps-part f g cs ds ls among h =
           unabsorbed = λ k d l.
               (let earlier : List Linear = take k clauses in
               unabsorbed-among (cs ++ earlier) (ds ++ earlier) (get_or clauses k d) (among-append cs earlier (ds ++ earlier) (λ x m. among-front ds earlier x (among x m)) (among-back ds earlier))
-                  (w.honest.unabsorbed k d l));
+              (w.honest.unabsorbed k d l));
         };
       };
       no_contradiction = h.no_contradiction;
@@ -107,7 +107,7 @@ in-frames start s t order variables budget answer eg ek same keeps h f a =
     let first : s.log.first ≡ t.log.first = sym (ap (λ (v : LogValue). v.first) h.log.kept) in
     let T : List Content → Type 0 = λ cs. All (StandsIn (context_of w.after)) cs in
     let grown : whole ≡ (kp.earlier ++ ks) ++ derived_from f a.given lines = ap (λ (v : LogValue). derived_by f v.lines) h.log.kept ∙ derived-append f (base_of f) a.given s.log.lines lines a.legal
-        ∙ ap (λ (cs : List Linear). cs ++ derived_from f a.given lines) kp.last in
+    ∙ ap (λ (cs : List Linear). cs ++ derived_from f a.given lines) kp.last in
     let among = derived-among (constraints_in start) gs ks kp.earlier (derived_from f a.given lines) whole (all-among s.log start) grown in
     let L : List Content → Type 0 = λ cs. LinesSay f a.given (constraints_of cs) order lines t.log.lines answer in
     record {
@@ -130,7 +130,7 @@ new-over-kept start s t order variables budget answer eg ek keeps h f a =
     let w = r.0 in
     let lines : List Line = new_lines s.log t.log in
     let both = new-part f a.given (constraints_of (given_of s.log start) ++ constraints_of (kept_of s.log start)) (constraints_in start) order lines t.log.lines answer (both-among s.log start)
-        w.lines in
+    w.lines in
     let G : List Content → Type 0 = λ cs. AreNewSays f a.given (constraints_of cs ++ constraints_of (kept_of s.log start)) lines answer in
     let K : List Content → Type 0 = λ cs. AreNewSays f a.given (constraints_of s.given ++ constraints_of cs) lines answer in
     subst K (sym ek) (subst G (sym eg) both)
@@ -148,7 +148,7 @@ pub numbered-last : (cs : List Linear) (live : List Live) (x : Live) → x.proof
 numbered-last cs live x id e =
     let n : 1 + length cs ≡ x.proof_id = omega arith in
     map-append content live (x ∷ []) ∙ ap (λ (xs : List Content). xs ++ content x ∷ []) e ∙ sym (numbered-push 1 cs x.constraint
-        ∙ ap (λ m. numbered 1 cs ++ record { constraint = x.constraint; proof_id = m } ∷ []) n)
+    ∙ ap (λ m. numbered 1 cs ++ record { constraint = x.constraint; proof_id = m } ∷ []) n)
 
 -- constraints alone, given by no line
 abbrev only : List Linear → Given

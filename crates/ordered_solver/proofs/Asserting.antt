@@ -230,8 +230,16 @@ has-current held es c k below attached conflict h = elim (current-or-not es k.te
 pub found-one : (p : ℕ → Option Bool) (c : Linear) → LeavesOne p c → HasUnassigned p c.terms
 found-one p c l =
     let i : ℕ = (l.there).0 in
-    record { lit = l.left.lit; at = record { place = i; in_terms = (l.there).1; there = λ d. ap (λ (t : Term). t.lit) (get_or_default c.terms i d l.left (l.there).1 ∙ (l.there).2); unassigned =
-        l.unassigned } }
+    record {
+      lit = l.left.lit;
+      at = record {
+        place = i;
+        in_terms = (l.there).1;
+        there = λ d. ap (λ (t : Term). t.lit) (get_or_default c.terms i d l.left (l.there).1 ∙ (l.there).2);
+        unassigned =
+            l.unassigned;
+      };
+    }
 
 -- the variables of a learned clause are assigned, and so in range
 pub learned-below : (live : List Live) (es : List Entry) (c : Linear) (n : ℕ) → IsLearned live es c → All (λ (e : Entry). e.lit.var < n) es → VarsBelow n c.terms

@@ -59,12 +59,17 @@ between-given live after p q t u ids ids_after log log_after x b g e loaded same
     let keeps : AreKept (given_of log live ++ content x ∷ []) (kept_of log live) log = keeps-given log (given_of log live) (kept_of log live) (content x) b.keeps in
     let K : List Content → List Content → Type 0 = λ gs ks. AreKept gs ks log in
     let keeps' : K (given_of log (live ++ x ∷ [])) (kept_of log (live ++ x ∷ [])) = subst (K (given_of log (live ++ x ∷ []))) (sym parts.1)
-        (subst (λ (gs : List Content). K gs (kept_of log live)) (sym parts.0) keeps) in
+    (subst (λ (gs : List Content). K gs (kept_of log live)) (sym parts.0) keeps) in
     let L : List Live → LogValue → List ConId → Type 0 = λ ls v is. IsIdle ls q u → IsBetweenCalls ls q u is v in
-    let made : L (live ++ x ∷ []) log ids = λ idle. record { idle = idle; listed = listed; given_ids = subst (λ (gs : List Content). All (HasGivenId log) gs) (sym parts.0) given-ids; keeps =
-        keeps' } in
+    let made : L (live ++ x ∷ []) log ids = λ idle. record {
+      idle = idle;
+      listed = listed;
+      given_ids = subst (λ (gs : List Content). All (HasGivenId log) gs) (sym parts.0) given-ids;
+      keeps =
+          keeps';
+    } in
     subst (λ (is : List ConId). L after log_after is) (sym same-ids) (subst (λ (v : LogValue). L after v ids) (sym same-log) (subst (λ (ls : List Live). L ls log ids) (sym e) made))
-        (record { loaded = loaded; nothing = ap (λ (v : TrailView). v.entries) same-trail ∙ b.idle.nothing })
+    (record { loaded = loaded; nothing = ap (λ (v : TrailView). v.entries) same-trail ∙ b.idle.nothing })
 
 -- the parts in a longer log
 pub later-parts : (log new : LogValue) (more : List Line) (live : List Live) → new ≡ record log { lines = log.lines ++ more } → All (IsKnown log) live → (given_of new live ≡ given_of log live)
@@ -78,7 +83,7 @@ between-cover live p t ids log new v b e =
     let parts = later-parts log new more live e b.listed.known in
     let given-ids : All (HasGivenId new) (given_of log live) = given-ids-later log new more (given_of log live) e b.given_ids in
     let keeps : AreKept (given_of log live) (kept_of log live) new = subst (λ (w : LogValue). AreKept (given_of log live) (kept_of log live) w) (sym e)
-        (keeps-cover log (given_of log live) (kept_of log live) v b.given_ids b.keeps) in
+    (keeps-cover log (given_of log live) (kept_of log live) v b.given_ids b.keeps) in
     record {
       idle = b.idle;
       listed = record {
@@ -93,7 +98,7 @@ between-cover live p t ids log new v b e =
 pub listed-added : (start all : List Live) (ids ids_after : List ConId) (old new : LogValue) → HasKeptIds start ids old → HasAdded start all ids ids_after old new → HasKeptIds all ids_after new
 listed-added start all ids ids_after old new h a =
     let kept : kept_in new all ≡ kept_in old start ++ a.more = ap (kept_in new) a.split ∙ kept-behind new start a.more a.derived_ids
-        ∙ ap (λ (ls : List Live). ls ++ a.more) (kept-later old new a.lines start a.written h.known) in
+    ∙ ap (λ (ls : List Live). ls ++ a.more) (kept-later old new a.lines start a.written h.known) in
     record {
       ids_are = a.ids_are ∙ ap (λ (is : List ConId). is ++ map id_of a.more) h.ids_are ∙ sym (map-append id_of (kept_in old start) a.more) ∙ sym (ap (map id_of) kept);
       known = subst (λ (ls : List Live). All (IsKnown new) ls) (sym a.split) (All-append (IsKnown new) start a.more (known-later old new a.lines start a.written h.known) a.known);
@@ -121,8 +126,8 @@ goes-kept start all mid live ids ids_after rest old new added dropped before aft
 pub same-value : (a b : SolverValue) → a.variables ≡ b.variables → a.given ≡ b.given → a.kept ≡ b.kept → a.log ≡ b.log → a.spent ≡ b.spent → a ≡ b
 same-value a b v g k l s =
     ap (λ (x : ℕ). record a { variables = x }) v ∙ ap (λ (x : List Content). record a { variables = b.variables; given = x }) g
-        ∙ ap (λ (x : List Content). record a { variables = b.variables; given = b.given; kept = x }) k ∙ ap (λ (x : LogValue). record b { log = x; spent = a.spent }) l
-        ∙ ap (λ (x : Bool). record b { spent = x }) s
+    ∙ ap (λ (x : List Content). record a { variables = b.variables; given = b.given; kept = x }) k ∙ ap (λ (x : LogValue). record b { log = x; spent = a.spent }) l
+    ∙ ap (λ (x : Bool). record b { spent = x }) s
 
 pub between-on : (start live : List Live) (p q : PropagatorView) (t u : TrailView) (ids rest : List ConId) (old new : LogValue) → IsBetweenCalls start p t ids old → IsIdle live q u
     → HasKeptIds live rest new → GoesOnKept start live old new → IsBetweenCalls live q u rest new

@@ -71,7 +71,7 @@ without-first p (f ∷ live) x xs distinct e = go (p f) refl e (without-first p 
         let out : without x.id (f ∷ live) ≡ f ∷ without x.id live = ap (λ b. cond (not b) (f ∷ without x.id live) (without x.id live)) other in
         let passing : filter p (f ∷ without x.id live) ≡ filter p (without x.id live) = ap (λ b. cond b (f ∷ filter p (without x.id live)) (filter p (without x.id live))) t in
         let failing : filter (fails p) (f ∷ without x.id live) ≡ f ∷ filter (fails p) (without x.id live) =
-            ap (λ b. cond (not b) (f ∷ filter (fails p) (without x.id live)) (filter (fails p) (without x.id live))) t in
+        ap (λ b. cond (not b) (f ∷ filter (fails p) (without x.id live)) (filter (fails p) (without x.id live))) t in
         let before : filter (fails p) (f ∷ live) ≡ f ∷ filter (fails p) live = ap (λ b. cond (not b) (f ∷ filter (fails p) live) (filter (fails p) live)) t in
         (ap (filter p) out ∙ passing ∙ ih.0, ap (filter (fails p)) out ∙ failing ∙ ap (λ (ls : List Live). f ∷ ls) ih.1 ∙ sym before)
 

@@ -80,7 +80,7 @@ found-nothing start live after ids ids_after old mid new id order variables budg
     let last : Line = derived ops in
     let lines : List Line = h.added.lines ++ last ∷ [] in
     let written : new ≡ record old { lines = old.lines ++ lines } = (r.derives).one_more ∙ ap (λ (v : LogValue). record v { lines = v.lines ++ last ∷ [] }) h.added.written
-        ∙ ap (λ (ls : List Line). record old { lines = ls }) (append_assoc old.lines h.added.lines (last ∷ [])) in
+    ∙ ap (λ (ls : List Line). record old { lines = ls }) (append_assoc old.lines h.added.lines (last ∷ [])) in
     let is = lines-are old new lines written in
     let len : length (new_lines old new) ≡ n + 1 = ap length is ∙ length_push h.added.lines last ∙ ap (λ m. m + 1) h.counted in
     let top = word-lt variables (marks es) in
@@ -138,10 +138,10 @@ found-model start live ids ids_after held old new order variables budget n es va
     let top = word-lt variables (marks es) in
     let takes = takes-values es variables values.items distinct inside has in
     let shown : ShowsFirst (constraints_in live) order v = shows-first held (constraints_in live) order es v decided full takes
-        (λ b closed-b c k at. All-contains (IsClosed b) (constraints_in live) k closed-b (among c k at)) in
+    (λ b closed-b c k at. All-contains (IsClosed b) (constraints_in live) k closed-b (among c k at)) in
     let model : IsModel (constraints_in live) v = All-map (Holds v) (λ (e : Live). e.constraint) live
-        (λ i d l. closed-holds es v (get_or live i d).constraint takes (λ j t lt. full-below order es variables covers full (get_or (get_or live i d).constraint.terms j t).lit.var
-        (in_range i d l j t lt)) (closed (get_or live i d).id (get_or live i d).constraint (attached i d l))) in
+    (λ i d l. closed-holds es v (get_or live i d).constraint takes (λ j t lt. full-below order es variables covers full (get_or (get_or live i d).constraint.terms j t).lit.var
+    (in_range i d l j t lt)) (closed (get_or live i d).id (get_or live i d).constraint (attached i d l))) in
     let split : constraints_in live ≡ constraints_in start ++ constraints_in h.added.more = ap constraints_in h.added.split ∙ constraints-append start h.added.more in
     let M : List Linear → Type 0 = λ cs. IsModel cs v in
     record {
@@ -160,9 +160,9 @@ found-model start live ids ids_after held old new order variables budget n es va
           let L : List Line → Type 0 = λ ls. given_from f g ls ≡ Some s.after in
           let A : List Line → Type 0 = λ ls. AreHonestSteps f g (constraints_in start) ls in
           let whole-derived : derived_by f new.lines ≡ derived_by f old.lines ++ constraints_in h.added.more = ap (λ (w : LogValue). derived_by f w.lines) h.added.written
-              ∙ derived-append f (base_of f) g old.lines h.added.lines legal ∙ ap (λ (cs : List Linear). derived_by f old.lines ++ cs) s.gives in
+          ∙ derived-append f (base_of f) g old.lines h.added.lines legal ∙ ap (λ (cs : List Linear). derived_by f old.lines ++ cs) s.gives in
           let all : AreAmong (constraints_in live) (constraints_in start ++ derived_by f new.lines) =
-              live-among (constraints_in start) (derived_by f old.lines) (constraints_in h.added.more) (constraints_in live) (derived_by f new.lines) split whole-derived in
+          live-among (constraints_in start) (derived_by f old.lines) (constraints_in h.added.more) (constraints_in live) (derived_by f new.lines) split whole-derived in
           record {
             after = s.after;
             legal = subst L (sym is) s.legal;

@@ -137,7 +137,7 @@ count-on : (start live : List Live) (old new : LogValue) → All (IsKnown old) s
 count-on start live old new known h k =
     let a = k.added in
     let whole : length (kept_of new k.all) ≡ length (kept_of old start) + length (map content a.more) = ap length (kept-all start k.all k.ids k.ids_after old new known a)
-        ∙ length-append (kept_of old start) (map content a.more) in
+    ∙ length-append (kept_of old start) (map content a.more) in
     let mapped : length (map content a.more) ≡ length a.more = length-map a.more content in
     let lines : derived_count new.lines ≡ derived_count (old.lines ++ a.lines) = ap (λ (v : LogValue). derived_count v.lines) a.written in
     let sum : derived_count (old.lines ++ a.lines) ≡ derived_count old.lines + derived_count a.lines = sum_by-append (λ (l : Line). cond {A = ℕ} (is_derived l) 1 0) old.lines a.lines in
@@ -155,7 +155,7 @@ follow-on start live old new known h k v m =
     let all = k.added.follow v (model-all v old start given (h.follow v given)) in
     let both : IsModel (constraints_of (k.dropped.dropped ++ kept_of new live)) v = subst M k.dropped.oldest (model-kept v new k.all all) in
     models-back v (constraints_of k.dropped.dropped) (constraints_of (kept_of new live)) (subst (λ (cs : List Linear). IsModel cs v)
-        (map-append (λ (x : Content). x.constraint) k.dropped.dropped (kept_of new live)) both)
+    (map-append (λ (x : Content). x.constraint) k.dropped.dropped (kept_of new live)) both)
 
 -- in a frame, what is kept before any is dropped
 last-all : (f : Frame) (start all : List Live) (ids ids_after : List ConId) (old new : LogValue) (g h : Given) → All (IsKnown old) start → (a : HasAdded start all ids ids_after old new)
@@ -167,14 +167,14 @@ last-all f start all ids ids_after old new g h known a legal later kp w =
     let same : w.after ≡ h = some-same w.after h (sym w.legal ∙ later) in
     let S : Given → Type 0 = λ x. All (λ (e : Live). StandsUnder (context_of x) e.proof_id e.constraint) a.more in
     let stands : All (StandsIn (context_of h)) (ks ++ ms) = All-append (StandsIn (context_of h)) ks ms (stands-on f g h a.lines ks later kp.stand)
-        (All-map (StandsIn (context_of h)) content a.more (subst S same w.stand)) in
+    (All-map (StandsIn (context_of h)) content a.more (subst S same w.stand)) in
     let new-ones : derived_from f g a.lines ≡ constraints_of ms = w.gives ∙ sym (given-are a.more) in
     let whole : derived_by f new.lines ≡ derived_by f old.lines ++ derived_from f g a.lines = ap (λ (v : LogValue). derived_by f v.lines) a.written
-        ∙ derived-append f (base_of f) g old.lines a.lines legal in
+    ∙ derived-append f (base_of f) g old.lines a.lines legal in
     let parts : derived_by f old.lines ++ derived_from f g a.lines ≡ (kp.earlier ++ constraints_of ks) ++ constraints_of ms = ap (λ (cs : List Linear). cs ++ derived_from f g a.lines) kp.last
-        ∙ ap (λ (cs : List Linear). (kp.earlier ++ constraints_of ks) ++ cs) new-ones in
+    ∙ ap (λ (cs : List Linear). (kp.earlier ++ constraints_of ks) ++ cs) new-ones in
     let joined : (kp.earlier ++ constraints_of ks) ++ constraints_of ms ≡ kp.earlier ++ constraints_of (ks ++ ms) = append_assoc kp.earlier (constraints_of ks) (constraints_of ms)
-        ∙ ap (λ (cs : List Linear). kp.earlier ++ cs) (sym (map-append (λ (x : Content). x.constraint) ks ms)) in
+    ∙ ap (λ (cs : List Linear). kp.earlier ++ cs) (sym (map-append (λ (x : Content). x.constraint) ks ms)) in
     let L : List Content → Type 0 = λ cs. AreLastDerived f h new.lines cs in
     subst L (sym (kept-all start all ids ids_after old new known a)) (record { earlier = kp.earlier; last = whole ∙ parts ∙ joined; stand = stands })
 

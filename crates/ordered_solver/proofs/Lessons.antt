@@ -161,7 +161,7 @@ abbrev pub added-more : (start live : List Live) (ids ids_after : List ConId) (o
 added-more start live ids ids_after old log log_after x h fresh derives next small clause propagated =
     let ops : List Op = derives.ops in
     let written : log_after ≡ record old { lines = old.lines ++ (h.lines ++ derived ops ∷ []) } = derives.one_more
-        ∙ ap (λ (v : LogValue). record v { lines = v.lines ++ derived ops ∷ [] }) h.written ∙ ap (λ (ls : List Line). record old { lines = ls }) (append_assoc old.lines h.lines (derived ops ∷ [])) in
+    ∙ ap (λ (v : LogValue). record v { lines = v.lines ++ derived ops ∷ [] }) h.written ∙ ap (λ (ls : List Line). record old { lines = ls }) (append_assoc old.lines h.lines (derived ops ∷ [])) in
     record {
       more = h.more ++ x ∷ [];
       split = ap (λ (ls : List Live). ls ++ x ∷ []) h.split ∙ append_assoc start h.more (x ∷ []);
@@ -186,8 +186,13 @@ learned-none start ids log = record {
   added = added-none start ids log;
   counted = refl;
   honest =
-      λ f g frame fits legal under. record { derived_each = All-nil IsDerived; after = g; legal = refl; honest =
-      record { clauses_each = All-nil IsClause; unabsorbed = λ k d l. absurd (omega arith) } };
+      λ f g frame fits legal under. record {
+        derived_each = All-nil IsDerived;
+        after = g;
+        legal = refl;
+        honest =
+            record { clauses_each = All-nil IsClause; unabsorbed = λ k d l. absurd (omega arith) };
+      };
 }
 
 -- one lesson more
@@ -211,7 +216,7 @@ learned-more start live after ids ids_after held bs order es now old log log_aft
           (let w = a.shown f g frame fits legal under in
           let gives = (l.derives).legal (context_of w.after) (given-knows w.after) w.under in
           let all : constraints_in start ++ derived_from f g a.lines ≡ constraints_in live = ap (λ (cs : List Linear). constraints_in start ++ cs) w.gives ∙ sym (constraints-append start a.more)
-              ∙ ap constraints_in (sym a.split) in
+          ∙ ap constraints_in (sym a.split) in
           let U : List Linear → Type 0 = λ cs. IsUnabsorbed cs c in
           honest-line f g w.after (constraints_in start) a.lines ops c (s.honest f g frame fits legal under) w.legal gives l.learned.clause (subst U (sym all) new));
     }))
@@ -222,4 +227,4 @@ abbrev pub added-refuted : (start live after : List Live) (ids ids_after : List 
 added-refuted start live after ids ids_after old log log_after id h r =
     let x : Live = record { id = id; constraint = contradiction; proof_id = r.proof_id } in
     subst (λ (ls : List Live). HasAdded start ls ids (ids_after ++ id ∷ []) old log_after) (sym r.added)
-        (added-more start live ids ids_after old log log_after x h r.fresh r.derives r.next r.small contradiction-clause r.propagated)
+    (added-more start live ids ids_after old log log_after x h r.fresh r.derives r.next r.small contradiction-clause r.propagated)

@@ -107,9 +107,9 @@ all-among log live =
     let ks : List Linear = constraints_of (kept_of log live) in
     among-of (gs ++ ks) live (parts-all (HasIt (gs ++ ks)) (is_kept log) live
     (λ k d l. Contains-append_left gs ks (get_or (given_in log live) k d).constraint (subst (λ (cs : List Linear). HasIt cs (get_or (given_in log live) k d)) (sym (given-are (given_in log live)))
-        (has-own (given_in log live) k d l)))
+    (has-own (given_in log live) k d l)))
     (λ k d l. Contains-append_right gs ks (get_or (kept_in log live) k d).constraint (subst (λ (cs : List Linear). HasIt cs (get_or (kept_in log live) k d)) (sym (given-are (kept_in log live)))
-        (has-own (kept_in log live) k d l))))
+    (has-own (kept_in log live) k d l))))
 
 -- a test that each element passes keeps all, and the opposite one none
 filter-all : (p : Live → Bool) (live : List Live) → All (λ e. p e ≡ true) live → filter p live ≡ live
@@ -139,9 +139,11 @@ turned : (p : Live → Bool) (live : List Live) → All (λ e. p e ≡ false) li
 turned p [] h = (refl, refl)
 turned p (e ∷ live) h =
     let here : p e ≡ false = All-head (λ (x : Live). p x ≡ false) e live h in
-    let ih = turned p live (All-tail (λ (x : Live). p x ≡ false) e live h) in
-    (ap (λ (t : Bool). cond t (e ∷ filter p live) (filter p live)) here ∙ ih.0, ap (λ (t : Bool). cond (not t) (e ∷ filter (fails p) live) (filter (fails p) live)) here
-        ∙ ap (λ (xs : List Live). e ∷ xs) ih.1)
+    let ih = turned p live (All-tail (λ (x : Live). p x ≡ false) e live h) in (
+      ap (λ (t : Bool). cond t (e ∷ filter p live) (filter p live)) here ∙ ih.0,
+      ap (λ (t : Bool). cond (not t) (e ∷ filter (fails p) live) (filter (fails p) live)) here
+          ∙ ap (λ (xs : List Live). e ∷ xs) ih.1,
+    )
 
 pub none-kept : (log : LogValue) (live : List Live) → log.lines ≡ [] → (kept_in log live ≡ []) × (given_in log live ≡ live)
 none-kept log live e = turned (is_kept log) live (λ k d l. ap (λ (ls : List Line). is_derived_id log.first ls (get_or live k d).proof_id) e)
@@ -152,6 +154,8 @@ pub kept-given : (log : LogValue) (live : List Live) (x : Live) → is_kept log 
 kept-given log live x e =
     let p : Live → Bool = is_kept log in
     let one : filter p (x ∷ []) ≡ [] = ap (λ (t : Bool). cond t (x ∷ []) []) e in
-    let other : filter (fails p) (x ∷ []) ≡ x ∷ [] = ap (λ (t : Bool). cond (not t) (x ∷ []) []) e in
-    (filter-append p live (x ∷ []) ∙ ap (λ (xs : List Live). kept_in log live ++ xs) one ∙ append-nil (kept_in log live), filter-append (fails p) live (x ∷ [])
-        ∙ ap (λ (xs : List Live). given_in log live ++ xs) other)
+    let other : filter (fails p) (x ∷ []) ≡ x ∷ [] = ap (λ (t : Bool). cond (not t) (x ∷ []) []) e in (
+      filter-append p live (x ∷ []) ∙ ap (λ (xs : List Live). kept_in log live ++ xs) one ∙ append-nil (kept_in log live),
+      filter-append (fails p) live (x ∷ [])
+          ∙ ap (λ (xs : List Live). given_in log live ++ xs) other,
+    )

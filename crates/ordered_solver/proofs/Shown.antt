@@ -109,7 +109,7 @@ shown-at held order es v b s closed agree n d assigned untrue same = go (value_i
           let free : value_in (take k es) x ≡ None = subst V var-is (f.forces).unassigned in
           let below = takes-upto held order es b s closed k (omega arith) (decided-before held order es v b s agree k n d h free same) in
           let taken : b (get_or es k blank).lit.var ≡ Some (get_or es k blank).lit.yes = closed-goes (value_in (take k es)) b f.constraint (get_or es k blank).lit f.forces
-              (goes-below b es k (omega arith) below) (closed f.reason f.constraint f.attached) in
+          (goes-below b es k (omega arith) below) (closed f.reason f.constraint f.attached) in
           let own : Some (v (get_or es k blank).lit.var) ≡ Some (get_or es k blank).lit.yes = agree k blank h in
           let B : ℕ → Type 0 = λ y. b y ≡ Some (v y) in
           subst B var-is (taken ∙ sym own))
@@ -171,7 +171,7 @@ first-of-shown cs order v w shown model = from (length order) 0 (omega arith) (�
     differ n h same ne true e = e
     differ n h same ne false e =
         let t : Some (w (get_or order n blank).var) ≡ Some (v (get_or order n blank).var) = shown n blank h e (whole w) (model-closed cs w model)
-            (λ j d l. ap (λ (a : Bool). Some a) (sym (same j d l))) in
+        (λ j d l. ap (λ (a : Bool). Some a) (sym (same j d l))) in
         absurd (ne (sym (some-same (w (get_or order n blank).var) (v (get_or order n blank).var) t)))
 
     from : (m n : ℕ) → n + m ≡ length order → ((j : ℕ) (d : Literal) → j < n → v (get_or order j d).var ≡ w (get_or order j d).var) → AgreeOn order v w ⊎ IsBefore order v w

@@ -23,8 +23,14 @@ part_true v p = lit_true v p.lit
 true_count : (v : ℕ → Bool) (ps : List Part) → All (λ p. p.coef ≡ pos 1) ps → sum_z (when_true v) ps ≡ pos (count_by (part_true v) ps)
 true_count v [] u = refl
 true_count v (p ∷ ps) u =
-    omega (arith, ints, sum_by-cons (λ (q : Part). cond (part_true v q) 1 0) p ps, true_count v ps (λ k d h. u (suc k) d (omega arith)), one (part_true v p),
-        ap (λ (z : ℤ). cond (part_true v p) z (pos 0)) (u 0 p (omega arith)))
+    omega (
+      arith,
+      ints,
+      sum_by-cons (λ (q : Part). cond (part_true v q) 1 0) p ps,
+      true_count v ps (λ k d h. u (suc k) d (omega arith)),
+      one (part_true v p),
+      ap (λ (z : ℤ). cond (part_true v p) z (pos 0)) (u 0 p (omega arith)),
+    )
   where
     one : (b : Bool) → cond b (pos 1) (pos 0) ≡ pos (cond b 1 0)
     one true = refl

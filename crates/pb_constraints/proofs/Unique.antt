@@ -100,7 +100,7 @@ same_terms x (t ∷ ts) (u ∷ us) o p same =
 pub one_normal : (ps : List Part) (d : ℤ) (c e : Linear) → IsNormalOf ps d c → IsNormalOf ps d e → c ≡ e
 one_normal ps d c e n m =
     let et : c.terms ≡ e.terms = same_terms 0 c.terms e.terms (record { positive = n.positive; above = λ k t h. omega arith; rising = n.rising })
-        (record { positive = m.positive; above = λ k t h. omega arith; rising = m.rising }) (λ y. n.same y ∙ sym (m.same y)) in
+    (record { positive = m.positive; above = λ k t h. omega arith; rising = m.rising }) (λ y. n.same y ∙ sym (m.same y)) in
     let ed : c.degree ≡ e.degree = n.degree ∙ ap (normal_degree ps d) et ∙ sym m.degree in
     ap (λ (ts : List Term). make ts c.degree) et ∙ ap (make e.terms) ed
   where

@@ -187,7 +187,7 @@ pub times-normal : (n : ℕ) (a : Linear) → 0 < n → IsNormal a.terms a.degre
 times-normal n a p q h =
     let w = within (times n a) h in
     normal-from (times n a).terms (times n a).degree (map-rising (multiplied n) (λ t. refl) 0 a.terms (from-normal a.terms a.degree q))
-        (map-positive (multiplied n) (λ t. refl) a.terms (λ t z. product-positive n t.coef p z) q.positive) w.0 w.1
+    (map-positive (multiplied n) (λ t. refl) a.terms (λ t z. product-positive n t.coef p z) q.positive) w.0 w.1
 
 -- the coefficients of a multiple
 pub times-total : (n : ℕ) (ts : List Term) → total (map (multiplied n) ts) ≡ n * total ts
@@ -217,7 +217,7 @@ divide-normal n a p q =
     let t = map-total (divided n) (λ t. refl) a.terms (λ t. up-most n t.coef p) in
     let e = up-most n a.degree p in
     normal-from (divide n a).terms (divide n a).degree (map-rising (divided n) (λ t. refl) 0 a.terms (from-normal a.terms a.degree q))
-        (map-positive (divided n) (λ t. refl) a.terms (λ t z. up-positive n t.coef p z) q.positive) (omega arith) (omega arith)
+    (map-positive (divided n) (λ t. refl) a.terms (λ t z. up-positive n t.coef p z) q.positive) (omega arith) (omega arith)
 
 -- a list with some terms left out, and the others no greater
 pub data Shrunk : List Term → List Term → Type 0 where

@@ -57,8 +57,11 @@ joined-weight v t u sum e = go (same_sign t.lit.yes u.lit.yes) refl
           | inl q ↦ (
               let test : eqb t.coef u.coef ≡ true = grind (arith, nat_tests) in
               let j : joined t u sum ≡ record { terms = sum.terms; cancelled = sum.cancelled + t.coef } = rw (s, test) refl in
-              subst G (sym j) (elim (opposite w t.lit.yes u.lit.yes s) [ inl o ↦ omega (arith, o.0 t.coef, o.0 u.coef, o.1 t.coef, o.1 u.coef) | inr o ↦
-                  omega (arith, o.0 t.coef, o.0 u.coef, o.1 t.coef, o.1 u.coef) ]))
+              subst G (sym j) (elim (opposite w t.lit.yes u.lit.yes s) [
+                | inl o ↦ omega (arith, o.0 t.coef, o.0 u.coef, o.1 t.coef, o.1 u.coef)
+                | inr o ↦
+                    omega (arith, o.0 t.coef, o.0 u.coef, o.1 t.coef, o.1 u.coef)
+              ]))
           | inr n ↦ (
               let test : eqb t.coef u.coef ≡ false = grind (arith, nat_tests) in
               elim (cases_lt t.coef u.coef) [
@@ -68,8 +71,11 @@ joined-weight v t u sum e = go (same_sign t.lit.yes u.lit.yes) refl
                     let j : joined t u sum ≡ record { terms = r ∷ sum.terms; cancelled = sum.cancelled + t.coef } = rw (s, test, test2) refl in
                     let c = true_weight-cons v r sum.terms in
                     let m = minus (lit_true v u.lit) u.coef t.coef in
-                    subst G (sym j) (elim (opposite w t.lit.yes u.lit.yes s) [ inl o ↦ omega (arith, o.0 t.coef, o.0 u.coef, o.1 t.coef, o.1 u.coef) | inr o ↦
-                        omega (arith, o.0 t.coef, o.0 u.coef, o.1 t.coef, o.1 u.coef) ]))
+                    subst G (sym j) (elim (opposite w t.lit.yes u.lit.yes s) [
+                      | inl o ↦ omega (arith, o.0 t.coef, o.0 u.coef, o.1 t.coef, o.1 u.coef)
+                      | inr o ↦
+                          omega (arith, o.0 t.coef, o.0 u.coef, o.1 t.coef, o.1 u.coef)
+                    ]))
                 | inr g ↦ (
                     let test2 : ltb t.coef u.coef ≡ false = grind (arith, nat_tests) in
                     let r : Term = record { coef = t.coef - u.coef; lit = t.lit } in
@@ -78,8 +84,11 @@ joined-weight v t u sum e = go (same_sign t.lit.yes u.lit.yes) refl
                     let m = minus (lit_true v t.lit) t.coef u.coef in
                     let at-r : part v r ≡ cond (cond t.lit.yes w (not w)) (t.coef - u.coef) 0 = ap (λ (x : ℕ). cond (cond t.lit.yes (v x) (not (v x))) (t.coef - u.coef) 0) e in
                     let m' = minus (cond t.lit.yes w (not w)) t.coef u.coef in
-                    subst G (sym j) (elim (opposite w t.lit.yes u.lit.yes s) [ inl o ↦ omega (arith, o.0 t.coef, o.0 u.coef, o.1 t.coef, o.1 u.coef) | inr o ↦
-                        omega (arith, o.0 t.coef, o.0 u.coef, o.1 t.coef, o.1 u.coef) ]))
+                    subst G (sym j) (elim (opposite w t.lit.yes u.lit.yes s) [
+                      | inl o ↦ omega (arith, o.0 t.coef, o.0 u.coef, o.1 t.coef, o.1 u.coef)
+                      | inr o ↦
+                          omega (arith, o.0 t.coef, o.0 u.coef, o.1 t.coef, o.1 u.coef)
+                    ]))
               ])
         ]
       where

@@ -65,29 +65,29 @@ taken s us cs covers lines closed refused piece none = ap (take_if s us (progres
 
 pub takes_header : (s : SpecValue) (us : List (List ℕ)) (cs : List Linear) (covers lines : ℕ) (closed : Bool) (refused : Option Refused) (piece : List ℕ) → refused ≡ None
     → judge_next s us lines (given_of cs covers) piece ≡ Ok (stand_of (given_of cs covers) Header) → progress_of cs covers (lines + 1) false refused
-        ≡ take_line s us (progress_of cs covers lines closed refused) piece
+    ≡ take_line s us (progress_of cs covers lines closed refused) piece
 takes_header s us cs covers lines closed refused piece none e =
     ap (progress_of cs covers (lines + 1) false) none ∙ sym (taken s us cs covers lines closed refused piece none ∙ ap (judged (progress_of cs covers lines closed refused)) e)
 
 pub takes_derived : (s : SpecValue) (us : List (List ℕ)) (cs new : List Linear) (covers lines : ℕ) (closed now : Bool) (refused : Option Refused) (piece : List ℕ) (c : Linear) → refused ≡ None
     → judge_next s us lines (given_of cs covers) piece ≡ Ok (stand_of (given_of cs covers) (Derived c)) → new ≡ cs ++ c ∷ [] → now ≡ is_clash c
-        → progress_of new covers (lines + 1) now refused ≡ take_line s us (progress_of cs covers lines closed refused) piece
+    → progress_of new covers (lines + 1) now refused ≡ take_line s us (progress_of cs covers lines closed refused) piece
 takes_derived s us cs new covers lines closed now refused piece c none e items clash =
     ap (progress_of new covers (lines + 1) now) none ∙ (ap (λ (b : Bool). progress_of new covers (lines + 1) b None) clash
-        ∙ (ap (λ (xs : List Linear). progress_of xs covers (lines + 1) (is_clash c) None) items
+    ∙ (ap (λ (xs : List Linear). progress_of xs covers (lines + 1) (is_clash c) None) items
     ∙ sym (taken s us cs covers lines closed refused piece none ∙ ap (judged (progress_of cs covers lines closed refused)) e)))
 
 pub takes_block : (s : SpecValue) (us : List (List ℕ)) (cs new : List Linear) (covers lines : ℕ) (closed : Bool) (refused : Option Refused) (piece : List ℕ) (block : Vec Linear Global)
     → refused ≡ None
     → judge_next s us lines (given_of cs covers) piece ≡ Ok (stand_of (given_of cs covers) (Block block)) → new ≡ cs ++ block.items
-        → progress_of new (covers + 1) (lines + 1) false refused ≡ take_line s us (progress_of cs covers lines closed refused) piece
+    → progress_of new (covers + 1) (lines + 1) false refused ≡ take_line s us (progress_of cs covers lines closed refused) piece
 takes_block s us cs new covers lines closed refused piece block none e items =
     ap (progress_of new (covers + 1) (lines + 1) false) none ∙ (ap (λ (xs : List Linear). progress_of xs (covers + 1) (lines + 1) false None) items
     ∙ sym (taken s us cs covers lines closed refused piece none ∙ ap (judged (progress_of cs covers lines closed refused)) e))
 
 pub takes_refusal : (s : SpecValue) (us : List (List ℕ)) (cs : List Linear) (covers lines : ℕ) (closed : Bool) (refused : Option Refused) (piece : List ℕ) (why : ProofWhy) → refused ≡ None
     → judge_next s us lines (given_of cs covers) piece ≡ Err why → progress_of cs covers lines closed (Some (refusal_at (lines + 1) why))
-        ≡ take_line s us (progress_of cs covers lines closed refused) piece
+    ≡ take_line s us (progress_of cs covers lines closed refused) piece
 takes_refusal s us cs covers lines closed refused piece why none e =
     sym (taken s us cs covers lines closed refused piece none ∙ ap (judged (progress_of cs covers lines closed refused)) e)
 

@@ -60,7 +60,7 @@ pub number_taken : (ws : List Lent) (i : ℕ) (d : Lent) (ns next : List ℕ) (n
     → numbers_of (said (take (i + 1) ws)) ≡ Some next
 number_taken ws i d ns next n l e q last =
     ap (λ (vs : List Lent). numbers_of (said vs)) (take_more ws i d l) ∙ ap numbers_of (map_push (λ (v : Lent). v.now) (take i ws) (get_or ws i d))
-        ∙ (numbers_more (said (take i ws)) ns (get_or ws i d).now n e q ∙ ap (λ (ms : List ℕ). Some ms) (sym last))
+    ∙ (numbers_more (said (take i ws)) ns (get_or ws i d).now n e q ∙ ap (λ (ms : List ℕ). Some ms) (sym last))
 
 pub number_missing : (ws : List Lent) (i : ℕ) (d : Lent) → i < length ws → number_of (get_or ws i d).now ≡ None → numbers_of (said ws) ≡ None
 number_missing [] i d l q = absurd (omega arith)

@@ -68,10 +68,10 @@ module _ (s : SpecValue) (front : FrontValue) (fine : AllFine s front (length fr
       let n : length (take (k + 1) (vectors_of front)) ≡ k + 1 = omega (arith, length-take (k + 1) (vectors_of front), l, many) in
       let b = h.after d (omega (arith, n)) in
       let is : get_or (take (k + 1) (vectors_of front)) (length (take (k + 1) (vectors_of front)) - 1) d ≡ get_or (vectors_of front) k d =
-          (let m : length (take (k + 1) (vectors_of front)) - 1 ≡ k = omega (arith, n) in ap (λ (i : ℕ). get_or (take (k + 1) (vectors_of front)) i d) m
-          ∙ get_or-take (k + 1) (vectors_of front) k d (omega arith)) in
+      (let m : length (take (k + 1) (vectors_of front)) - 1 ≡ k = omega (arith, n) in ap (λ (i : ℕ). get_or (take (k + 1) (vectors_of front)) i d) m
+      ∙ get_or-take (k + 1) (vectors_of front) k d (omega arith)) in
       subst (λ (u : List ℕ). StandsBefore u (get_or (vectors_of front) (k + 1) d)) is (subst (λ (w : List ℕ).
-          StandsBefore (get_or (take (k + 1) (vectors_of front)) (length (take (k + 1) (vectors_of front)) - 1) d) w) (sym (at (k + 1) d blank l)) b)
+      StandsBefore (get_or (take (k + 1) (vectors_of front)) (length (take (k + 1) (vectors_of front)) - 1) d) w) (sym (at (k + 1) d blank l)) b)
 
   rise_by : (m i : ℕ) (d : List ℕ) → i + suc m < length front.entries → StandsBefore (get_or (vectors_of front) i d) (get_or (vectors_of front) (i + suc m) d)
   rise_by zero i d l = next i d l
@@ -93,7 +93,7 @@ module _ (s : SpecValue) (front : FrontValue) (fine : AllFine s front (length fr
       let x = fine j blank there in
       let n : length (take j (vectors_of front)) ≡ j = omega (arith, length-take j (vectors_of front), l) in
       let here : IsAtMost (get_or (take j (vectors_of front)) i d) (get_or (vectors_of front) j d) =
-          subst (λ (u : List ℕ). IsAtMost u (get_or (vectors_of front) j d)) (sym (get_or-take j (vectors_of front) i d lt)) h in
+      subst (λ (u : List ℕ). IsAtMost u (get_or (vectors_of front) j d)) (sym (get_or-take j (vectors_of front) i d lt)) h in
       x.apart i d (omega (arith, lt, n)) (subst (λ (w : List ℕ). IsAtMost (get_or (take j (vectors_of front)) i d) w) (at j d blank there) here)
 
   pub claim_of : front.complete ≡ true → IsClaim s front
@@ -148,7 +148,7 @@ one_more_fine s front es i e same l is fine here k d m =
           let at : i ≡ k = omega (arith, m, g) in
           subst (λ (j : ℕ). IsFine s (earlier front j) (get_or front.entries j d)) at
           (subst (λ (x : EntryValue). IsFine s (earlier front i) x) (seen_at front.entries es i e d same l is)
-              (subst (λ (us : List (List ℕ)). IsFine s us (as_seen e)) (earlier_is front es i same) here))
+          (subst (λ (us : List (List ℕ)). IsFine s us (as_seen e)) (earlier_is front es i same) here))
     ]
 
 fault_is : (s : SpecValue) (front : FrontValue) (i : ℕ) (why : FrontWhy) → i < length front.entries → ((d : EntryValue) → HasFault s (earlier front i) (get_or front.entries i d) why)
@@ -170,4 +170,4 @@ pub fault_of_entry : (s : SpecValue) (front : FrontValue) (es : List Entry) (i :
 fault_of_entry s front es i e why same l is h fine =
     fault_at s front i why (omega (arith, l, ap length same, length-map es as_seen))
     (λ d. subst (λ (x : EntryValue). HasFault s (earlier front i) x why) (seen_at front.entries es i e d same l is)
-        (subst (λ (us : List (List ℕ)). HasFault s us (as_seen e) why) (earlier_is front es i same) h)) fine
+    (subst (λ (us : List (List ℕ)). HasFault s us (as_seen e) why) (earlier_is front es i same) h)) fine

@@ -57,8 +57,16 @@ lines_front f g base ls ms h =
 
 pub none_honest : (f : Frame) (g : Given) (base : List Linear) (ls : List Line) → length ls ≤ 0 → AreHonestLines f g base ls
 none_honest f g base [] l =
-    record { derived_each = λ k d q. absurd (omega (arith, q)); after = g; legal = refl; honest = record { clauses_each = λ k d q. absurd (omega (arith, q)); unabsorbed =
-    λ k d q. absurd (omega (arith, q)) } }
+    record {
+      derived_each = λ k d q. absurd (omega (arith, q));
+      after = g;
+      legal = refl;
+      honest = record {
+        clauses_each = λ k d q. absurd (omega (arith, q));
+        unabsorbed =
+            λ k d q. absurd (omega (arith, q));
+      };
+    }
 none_honest f g base (x ∷ ls) l = absurd (omega (arith, l))
 
 no_cover : (v : List ℕ) → is_derived (cover v) ≡ true → ⊥
@@ -87,8 +95,8 @@ honest_cover f ls v small h = record { after = with_block f h.after v; legal = g
             | inr inside ↦
                 let at : length ls - length early < length solve = omega (arith, past, inside) in
                 let read : get_or solve (length ls - length early) (cover v) ≡ cover v = sym (get_or_append_left solve late (cover v) (length ls - length early) at)
-                    ∙ (sym (read_past early (solve ++ late) (length ls) (cover v) inside) ∙ (ap (λ (ks : List Line). get_or ks (length ls) (cover v)) (sym e)
-                    ∙ get_or_push ls (cover v) (cover v) (length ls) refl)) in
+                ∙ (sym (read_past early (solve ++ late) (length ls) (cover v) inside) ∙ (ap (λ (ks : List Line). get_or ks (length ls) (cover v)) (sym e)
+                ∙ get_or_push ls (cover v) (cover v) (length ls) refl)) in
                 absurd (no_cover v (subst (λ (x : Line). is_derived x ≡ true) read (each (length ls - length early) (cover v) at)))
           ]
         ]
@@ -124,8 +132,8 @@ honest_solve f ls new b h ends_ls legal_ls lines = record { after = lines.after;
                 let x = last_cover ls ends_ls (omega (arith, inside)) in
                 let at : k - length early < length solve = omega (arith, past, inside) in
                 let read : get_or solve (k - length early) (cover x.0) ≡ cover x.0 = sym (get_or_append_left solve late (cover x.0) (k - length early) at)
-                    ∙ (sym (read_past early (solve ++ late) k (cover x.0) (omega (arith, inside))) ∙ (ap (λ (ks : List Line). get_or ks k (cover x.0)) (sym e)
-                    ∙ (get_or_append_left ls new (cover x.0) k (omega (arith, inside)) ∙ x.1 (cover x.0)))) in
+                ∙ (sym (read_past early (solve ++ late) k (cover x.0) (omega (arith, inside))) ∙ (ap (λ (ks : List Line). get_or ks k (cover x.0)) (sym e)
+                ∙ (get_or_append_left ls new (cover x.0) k (omega (arith, inside)) ∙ x.1 (cover x.0)))) in
                 absurd (no_cover x.0 (subst (λ (y : Line). is_derived y ≡ true) read (each (k - length early) (cover x.0) at)))
             | inr after ↦ elim (cases_lt (length ls) (length early)) [
               | inl more ↦
@@ -136,7 +144,7 @@ honest_solve f ls new b h ends_ls legal_ls lines = record { after = lines.after;
                   let sides : length (early ++ (solve ++ late)) ≡ length early + length (solve ++ late) = length-append early (solve ++ late) in
                   let at : k - length ls < length new = omega (arith, more, long, sides, ap length e) in
                   let read : get_or new (k - length ls) (cover x.0) ≡ cover x.0 = sym (read_past ls new k (cover x.0) (omega (arith, more)))
-                      ∙ (ap (λ (ks : List Line). get_or ks k (cover x.0)) e ∙ (get_or_append_left early (solve ++ late) (cover x.0) k (omega (arith, more)) ∙ x.1 (cover x.0))) in
+                  ∙ (ap (λ (ks : List Line). get_or ks k (cover x.0)) e ∙ (get_or_append_left early (solve ++ late) (cover x.0) k (omega (arith, more)) ∙ x.1 (cover x.0))) in
                   absurd (no_cover x.0 (subst (λ (y : Line). is_derived y ≡ true) read (lines.derived_each (k - length ls) (cover x.0) at)))
               | inr no_more ↦
                   let cut = front_of early (solve ++ late) ls new (sym e) after in
@@ -146,7 +154,7 @@ honest_solve f ls new b h ends_ls legal_ls lines = record { after = lines.after;
                   let here : b ≡ g = one_given b g (sym legal_ls ∙ (ap (given_by f) (sym same) ∙ legal)) in
                   subst (λ (ks : List Line). AreHonestLines f g (f.base ++ blocks_by f ks) solve) (sym same)
                   (subst (λ (k : Given). AreHonestLines f k (f.base ++ blocks_by f ls) solve) here (lines_front f b (f.base ++ blocks_by f ls) solve late
-                      (subst (AreHonestLines f b (f.base ++ blocks_by f ls)) rest lines)))
+                  (subst (AreHonestLines f b (f.base ++ blocks_by f ls)) rest lines)))
             ]
           ]
         ]

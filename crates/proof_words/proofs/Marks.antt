@@ -55,8 +55,15 @@ empty_says = refl
 pub op_of-numeral : (word : List ℕ) → HasNoMark word → op_of word ≡ option_map Id (number_of word)
 op_of-numeral [] h = empty_says
 op_of-numeral (b ∷ more) h =
-    rw (after_none 43 b more h.plus, after_none 115 b more h.saturate, after_none 120 b more h.variable, after_none 126 b more h.opposite, after_none 42 b more h.times,
-        after_none 47 b more h.divide, after_none 119 b more h.weaken) refl
+    rw (
+      after_none 43 b more h.plus,
+      after_none 115 b more h.saturate,
+      after_none 120 b more h.variable,
+      after_none 126 b more h.opposite,
+      after_none 42 b more h.times,
+      after_none 47 b more h.divide,
+      after_none 119 b more h.weaken,
+    ) refl
 
 no_front : (letter : ℕ) (word : List ℕ) → ((rest : List ℕ) → word ≢ letter ∷ rest) → after letter word ≡ None
 no_front letter [] other = refl

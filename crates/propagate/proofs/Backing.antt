@@ -22,10 +22,6 @@ value-own off l x e = grind (arith, nat_tests)
 value-rest : (off : List Literal) (l : Literal) (x : ℕ) → l.var ≢ x → value_of (l ∷ off) x ≡ value_of off x
 value-rest off l x n = grind (arith, nat_tests)
 
-}
-
-}
-
 -- a constraint that was quiet, once a literal gave back what it took
 quiet-given : (room back : ℕ) (ls off : List Literal) (l : Literal) (c : Linear) → IsQuietBut room (value_of (ls ++ l ∷ [])) off c → back ≡ room + weight_of (number_of (opposite_of l)) c.terms
     → IsQuietBut back (value_of ls) (l ∷ off) c

@@ -167,8 +167,6 @@ Removed-more slot ts i t lists mid new p h is lt e =
       ];
     })
 
-}
-
 pub empty-push : (slots : List (Option Linear)) (i : ℕ) → get_or (slots ++ empty ∷ []) i empty ≡ get_or slots i empty
 empty-push [] zero = refl
 empty-push [] (suc i) = refl

@@ -126,4 +126,4 @@ pub room-is : (slots : List (Option Linear)) (rooms : List ℕ) (ls : List Liter
 room-is slots rooms ls es i room c counted here lt at sum =
     let d : get_or rooms i 0 ≡ get_or rooms i room = get_or_default rooms i 0 room lt in
     at ∙ sym d ∙ sum ∙ ap (λ (us : List Literal). open_weight (value_of us) (linear_at slots i).terms) counted
-        ∙ weight-same (value_of (lits_of es)) (value_in es) (linear_at slots i).terms (value_of-entries es) ∙ ap (λ (k : Linear). open_weight (value_in es) k.terms) (linear-is slots i c here)
+    ∙ weight-same (value_of (lits_of es)) (value_in es) (linear_at slots i).terms (value_of-entries es) ∙ ap (λ (k : Linear). open_weight (value_in es) k.terms) (linear-is slots i c here)

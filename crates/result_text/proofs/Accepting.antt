@@ -117,7 +117,7 @@ spelt_more s w stated text piece h fine spell =
     let head = none_of (BadStatement, is_some stated.vector || list_any is_empty ws) rest words_fine in
     let no_vector : stated.vector ≡ None = is_none_of stated.vector (or_parts (is_some stated.vector) (list_any is_empty ws) head.0).0 in
     let now : text ≡ items_text s (bits_of stated.design) stated.least = h.is ∙ ap (λ (v : Option (List ℕ)). items_text s (bits_of stated.design) stated.least ++ vector_text v) no_vector
-        ∙ append-nil (items_text s (bits_of stated.design) stated.least) in
+    ∙ append-nil (items_text s (bits_of stated.design) stated.least) in
     elim (cases_Bool (is_vector ws)) [
       | inl t ↦
           let tests : rest ≡ vector_tests s (later_words ws) = rw t refl in
@@ -157,7 +157,7 @@ spelt_kept s w = record {
   start = start s;
   more = λ done text piece number h fine ended.
       subst (λ (x : Stated). IsSpelt s x (text ++ piece)) (sym (with_lines-push s (nothing s) done (line_at number piece)))
-          (spelt_more s w (after s done) text piece h fine (ended_spelled piece ended));
+      (spelt_more s w (after s done) text piece h fine (ended_spelled piece ended));
   ended = λ done piece lacks fine. absurd (let c : true ≡ false = sym lacks ∙ (fine_alone piece (words_tests s (after s done) (words_of piece)) fine).ended in cc);
 }
 

@@ -129,7 +129,7 @@ within s (p ∷ ps) n before all e none number done stated is here current =
           let next : FrontStated = record stated { current = now } in
           let open_entry : after_words s stated now ≡ next = rw f refl in
           let r = within s ps (n + 1) (before ++ line_at n p ∷ []) all step.1 (ap (λ (x : Stated). is_some x.vector) now_is ∙ f) (number + 1) (done ++ line ∷ []) next (state ∙ open_entry) here
-              (sym now_is) in
+          (sym now_is) in
           record { last = r.last; all = r.all; reads = λ rest. goes rest ∙ r.reads rest; state = r.state }
     ]
 
@@ -269,7 +269,7 @@ front_reread s w h names bytes front small is =
     let r = entries_read s w h front.entries [] head (head_read s names) (recursion_from_All (IsShaped s) front.entries is.entries) (omega (arith, few)) in
     let c = end_read s front.entries (head ++ entries) front.complete r in
     let end : run (front_rules s) c.number c.done [] ≡ ok c.done = run-nil (front_rules s) c.number c.done
-        ∙ ap (λ (x : FrontStated). unless_broken c.number (first_broken (end_tests_in x.place)) (ok c.done)) c.state in
+    ∙ ap (λ (x : FrontStated). unless_broken c.number (first_broken (end_tests_in x.place)) (ok c.done)) c.state in
     record {
       all = c.done;
       reads =

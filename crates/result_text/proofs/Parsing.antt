@@ -71,9 +71,18 @@ bind_read s w h o lt =
 use_fine : (s : SpecValue) (m l p q : List ℕ) (message a : ℕ) → number_of s.message_names m ≡ message → message < length s.message_names
     → number_of s.links l < length s.links → number_of s.resources p < length s.resources → number_of s.resources q < length s.resources → arc_number s l p q ≡ a → a < length s.arcs
     → (first_broken (use_tests s m l p q) ≡ None) × (arc_var s (number_of s.message_names m) (arc_number s l p q) ≡ arc_var s message a)
-use_fine s m l p q message a em lm ll lp lq ea la =
-    (rw (em, lt-ltb message (length s.message_names) lm, lt-ltb (number_of s.links l) (length s.links) ll, lt-ltb (number_of s.resources p) (length s.resources) lp,
-        lt-ltb (number_of s.resources q) (length s.resources) lq, ea, lt-leb (length s.arcs) a la) refl, rw (em, ea) refl)
+use_fine s m l p q message a em lm ll lp lq ea la = (
+  rw (
+    em,
+    lt-ltb message (length s.message_names) lm,
+    lt-ltb (number_of s.links l) (length s.links) ll,
+    lt-ltb (number_of s.resources p) (length s.resources) lp,
+    lt-ltb (number_of s.resources q) (length s.resources) lq,
+    ea,
+    lt-leb (length s.arcs) a la,
+  ) refl,
+  rw (em, ea) refl,
+)
 
 use_read : (s : SpecValue) → IsWellFormed s → HasNames s → (m a : ℕ) → m < length s.messages → a < length s.arcs → IsReadAs s (arc_var s m a) (use_words s m a)
 use_read s w h m a lm la =
@@ -84,12 +93,17 @@ use_read s w h m a lm la =
     let tail = number_of_name s.resources arc.tail w.plan.resources_distinct is.tail in
     let head = number_of_name s.resources arc.head w.plan.resources_distinct is.head in
     let place : arc_number s (name_at s.links arc.link) (name_at s.resources arc.tail) (name_at s.resources arc.head) ≡ a =
-        rw (link, tail, head) (place_of_arc s.arcs a no_arc w.plan.arcs_distinct la) in
+    rw (link, tail, head) (place_of_arc s.arcs a no_arc w.plan.arcs_distinct la) in
     let fine = use_fine s (name_at s.message_names m) (name_at s.links arc.link) (name_at s.resources arc.tail) (name_at s.resources arc.head) m a
     (number_of_name s.message_names m w.plan.messages_distinct named) named (omega (arith, link, is.link)) (omega (arith, tail, is.tail)) (omega (arith, head, is.head)) place la in
     record {
-      words = (record { some = omega arith; bytes = refl }, (name_in s.message_names m h.messages named,
-          (name_in s.links arc.link h.links is.link, (name_in s.resources arc.tail h.resources is.tail, (name_in s.resources arc.head h.resources is.head, tt)))));
+      words = (
+        record { some = omega arith; bytes = refl },
+        (
+          name_in s.message_names m h.messages named,
+          (name_in s.links arc.link h.links is.link, (name_in s.resources arc.tail h.resources is.tail, (name_in s.resources arc.head h.resources is.head, tt))),
+        ),
+      );
       some_word = omega arith;
       item = refl;
       tests = fine.0;

@@ -175,7 +175,7 @@ reread s w h design numbers bits one_each small =
     let end : run (result_rules s) (r.number + 1) all [] ≡ ok all = run-nil (result_rules s) (r.number + 1) all ∙ rw closed refl in
     let step = goes_on s r.number r.done stated (spelled vw) (pieces []) (pieces (spelled vw ++ [])) _ refl (p.first []) refl fine in
     let same : stated.design ≡ design = same_lists stated.design design (r.len ∙ sym bits) (λ k d lt. get_or_default stated.design k d false lt ∙ r.same k (omega (arith, lt, r.len))
-        ∙ sym (get_or_default design k d false (omega (arith, lt, r.len, bits)))) in
+    ∙ sym (get_or_default design k d false (omega (arith, lt, r.len, bits)))) in
     record {
       all = all;
       reads =

@@ -41,14 +41,14 @@ those_agree p q zero h = refl
 those_agree p q (suc n) h =
     subst (λ (k : ℕ). those p k ≡ those q k) (add-one n)
     (those-more p n ∙ (ap (λ (b : Bool). those p n ++ cond b (n ∷ []) []) (h n (omega arith)) ∙ (ap (λ (xs : List ℕ). xs ++ cond (q n) (n ∷ []) []) (those_agree p q n (λ i l. h i (omega arith)))
-        ∙ sym (those-more q n))))
+    ∙ sym (those-more q n))))
 
 maps_agree : (f g : ℕ → List ℕ) (n : ℕ) → ((i : ℕ) → i < n → f i ≡ g i) → map f (below n) ≡ map g (below n)
 maps_agree f g zero h = refl
 maps_agree f g (suc n) h =
     subst (λ (k : ℕ). map f (below k) ≡ map g (below k)) (add-one n)
     (map-below_more f n ∙ (ap (λ (x : List ℕ). map f (below n) ++ x ∷ []) (h n (omega arith)) ∙ (ap (λ (xs : List (List ℕ)). xs ++ g n ∷ []) (maps_agree f g n (λ i l. h i (omega arith)))
-        ∙ sym (map-below_more g n))))
+    ∙ sym (map-below_more g n))))
 
 -- a key among the values of a function
 key_at : (g : ℕ → ℕ) (n k i : ℕ) → i < n → has_key (map g (below n)) k i ≡ nat_eq (g i) k
@@ -100,7 +100,7 @@ neighbours_are s q =
     ap (λ (arcs : List ℕ). joined_to (map (tail_of s) (below (length s.arcs))) arcs (length s.resources)) (with_key_is (head_of s) (length s.arcs) q)
     ∙ those_agree (has_arc (map (tail_of s) (below (length s.arcs))) (arcs_into s q)) (leads_to s q) (length s.resources)
     (λ p l. any_agree (has_key (map (tail_of s) (below (length s.arcs))) p) (leaves s p) (length s.arcs) (arcs_into s q)
-        (All-those (λ a. a < length s.arcs) (goes_into s q) (length s.arcs) (λ i k e. k)) (λ a k. key_at (tail_of s) (length s.arcs) p a k))
+    (All-those (λ a. a < length s.arcs) (goes_into s q) (length s.arcs) (λ i k e. k)) (λ a k. key_at (tail_of s) (length s.arcs) p a k))
 
 pub rows_of_neighbours : (s : SpecValue) (tails heads : List ℕ) (rows : List (List ℕ)) → tails ≡ map (tail_of s) (below (length s.arcs)) → heads ≡ map (head_of s) (below (length s.arcs))
     → rows ≡ map (neighbours_by tails heads (length s.resources)) (below (length s.resources)) → rows ≡ map (neighbours s) (below (length s.resources))
@@ -108,7 +108,7 @@ rows_of_neighbours s tails heads rows e g h =
     h ∙ (ap (λ (ts : List ℕ). map (neighbours_by ts heads (length s.resources)) (below (length s.resources))) e
     ∙ (ap (λ (hs : List ℕ). map (neighbours_by (map (tail_of s) (below (length s.arcs))) hs (length s.resources)) (below (length s.resources))) g
     ∙ maps_agree (neighbours_by (map (tail_of s) (below (length s.arcs))) (map (head_of s) (below (length s.arcs))) (length s.resources)) (neighbours s) (length s.resources)
-        (λ q l. neighbours_are s q)))
+    (λ q l. neighbours_are s q)))
 
 pub ruleset key_steps = (rows_by_task, rows_by_resource, rows_by_head, rows_by_tail, rows_by_link, rows_of_neighbours)
 
@@ -142,7 +142,7 @@ pub receiver_options_are : (s : SpecValue) (m r : ℕ) (xs ys : List ℕ) → ys
 unfolding for_receiver on_resource is_for
 receiver_options_are s m r xs ys h e =
     h ∙ (ap (filter (is_for s m)) e ∙ (filter_twice (on_resource s r) (is_for s m) (below (length s.options))
-        ∙ those_agree (λ o. on_resource s r o && is_for s m o) (for_receiver s m r) (length s.options) (λ o l. and_comm (on_resource s r o) (is_for s m o))))
+    ∙ those_agree (λ o. on_resource s r o && is_for s m o) (for_receiver s m r) (length s.options) (λ o l. and_comm (on_resource s r o) (is_for s m o))))
 
 -- a value of a function that is 0 past n
 value_at : (g : ℕ → ℕ) (n o : ℕ) → (n ≤ o → g o ≡ 0) → get_or (map g (below n)) o 0 ≡ g o
@@ -157,7 +157,7 @@ pub is_on_is : (s : SpecValue) (r o : ℕ) (keys : List ℕ) (b : Bool) → b �
 unfolding on_resource
 is_on_is s r o keys b h e =
     h ∙ (ap (λ (ks : List ℕ). has_key ks r o) e ∙ ap (λ (x : ℕ). nat_eq x r) (value_at (resource_of s) (length s.options) o
-        (λ l. ap (λ (c : Choice). c.resource) (get_or_past s.options o (choice 0 0 0) l))))
+    (λ l. ap (λ (c : Choice). c.resource) (get_or_past s.options o (choice 0 0 0) l))))
 
 among_numbers : (ws : List TaskNo) (t : ℕ) → is_among ws t ≡ list_any (is_number t) (map task_number ws)
 among_numbers [] t = refl
@@ -168,7 +168,7 @@ tests_agree f g zero h = refl
 tests_agree f g (suc n) h =
     subst (λ (k : ℕ). map f (below k) ≡ map g (below k)) (add-one n)
     (map-below_more f n ∙ (ap (λ (x : Bool). map f (below n) ++ x ∷ []) (h n (omega arith)) ∙ (ap (λ (xs : List Bool). xs ++ g n ∷ []) (tests_agree f g n (λ i l. h i (omega arith)))
-        ∙ sym (map-below_more g n))))
+    ∙ sym (map-below_more g n))))
 
 pub receivers_are : (s : SpecValue) (m n : ℕ) (ws : List TaskNo) (v : List Bool) → v ≡ map (is_among ws) (below n) → map task_number ws ≡ (message_at s m).receivers
     → v ≡ map (is_receiver s m) (below n)
@@ -181,9 +181,9 @@ pub is_for_is : (s : SpecValue) (m o task : ℕ) (keys : List ℕ) (flags : List
 unfolding is_for is_receiver
 is_for_is s m o task keys flags b wf hm ek ef et eb =
     let at : task ≡ task_of s o = et ∙ (ap (λ (ks : List ℕ). get_or ks o 0) ek ∙ value_at (task_of s) (length s.options) o
-        (λ l. ap (λ (c : Choice). c.task) (get_or_past s.options o (choice 0 0 0) l))) in
+    (λ l. ap (λ (c : Choice). c.task) (get_or_past s.options o (choice 0 0 0) l))) in
     eb ∙ (ap (λ (fs : List Bool). get_or fs task false) ef ∙ (ap (λ (t : ℕ). get_or (map (is_receiver s m) (below (length s.tasks))) t false) at
-        ∙ get_or-map-range_with_len (is_receiver s m) 0 (length s.tasks) (task_of s o) (task_of s o) false (there (cases_lt o (length s.options))) (omega arith)))
+    ∙ get_or-map-range_with_len (is_receiver s m) 0 (length s.tasks) (task_of s o) (task_of s o) false (there (cases_lt o (length s.options))) (omega arith)))
   where
     there : ((o < length s.options) ⊎ (length s.options ≤ o)) → task_of s o < length s.tasks
     there (inl l) = (option_in s o wf l).task

@@ -16,7 +16,7 @@ asked_none words e = rw e refl
 
 pub asked : (words : List Text) (m : ArgMatches) → Reads (form_of decode_table) words (Some m)
     → decode_request words ≡ decode_with (first_value (found_of m) (codes "tgff")) (first_value (found_of m) (codes "arch")) (first_value (found_of m) (codes "geno"))
-        (first_value (found_of m) (codes "budget")) (first_value (found_of m) (codes "proof"))
+    (first_value (found_of m) (codes "budget")) (first_value (found_of m) (codes "proof"))
 unfolding decode_request
 asked words m h = rw (h.1, h.2 (codes "tgff"), h.2 (codes "arch"), h.2 (codes "geno"), h.2 (codes "budget"), h.2 (codes "proof")) refl
 
@@ -26,7 +26,7 @@ explore_asked_none tags words e = rw e refl
 
 pub explore_asked : (tags words : List Text) (m : ArgMatches) → Reads (form_of explore_table) words (Some m)
     → explore_request tags words ≡ explore_with tags (first_value (found_of m) (codes "tgff")) (first_value (found_of m) (codes "arch")) (first_value (found_of m) (codes "rounds"))
-        (first_value (found_of m) (codes "seed")) (first_value (found_of m) (codes "measure")) (first_value (found_of m) (codes "proof"))
+    (first_value (found_of m) (codes "seed")) (first_value (found_of m) (codes "measure")) (first_value (found_of m) (codes "proof"))
 unfolding explore_request
 explore_asked tags words m h = rw (h.1, h.2 (codes "tgff"), h.2 (codes "arch"), h.2 (codes "rounds"), h.2 (codes "seed"), h.2 (codes "measure"), h.2 (codes "proof")) refl
 
@@ -36,7 +36,7 @@ front_asked_none words e = rw e refl
 
 pub front_asked : (words : List Text) (m : ArgMatches) → Reads (form_of front_table) words (Some m)
     → front_request words ≡ front_with (first_value (found_of m) (codes "tgff")) (first_value (found_of m) (codes "arch")) (first_value (found_of m) (codes "front"))
-        (first_value (found_of m) (codes "proof")) (first_value (found_of m) (codes "budget"))
+    (first_value (found_of m) (codes "proof")) (first_value (found_of m) (codes "budget"))
 unfolding front_request
 front_asked words m h = rw (h.1, h.2 (codes "tgff"), h.2 (codes "arch"), h.2 (codes "front"), h.2 (codes "proof"), h.2 (codes "budget")) refl
 
@@ -46,6 +46,6 @@ check_asked_none words e = rw e refl
 
 pub check_asked : (words : List Text) (m : ArgMatches) → Reads (form_of check_table) words (Some m)
     → check_request words ≡ check_with (first_value (found_of m) (codes "tgff")) (first_value (found_of m) (codes "arch")) (first_value (found_of m) (codes "front"))
-        (first_value (found_of m) (codes "proof"))
+    (first_value (found_of m) (codes "proof"))
 unfolding check_request
 check_asked words m h = rw (h.1, h.2 (codes "tgff"), h.2 (codes "arch"), h.2 (codes "front"), h.2 (codes "proof")) refl

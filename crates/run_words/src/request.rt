@@ -1,6 +1,6 @@
 //! The request of a line, by its first word.
 
-ghost use Rattle.std.specs.Prelude.{◌≡◌, ◌∷◌, ◌++◌, IfOk, OnOk, map, option_map, string_bytes};
+ghost use Rattle.std.specs.Prelude.{◌≡◌, ◌∷◌, ◌++◌, IfOk, OnOk, OnErr, map, option_map, string_bytes};
 ghost use Rattle.run_words.specs.Requests.{request, usage_text};
 ghost use Rattle.run_words.specs.Values.{request_value};
 
@@ -110,12 +110,25 @@ pub fn read_words(
     }
 }
 
-/// Appends the lines of usage of all commands.
-pub fn put_usage(out: &mut Vec<u8>) -> Result<(), AllocError>
-    ensures { OnOk result (out.new.items ≡ out.old.items ++ usage_text) }
+/// The lines of usage of all commands.
+fn usage_of(alloc: Global) -> Result<Vec<u8>, AllocError>
+    ensures { IfOk result (λ text. text.items ≡ usage_text) }
 {
-    put_decode_usage(out)?;
-    put_explore_usage(out)?;
-    put_front_usage(out)?;
-    put_check_usage(out)
+    let mut text = Vec::new(alloc);
+    put_decode_usage(&mut text)?;
+    put_explore_usage(&mut text)?;
+    put_front_usage(&mut text)?;
+    put_check_usage(&mut text)?;
+    Ok(text)
+}
+
+/// Appends the lines of usage of all commands.
+///
+/// Where memory runs out, `out` is as before.
+pub fn put_usage(alloc: Global, out: &mut Vec<u8>) -> Result<(), AllocError>
+    ensures ok { OnOk result (out.new.items ≡ out.old.items ++ usage_text) }
+    ensures err { OnErr result (out.new.items ≡ out.old.items) }
+{
+    let text = usage_of(alloc)?;
+    out.extend_from_slice(&text)
 }

@@ -84,7 +84,7 @@ both_ways s l a b p e ne = apart_push Clash (s.arcs ++ forth l a b ∷ []) (fort
         go (inr y) =
             let place : i - length s.arcs ≡ 0 = omega (arith, y, lt, length-append s.arcs (forth l a b ∷ [])) in
             let same : get_or (s.arcs ++ forth l a b ∷ []) i d ≡ forth l a b = get_or-append_right s.arcs (forth l a b ∷ []) (length s.arcs) i d refl y
-                ∙ ap (λ (k : ℕ). get_or (forth l a b ∷ []) k d) place in
+            ∙ ap (λ (k : ℕ). get_or (forth l a b ∷ []) k d) place in
             ne (ap (λ (z : Arc). z.tail) (sym same) ∙ x.1)
 
 -- the arcs of a link, one way or two

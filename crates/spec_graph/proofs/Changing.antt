@@ -146,7 +146,7 @@ pub order_one_changed : (rows : List (List Bool)) (change : Change) (m : ℕ) (o
 order_one_changed rows change m old ms e lm o =
     let ways = changed_ways old m change lm in
     subst (IsOrderOf rows) (sym e) (order_within rows old (with_changed old m change) (sends_same old (with_changed old m change) (same_back (with_changed old m change) old ways))
-        (sends_same (with_changed old m change) old ways) o)
+    (sends_same (with_changed old m change) old ways) o)
 
 -- the change of the message that is read at its place
 pub changed_at : (ms : List Message) (m : ℕ) (change : Change) (before after : Message) → m < length ms → before ≡ get_or ms m before → after ≡ changed change before

@@ -52,7 +52,7 @@ pub few_counted : (s : SpecValue) (xs : List Choice) (counts : List ℕ) → IsP
     → All (λ n. n ≤ 16384) counts
 few_counted s xs counts p e ec =
     subst (All (λ n. n ≤ 16384)) (sym ec) (All-map (λ n. n ≤ 16384) (options_of_task xs) (below (length s.tasks))
-        (λ k d l. omega (arith, count_by-le-length (is_of_task (get_or (below (length s.tasks)) k d)) xs, long)))
+    (λ k d l. omega (arith, count_by-le-length (is_of_task (get_or (below (length s.tasks)) k d)) xs, long)))
   where
     long : length xs ≤ 16384
     long = omega (arith, p.few_options, ap length e, length-map xs choice_value)
@@ -92,7 +92,7 @@ finished_terms_is s xs counts o r l a h x ms p e ec eo er el ea eh es ex =
 pub links_weighted : (s : SpecValue) (xs : List Arc) (rows : List (List ℕ)) → IsPlan s → map arc_value xs ≡ s.arcs → rows ≡ s.traffic_weights → All (λ a. a.link.0 < length rows) xs
 links_weighted s xs rows p e er =
     all_of_map arc_value (λ (a : ArcValue). a.link < length rows) xs (subst (All (λ a. a.link < length rows)) (sym e)
-        (All-weaker (IsArcIn s) (λ a. a.link < length rows) (λ a h. omega (arith, h.link, p.traffic_rows.one_each, ap length er)) s.arcs p.arcs_in))
+    (All-weaker (IsArcIn s) (λ a. a.link < length rows) (λ a h. omega (arith, h.link, p.traffic_rows.one_each, ap length er)) s.arcs p.arcs_in))
 
 -- a test for too big a product, over the lists that the code holds
 pub product_tells : (s : SpecValue) (xs : List Arc) (rows : List (List ℕ)) (ms : List Message) (b : Bool) → map arc_value xs ≡ s.arcs → rows ≡ s.traffic_weights → ms ≡ s.messages
@@ -117,8 +117,13 @@ products_small s none m a j hm ha = go (cases_lt (2 ^ 40) (weight_in s.traffic_w
     go : (2 ^ 40 < weight_in s.traffic_weights j (arc_at s a).link * (message_at s m).quantity) ⊎ (weight_in s.traffic_weights j (arc_at s a).link * (message_at s m).quantity ≤ 2 ^ 40)
         → weight_in s.traffic_weights j (arc_at s a).link * (message_at (finished s) m).quantity ≤ 2 ^ 40
     go (inl b) =
-        absurd (none (m, message_at s m, inside, get_or_default s.messages m (message_at s m) _ inside,
-        (a, arc_at s a, ha, get_or_default s.arcs a (arc_at s a) _ ha, record { objective = j; big = b })))
+        absurd (none (
+          m,
+          message_at s m,
+          inside,
+          get_or_default s.messages m (message_at s m) _ inside,
+          (a, arc_at s a, ha, get_or_default s.arcs a (arc_at s a) _ ha, record { objective = j; big = b }),
+        ))
     go (inr b) = rw same b
 
 pub finished_well : (s : SpecValue) → IsPlan s → IsFinishAccepted s → IsWellFormed (finished s)

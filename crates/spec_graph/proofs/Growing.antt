@@ -39,8 +39,13 @@ pub record Grows (s t : SpecValue) : Type 0 where
 
 pub arcs_grow : (s t : SpecValue) (xs : List Arc) → Grows s t → All (IsArcIn s) xs → All (IsArcIn t) xs
 arcs_grow s t xs g =
-    All-weaker (IsArcIn s) (IsArcIn t) (λ a h. record { link = omega (arith, h.link, g.links); tail = omega (arith, h.tail, g.resources); head = omega (arith, h.head, g.resources); apart =
-    h.apart }) xs
+    All-weaker (IsArcIn s) (IsArcIn t) (λ a h. record {
+      link = omega (arith, h.link, g.links);
+      tail = omega (arith, h.tail, g.resources);
+      head = omega (arith, h.head, g.resources);
+      apart =
+          h.apart;
+    }) xs
 
 pub options_grow : (s t : SpecValue) (xs : List Choice) → Grows s t → All (IsOptionIn s) xs → All (IsOptionIn t) xs
 options_grow s t xs g = All-weaker (IsOptionIn s) (IsOptionIn t) (λ o h. record { task = omega (arith, h.task, g.tasks); resource = omega (arith, h.resource, g.resources); time = h.time }) xs

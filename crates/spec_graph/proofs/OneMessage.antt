@@ -46,7 +46,7 @@ distinct_those names p (suc n) l d = subst (λ (k : ℕ). AreDistinct (map (name
     go : AreDistinct (map (name_at names) (those p n)) → (b : Bool) → p n ≡ b → AreDistinct (map (name_at names) (those p (n + 1)))
     go before true e =
         let one : map (name_at names) (those p (n + 1)) ≡ map (name_at names) (those p n) ++ name_at names n ∷ [] = ap (map (name_at names)) (those_yes p n e)
-            ∙ map-append (name_at names) (those p n) (n ∷ []) in
+        ∙ map-append (name_at names) (those p n) (n ∷ []) in
         subst AreDistinct (sym one) (distinct_push (map (name_at names) (those p n)) (name_at names n) before (name_new names p n d (omega (arith, l))))
     go before false e = subst (λ (xs : List ℕ). AreDistinct (map (name_at names) xs)) (sym (those_no p n e)) before
 
@@ -278,9 +278,9 @@ plan_merged s name listed p some there one free =
     (omega (arith, long, fewer, p.few_messages))
     (omega (arith, long, names_long, ap (λ (k : ℕ). length (unlisted listed k)) p.named))
     (distinct_push (map (name_at s.message_names) (unlisted listed (length s.message_names))) name (distinct_those s.message_names (is_unlisted listed) (length s.message_names) (omega arith)
-        p.messages_distinct) (name_free s.message_names name listed free))
+    p.messages_distinct) (name_free s.message_names name listed free))
     (All-push (IsMessageIn s) kept (merged_message parts) (from_members (IsMessageIn s) kept kept_planned)
-        (merged_planned s parts (omega (arith, some, length-map listed (message_in s.messages))) (from_members (IsMessageIn s) parts part_planned)))
+    (merged_planned s parts (omega (arith, some, length-map listed (message_in s.messages))) (from_members (IsMessageIn s) parts part_planned)))
     (none_within (merged_messages s.messages listed) s.messages (sends_merged s.messages listed there one) p.no_cycle)
   where
     n : ℕ
@@ -297,8 +297,11 @@ plan_merged s name listed p some there one free =
 
     names_long : length (merged_names s.message_names name listed) ≡ length (unlisted listed (length s.message_names)) + 1
     names_long =
-        omega (arith, length-append (map (name_at s.message_names) (unlisted listed (length s.message_names))) (name ∷ []),
-        length-map (unlisted listed (length s.message_names)) (name_at s.message_names))
+        omega (
+          arith,
+          length-append (map (name_at s.message_names) (unlisted listed (length s.message_names))) (name ∷ []),
+          length-map (unlisted listed (length s.message_names)) (name_at s.message_names),
+        )
 
     fewer : length (unlisted listed n) < n
     fewer = fewer_unlisted listed n (get_or listed 0 0) (there 0 0 some) (Contains-get_or listed 0 0 some)
@@ -328,7 +331,7 @@ pub merged_is : (ms kept new : List Message) (message : Message) (list listed : 
     → message ≡ merged_message (messages_at ms listed) → new ≡ kept ++ message ∷ [] → new ≡ merged_messages ms listed
 merged_is ms kept new message list listed ek el em en =
     en ∙ (ap (λ (m : Message). kept ++ m ∷ []) em ∙ ap (λ (ks : List Message). ks ++ merged_message (messages_at ms listed) ∷ [])
-        (ek ∙ ap (λ (xs : List ℕ). messages_at ms (unlisted xs (length ms))) el))
+    (ek ∙ ap (λ (xs : List ℕ). messages_at ms (unlisted xs (length ms))) el))
 
 pub plan_merged_at : (s : SpecValue) (name : Name) (listed : List ℕ) (names : List Name) (ms : List Message) → names ≡ merged_names s.message_names name listed
     → ms ≡ merged_messages s.messages listed → IsPlan (merged s name listed) → IsPlan (record s { message_names = names; messages = ms })

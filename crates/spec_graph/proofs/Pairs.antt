@@ -48,4 +48,4 @@ pub pairs_after : (xs ys : List Choice) (c : Choice) (ps qs : List (ℕ × ℕ))
 pairs_after xs ys c ps qs e new eq ey =
     let none : list_any (is_pair c.task.0 c.resource.0) ps ≡ false = false_from_ne_true _ (λ h. new (found xs c.task.0 c.resource.0 (sym (ap (list_any (is_pair c.task.0 c.resource.0)) e) ∙ h))) in
     eq ∙ ap (λ (b : Bool). if b then ps else ps ++ choice_pair c ∷ []) none ∙ ap (λ (zs : List (ℕ × ℕ)). zs ++ choice_pair c ∷ []) e ∙ sym (map-append choice_pair xs (c ∷ []))
-        ∙ sym (ap (map choice_pair) ey)
+    ∙ sym (ap (map choice_pair) ey)

@@ -15,14 +15,14 @@ pub arc_read : (s : SpecValue) (xs : List Arc) (i : ℕ) (a : Arc) → IsWellFor
 arc_read s xs i a w e l h =
     let within : i < length xs = omega (arith, l, ap length e, length-map xs arc_value) in
     let value : get_or s.arcs i (arc_value a) ≡ arc_value a = ap (λ (ys : List ArcValue). get_or ys i (arc_value a)) (sym e)
-        ∙ (get_or-map arc_value xs i a (arc_value a) within ∙ ap arc_value (sym h)) in
+    ∙ (get_or-map arc_value xs i a (arc_value a) within ∙ ap arc_value (sym h)) in
     subst (IsArcIn s) value (w.plan.arcs_in i (arc_value a) l)
 
 pub option_read : (s : SpecValue) (xs : List Choice) (i : ℕ) (o : Choice) → IsWellFormed s → map choice_value xs ≡ s.options → i < length s.options → o ≡ get_or xs i o → IsOptionIn s (choice_value o)
 option_read s xs i o w e l h =
     let within : i < length xs = omega (arith, l, ap length e, length-map xs choice_value) in
     let value : get_or s.options i (choice_value o) ≡ choice_value o = ap (λ (ys : List ChoiceValue). get_or ys i (choice_value o)) (sym e)
-        ∙ (get_or-map choice_value xs i o (choice_value o) within ∙ ap choice_value (sym h)) in
+    ∙ (get_or-map choice_value xs i o (choice_value o) within ∙ ap choice_value (sym h)) in
     subst (IsOptionIn s) value (w.plan.options_in i (choice_value o) l)
 
 -- the number of design variables is small

@@ -23,8 +23,6 @@ pub record Seeing (xs : List ℕ) (i : ℕ) (seen : List Bool) : Type 0 where
   pub has : (k : ℕ) → k < i → is_in seen (get_or xs k 0) ≡ true
   pub once : (j k : ℕ) → j < k → k < i → get_or xs j 0 ≡ get_or xs k 0 → ⊥
 
-}
-
 pub seeing_more : (xs : List ℕ) (i x : ℕ) (seen next : List Bool) → x ≡ get_or xs i 0 → is_in seen x ≡ false → ((t : ℕ) → is_in next t ≡ (is_in seen t || (t == x))) → Seeing xs i seen
     → Seeing xs (i + 1) next
 seeing_more xs i x seen next ex new en s = record {

@@ -2,6 +2,7 @@
 
 ghost use Rattle.std.specs.Prelude.{◌≡◌, ◌<◌, ◌≤◌, length, Contains, MatchOption};
 ghost use Rattle.spec_model.specs.Spec.{empty_spec, message_at};
+ghost use Rattle.spec_model.specs.Limits.{most_tasks, most_messages, most_resources, most_links};
 ghost use Rattle.names.specs.Names.{IsNumberOf};
 ghost use Rattle.spec_graph.specs.Held.{value_of};
 
@@ -54,7 +55,7 @@ impl Held {
 
     /// The task of a name.
     pub fn find_task(&self, name: &str) -> Option<TaskNo>
-        requires few { length self.now.tasks ≤ 1024 }
+        requires few { length self.now.tasks ≤ most_tasks }
         ensures { MatchOption result (Contains self.now.tasks name.now → ⊥) (λ t. IsNumberOf self.now.tasks name.now t.0) }
     {
         match self.tasks.find(name) {
@@ -65,7 +66,7 @@ impl Held {
 
     /// The resource of a name.
     pub fn find_resource(&self, name: &str) -> Option<ResNo>
-        requires few { length self.now.resources ≤ 256 }
+        requires few { length self.now.resources ≤ most_resources }
         ensures { MatchOption result (Contains self.now.resources name.now → ⊥) (λ r. IsNumberOf self.now.resources name.now r.0) }
     {
         match self.resources.find(name) {
@@ -76,7 +77,7 @@ impl Held {
 
     /// The message of a name.
     pub fn find_message(&self, name: &str) -> Option<MsgNo>
-        requires few { length self.now.message_names ≤ 2048 }
+        requires few { length self.now.message_names ≤ most_messages }
         ensures { MatchOption result (Contains self.now.message_names name.now → ⊥) (λ m. IsNumberOf self.now.message_names name.now m.0) }
     {
         match self.message_names.find(name) {
@@ -87,7 +88,7 @@ impl Held {
 
     /// The link of a name.
     pub fn find_link(&self, name: &str) -> Option<LinkNo>
-        requires few { length self.now.links ≤ 1024 }
+        requires few { length self.now.links ≤ most_links }
         ensures { MatchOption result (Contains self.now.links name.now → ⊥) (λ l. IsNumberOf self.now.links name.now l.0) }
     {
         match self.links.find(name) {

@@ -2,6 +2,7 @@
 
 ghost use Rattle.std.specs.Prelude.{◌≡◌, ◌<◌, ◌≤◌, ◌+◌, ◌++◌, length, map, Contains, MatchOption, IfOk, OnOk, IfErr, OnErr};
 ghost use Rattle.std.specs.Vec.{vec_len, vec_capacity};
+ghost use Rattle.spec_model.specs.Limits.{most_links};
 ghost use Rattle.names.specs.Names.{IsName};
 ghost use Rattle.spec_graph.specs.Held.{value_of};
 ghost use Rattle.spec_graph.specs.Lists.{arc_value};
@@ -50,7 +51,7 @@ impl Held {
     ) -> Result<LinkNo, AllocError>
         requires named { IsName name.now }
         requires new { Contains self.old.links name.now → ⊥ }
-        requires few { length self.old.links ≤ 1024 }
+        requires few { length self.old.links ≤ most_links }
         ensures number { IfOk result (λ l. l.0 ≡ length self.old.links) }
         ensures added { OnOk result (value_of self.new ≡ with_link (value_of self.old) name.now a.0 b.0 two_way weights.now traffic.now) }
         ensures unchanged { OnErr result (value_of self.new ≡ value_of self.old) }

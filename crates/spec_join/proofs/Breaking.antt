@@ -163,7 +163,7 @@ stopped tgff ls k l old NoMemory lt e eo none r = tt
 stopped tgff ls k l old (Broken why) lt e eo none r =
     let sts = statements_in ls in
     let f : Refuses (after tgff sts k) (statement_at sts k) (Broken why) = subst (λ (st : Statement). Refuses (after tgff sts k) st (Broken why)) (sym (stands ls k l lt e))
-        (subst (λ (s : Joining). Refuses s l.statement (Broken why)) eo r) in (
+    (subst (λ (s : Joining). Refuses s l.statement (Broken why)) eo r) in (
       refl,
       record {
         place = k;
@@ -196,5 +196,5 @@ pub ended : (tgff : TgffValue) (file : ArchValue) (ls : List ArchLine) (line : �
     → NoneBreaks tgff (statements_in ls) (length ls) → RefusesEnd s.plan stop → fault ≡ fault_at Arch line stop → JoinReads tgff file (Err fault)
 ended tgff file ls line s stop fault e el m none r ef =
     let h : JoinReads tgff file (Err (fault_at Arch file.end_line stop)) = stopped_at_end tgff file s stop (m ∙ ap (after_all tgff) e)
-        (subst (λ (xs : List ArchLine). NoneBreaks tgff (statements_in xs) (length xs)) e none) r in
+    (subst (λ (xs : List ArchLine). NoneBreaks tgff (statements_in xs) (length xs)) e none) r in
     subst (λ (f : ReadFault). JoinReads tgff file (Err f)) (sym (ef ∙ ap (λ (n : ℕ). fault_at Arch n stop) el)) h

@@ -69,7 +69,7 @@ key_fits s row keys i k name amount l e en t ea known h =
     let own : is_table_key k.key ≡ false = subst (λ (n : Name). is_table_key n ≡ false) en t in
     let there : IsKnownKey s.plan.objectives k = subst (IsKnownKey s.plan.objectives) (sym e) (known i k l) in
     let small : at_scale (weight_taking s k.key).scale (amount_in (cell_of row k.column)) ≤ 2 ^ 40 =
-        cell_small (weight_taking s k.key) (cell_of row k.column) (λ why x. none_at (KeyBreaks s row why) keys i k l e (h why) (own, x)) in
+    cell_small (weight_taking s k.key) (cell_of row k.column) (λ why x. none_at (KeyBreaks s row why) keys i k l e (h why) (own, x)) in
     subst (λ (n : Name). IsWeighable s.plan.objectives s.scales (record { key = n; amount = amount })) (sym en)
     (subst (λ (a : ℤ). IsWeighable s.plan.objectives s.scales (record { key = k.key; amount = a })) (sym ea) (record { known = there own; small = small }))
 
@@ -107,7 +107,7 @@ place_fits old mid tables n resource places i k name amount l e en et ea known h
     let cell : amount ≡ amount_in (first_cell_of table k.column) = ea ∙ ap (λ (ts : List Table). amount_in (first_cell_of (table_at ts n) k.column)) same in
     let there : IsKnownPlace old.plan.objectives k = subst (IsKnownPlace old.plan.objectives) (sym e) (known i k l) in
     let small : at_scale (weight_taking old k.key).scale (amount_in (first_cell_of table k.column)) ≤ 2 ^ 40 =
-        cell_small (weight_taking old k.key) (first_cell_of table k.column) (λ why x. none_at (PlaceBreaks old table why) places i k l e (h why) x) in
+    cell_small (weight_taking old k.key) (first_cell_of table k.column) (λ why x. none_at (PlaceBreaks old table why) places i k l e (h why) x) in
     subst (λ (s : Joining). IsWeighable s.plan.objectives s.scales (record { key = name; amount = amount })) (sym em)
     (subst (λ (m : Name). IsWeighable old.plan.objectives old.scales (record { key = m; amount = amount })) (sym en)
     (subst (λ (a : ℤ). IsWeighable old.plan.objectives old.scales (record { key = k.key; amount = a })) (sym cell) (record { known = there; small = small })))
@@ -192,7 +192,7 @@ next_first s n resource keys t =
     let o : List Choice = one_of (choice_from s resource keys t) found in
     let w : List (List ℕ) = one_of (weights_from s keys) found in
     ap (λ (x : List Choice). with_options s ((s.plan.options ++ os) ++ x) ((s.plan.option_weights ++ ws) ++ w))
-        (same_choice s (s.plan.options ++ os) (s.plan.option_weights ++ ws) resource keys t found)
+    (same_choice s (s.plan.options ++ os) (s.plan.option_weights ++ ws) resource keys t found)
     ∙ ap (λ (x : List Choice). with_options s x ((s.plan.option_weights ++ ws) ++ w)) (append_assoc s.plan.options os o)
     ∙ ap (λ (x : List (List ℕ)). with_options s (s.plan.options ++ (os ++ o)) x) (append_assoc s.plan.option_weights ws w)
 

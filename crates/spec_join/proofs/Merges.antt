@@ -71,9 +71,9 @@ other_of p name names distinct h =
       unlisted = λ c.
           let w : c.0 < length (map (number_of p.message_names) names) = omega (arith, c.1, length-map names (number_of p.message_names)) in
           let e : get_or (map (number_of p.message_names) names) c.0 h.message ≡ number_of p.message_names (get_or names c.0 name) =
-              get_or-map (number_of p.message_names) names c.0 name h.message c.1 in
+          get_or-map (number_of p.message_names) names c.0 name h.message c.1 in
           let m : h.message ≡ number_of p.message_names name = one_number p.message_names name h.message (number_of p.message_names name) distinct (number_there p.message_names name there)
-              h.within h.same in
+          h.within h.same in
           unlisted_apart (map (number_of p.message_names) names) h.message h.other (c.0, w, e ∙ ap (number_of p.message_names) c.2 ∙ sym m);
     }
 
@@ -87,7 +87,7 @@ other_by p name names known h =
       other = unlisted_by (map (number_of p.message_names) names) (number_of p.message_names name) (λ c.
           let w : c.0 < length names = omega (arith, c.1, length-map names (number_of p.message_names)) in
           let e : number_of p.message_names (get_or names c.0 name) ≡ number_of p.message_names name =
-              sym (get_or-map (number_of p.message_names) names c.0 name (number_of p.message_names name) w) ∙ c.2 in
+          sym (get_or-map (number_of p.message_names) names c.0 name (number_of p.message_names name) w) ∙ c.2 in
           h.unlisted (c.0, w, same_name p.message_names (get_or names c.0 name) name (known c.0 name w) h.there e));
       same = n.same;
     }

@@ -26,7 +26,7 @@ set_more old s new place column rows m e f =
 -- a message's row isn't refused while the messages before it are set
 pub unbroken_at : (old s : Joining) (place column : ℕ) (rows : Option ℕ) (m : ℕ) → s ≡ set_first old place column rows m → m < length old.message_kinds
     → ((why : Why) → HasBelow (length old.message_kinds) (MessageBreaks old (table_at old.tables place) column rows why) → ⊥) → (why : Why)
-        → MessageBreaks s (table_at s.tables place) column rows why m → ⊥
+    → MessageBreaks s (table_at s.tables place) column rows why m → ⊥
 unbroken_at old s place column rows m e lt none = subst (λ (j : Joining). (why : Why) → MessageBreaks j (table_at j.tables place) column rows why m → ⊥) (sym e) (λ why x. none why (m, lt, x))
 
 -- a line is accepted whose table is there and none of whose rows is refused
@@ -34,4 +34,4 @@ pub accepted_by : (s : Joining) (found : Option Table) (table : Table) (column :
     → IsLeastOrNone (λ why. HasBelow (length s.message_kinds) (MessageBreaks s table column rows why)) a → (why : Why) → QuantityTableBreaks s found column rows why → ⊥
 accepted_by s found table column rows a e none h =
     subst (λ (o : Option Table). (why : Why) → QuantityTableBreaks s o column rows why → ⊥) (sym e) (subst
-        (IsLeastOrNone (λ why. HasBelow (length s.message_kinds) (MessageBreaks s table column rows why))) none h)
+    (IsLeastOrNone (λ why. HasBelow (length s.message_kinds) (MessageBreaks s table column rows why))) none h)

@@ -50,7 +50,7 @@ small_quantity column found row e none = cell_small (record { scale = 0; cut = t
 pub least_of_counted : (s : Joining) (keys : List KeyColumn) (row : Row) (valid time : Option ℕ) (a b d inner r : Option Why) → valid ≡ column_of keys (codes "valid")
     → time ≡ column_of keys (codes "time") → does_count keys row ≡ true
     → inner ≡ lower_of b d → r ≡ lower_of a inner → IsLeastOrNone (MarkColumnBreaks valid row) a → IsLeastOrNone (TimeColumnBreaks s time row) b
-        → IsLeastOrNone (λ why. Any (KeyBreaks s row why) keys) d → IsLeastOrNone (RowBreaks s keys row) r
+    → IsLeastOrNone (λ why. Any (KeyBreaks s row why) keys) d → IsLeastOrNone (RowBreaks s keys row) r
 least_of_counted s keys row valid time a b d inner r v t counts e f mark times weights =
     let marks : IsLeastOrNone (MarkColumnBreaks (column_of keys (codes "valid")) row) a = subst (λ (o : Option ℕ). IsLeastOrNone (MarkColumnBreaks o row) a) v mark in
     let timed : IsLeastOrNone (TimeColumnBreaks s (column_of keys (codes "time")) row) b = subst (λ (o : Option ℕ). IsLeastOrNone (TimeColumnBreaks s o row) b) t times in
@@ -84,9 +84,9 @@ IsTakenAt s table place keys t = (is_some (chosen_row s table keys t) ≡ true) 
 pub least_of_line : (s : Joining) (table : Table) (resource : Name) (keys places : List KeyColumn) (a b cells d r : Option Why) → cells ≡ lower_of a b → r ≡ lower_of cells d
     → IsLeastOrNone (λ why. Any (PlaceBreaks s table why) places) a
     → IsLeastOrNone (λ why. HasBelow (length s.task_kinds) (TaskBreaks s table keys why)) b → IsLeastOrNone (OptionsBreak s table resource keys) d
-        → IsLeastOrNone (LineBreaks s table resource keys places) r
+    → IsLeastOrNone (LineBreaks s table resource keys places) r
 least_of_line s table resource keys places a b cells d r e f first rows options =
     let used : IsLeastOrNone (CellsBreak s table keys places) cells
     = subst (IsLeastOrNone (CellsBreak s table keys places)) (sym e) (least_either (λ why. Any (PlaceBreaks s table why) places)
-        (λ why. HasBelow (length s.task_kinds) (TaskBreaks s table keys why)) a b first rows) in
+    (λ why. HasBelow (length s.task_kinds) (TaskBreaks s table keys why)) a b first rows) in
     subst (IsLeastOrNone (LineBreaks s table resource keys places)) (sym f) (least_either (CellsBreak s table keys places) (OptionsBreak s table resource keys) cells d used options)

@@ -11,7 +11,8 @@ use Rattle.std.proofs.lemmas.Bool.{false≢true, false_from_ne_true, ltb-false}
 use Rattle.std.proofs.lemmas.List.Folds.{list_any_at, Any-from_list_any}
 use Rattle.names.specs.Names.{number_of}
 use Rattle.spec_model.specs.Spec.{Name}
-use Rattle.arch_reader.specs.Numbers.{at_scale, greatest}
+use Rattle.spec_model.specs.Limits.{most_number}
+use Rattle.arch_reader.specs.Numbers.{at_scale}
 use Rattle.arch_reader.specs.Tests.{objective_called, is_unknown_weight, is_big_weight, is_above_for, is_above, is_declared, is_unknown, is_unknown_key, is_unknown_place}
 use Rattle.arch_reader.specs.declared.seen.Objective.{Objective as Declared}
 use Rattle.arch_reader.specs.Words.{is_table_key}
@@ -38,7 +39,7 @@ not_declared names name h c =
 
 -- an amount that isn't above is at most the greatest
 pub not_above : (scale : ℕ) (amount : ℤ) → is_above scale amount ≡ false → at_scale scale amount ≤ 2 ^ 40
-not_above scale amount h = ltb-false greatest (at_scale scale amount) h
+not_above scale amount h = ltb-false most_number (at_scale scale amount) h
 
 -- a key among objectives, and the amount at the scale of the first one of that name
 record IsFound (os : List Declared) (key : Name) (amount : ℤ) : Type 0 where
@@ -89,7 +90,7 @@ weighable os later names scales ws en es u b = λ k d l. one (get_or ws k d) (an
     one w x y =
         let f = found os later w.key w.amount x y in
         subst (λ (ns : List Name). IsWeighable ns scales w) (sym en) (subst (λ (cs : List ℕ). IsWeighable (map objective_name (os ++ later)) cs w) (sym es)
-            (record { known = f.known; small = f.small }))
+        (record { known = f.known; small = f.small }))
 
 -- ---- the keys of a table line
 

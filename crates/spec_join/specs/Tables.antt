@@ -3,6 +3,7 @@
 use Rattle.std.specs.Prelude.{◌≡◌, ℕ, zero, suc, ◌+◌, ◌<◌, ◌⊎◌, List, [], ◌∷◌, ◌++◌, length, fold, Bool, true, false, if◌then◌else◌, Option, None, Some, is_some, find, slice_index_or, option_map, option_and_then, Any, codes}
 use Rattle.names.specs.Names.{number_of}
 use Rattle.spec_model.specs.Spec.{Name, SpecValue, Choice, choice}
+use Rattle.spec_model.specs.Limits.{most_options}
 use Rattle.spec_graph.specs.Refusals.{IsMapped}
 use Rattle.line_words.specs.declared.refusals.Why.{Why}
 use Rattle.line_words.specs.declared.refusals.Why.TheVariants.{UnknownName, RepeatedName, Limit}
@@ -183,7 +184,7 @@ CellsBreak s table keys places why = Any (PlaceBreaks s table why) places ⊎ Ha
 -- RepeatedName: a pair of task and resource that is there already; Limit: too many options
 abbrev pub OptionsBreak : Joining → Table → Name → List KeyColumn → Why → Type 0
 OptionsBreak s table resource keys RepeatedName = HasBelow (length s.task_kinds) (IsTakenTwice s table resource keys)
-OptionsBreak s table resource keys (Limit Options) = 16384 < length s.plan.options + length (made_choices s table resource keys (length s.task_kinds))
+OptionsBreak s table resource keys (Limit Options) = most_options < length s.plan.options + length (made_choices s table resource keys (length s.task_kinds))
 OptionsBreak s table resource keys _ = ⊥
 
 -- what a line is refused for whose table is there

@@ -75,7 +75,7 @@ written_more gives after n lines first old xs ys text next s t so put drawn =
           ∙ ap₂ (λ l w. l ++ flat_map spelled (taking n lines w ys)) so.put place
           ∙ append_assoc old (flat_map spelled (taking n lines words xs)) (flat_map spelled (taking n lines (later (n * length xs) words) ys))
           ∙ ap (λ l. old ++ l) (sym (flat_map-append spelled (taking n lines words xs) (taking n lines (later (n * length xs) words) ys))
-              ∙ ap (flat_map spelled) (sym (taking-append n lines words xs ys)));
+          ∙ ap (flat_map spelled) (sym (taking-append n lines words xs ys)));
       drawn = drawn ∙ ap (after_words after (n * length ys)) so.drawn ∙ after_add after (n * length xs) (n * length ys) first ∙ ap (λ k. after_words after k first) long;
     }
 

@@ -41,8 +41,15 @@ pub still_none : (ms : List Message) (m : Message) → ¬ HasCycle ms → ¬ Lea
 still_none ms m none shut x =
     elim (chain_cases ms m (suc x.more) x.task x.task x.chain) [
       | inl p ↦ none (record { task = x.task; more = x.more; chain = p })
-      | inr q ↦ shut (record { start = q.1.start; among = q.1.among; reaches = record { hops = q.1.reaches.hops + q.0.hops; chain =
-          chain_join ms q.1.reaches.hops q.0.hops q.1.start x.task m.sender q.1.reaches.chain q.0.chain } })
+      | inr q ↦ shut (record {
+        start = q.1.start;
+        among = q.1.among;
+        reaches = record {
+          hops = q.1.reaches.hops + q.0.hops;
+          chain =
+              chain_join ms q.1.reaches.hops q.0.hops q.1.start x.task m.sender q.1.reaches.chain q.0.chain;
+        };
+      })
     ]
 
 -- a message closes a cycle where a chain leads from one of its receivers to its sender
@@ -117,8 +124,11 @@ follows_before ms m a c f = record { more = f.more; chain = chain_before ms m (s
 
 pub follows_by : (ms : List Message) (m : Message) (a c : ℕ) → Reaches ms a m.sender → Leads ms m.receivers c → Follows (ms ++ m ∷ []) a c
 follows_by ms m a c r l =
-    let by : Chain (ms ++ m ∷ []) (suc l.reaches.hops) m.sender c = (l.start, record { message = m; there = Contains-push ms m; from = refl; to = l.among },
-        chain_before ms m l.reaches.hops l.start c l.reaches.chain) in
+    let by : Chain (ms ++ m ∷ []) (suc l.reaches.hops) m.sender c = (
+      l.start,
+      record { message = m; there = Contains-push ms m; from = refl; to = l.among },
+      chain_before ms m l.reaches.hops l.start c l.reaches.chain,
+    ) in
     let long : r.hops + suc l.reaches.hops ≡ suc (r.hops + l.reaches.hops) = omega arith in
     record {
       more = r.hops + l.reaches.hops;

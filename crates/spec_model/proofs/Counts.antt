@@ -24,7 +24,7 @@ count-append f xs ys = sum_by-append (λ y. cond (f y) 1 0) xs ys
 pub count-below_suc : (f : ℕ → Bool) (n : ℕ) → count_by f (below (suc n)) ≡ count_by f (below n) + cond (f n) 1 0
 count-below_suc f n =
     let at : count_by f (below (n + 1)) ≡ count_by f (below n) + cond (f n) 1 0 = ap (count_by f) (below-more n)
-        ∙ (count-append f (below n) (n ∷ []) ∙ ap (λ k. count_by f (below n) + k) (count-cons f n [] ∙ omega arith)) in
+    ∙ (count-append f (below n) (n ∷ []) ∙ ap (λ k. count_by f (below n) + k) (count-cons f n [] ∙ omega arith)) in
     subst (λ (k : ℕ). count_by f (below k) ≡ count_by f (below n) + cond (f n) 1 0) (add-one n) at
 
 pub count-map : {X : Type 0} (f : ℕ → Bool) (g : X → ℕ) (xs : List X) → count_by f (map g xs) ≡ count_by (λ x. f (g x)) xs

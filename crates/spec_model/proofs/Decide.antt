@@ -50,4 +50,4 @@ pub walk_test-from : (s : SpecValue) (f : Bits) (m n r : ℕ) → Walk s f m r n
 walk_test-from s f m zero r w = on_test-from s f (sender_of s m) r w
 walk_test-from s f m (suc n) r w =
     some_passes-from (λ a. f (arc_var s m a) && (nat_eq (arc_at s a).head r && walk_test s f m n (arc_at s a).tail)) (length s.arcs) w.0 w.1.in_range
-        (and_from _ _ w.1.bit (and_from _ _ (eq-eqb _ _ w.2) (walk_test-from s f m n (arc_at s w.0).tail w.3)))
+    (and_from _ _ w.1.bit (and_from _ _ (eq-eqb _ _ w.2) (walk_test-from s f m n (arc_at s w.0).tail w.3)))

@@ -81,8 +81,12 @@ none_below g valid d = at (g 0) (g 1) (g 2) (g 3) (g 4) (g 5) (valid.routed.boun
   where
     allocated : g 1 ≡ true → g 4 ≡ true
     allocated e =
-        (valid.routed.resource_use 1 (omega arith)).1 (inl (record { task = 0; in_range = omega arith; on =
-        record { choice = 1; in_range = omega arith; chosen = e; of_task = refl; on_resource = refl } }))
+        (valid.routed.resource_use 1 (omega arith)).1 (inl (record {
+          task = 0;
+          in_range = omega arith;
+          on =
+              record { choice = 1; in_range = omega arith; chosen = e; of_task = refl; on_resource = refl };
+        }))
 
     low : IsAtMost (numbers (g 0) (g 1) (g 2) (g 3) (g 4) (g 5)) (4 ∷ (2 ∷ []))
     low = subst (λ (u : List ℕ). IsAtMost u (4 ∷ (2 ∷ []))) (vector_is g) d.0

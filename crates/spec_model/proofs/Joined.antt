@@ -36,7 +36,7 @@ range_pieces P g (suc n) a h =
     let e : a + 0 ≡ a = omega arith in
     let first = subst (λ (k : ℕ). All P (g k)) e (h 0 (omega arith)) in
     All-append P (g a) (flat_map g (range_with_len (a + 1) n)) first (range_pieces P g n (a + 1) (λ i l. let e' : a + suc i ≡ (a + 1) + i = omega arith in
-        subst (λ (k : ℕ). All P (g k)) e' (h (suc i) (omega arith))))
+    subst (λ (k : ℕ). All P (g k)) e' (h (suc i) (omega arith))))
 
 pub All-pieces : {X : Type 0} (P : X → Type 0) (g : ℕ → List X) (n : ℕ) → ((i : ℕ) → i < n → All P (g i)) → All P (flat_map g (below n))
 All-pieces P g n h = range_pieces P g n 0 (λ i l. let e : i ≡ 0 + i = omega arith in subst (λ (k : ℕ). All P (g k)) e (h i l))
@@ -77,7 +77,7 @@ pub All-pieces_of : {X Y : Type 0} (P : Y → Type 0) (g : X → List Y) (xs : L
 All-pieces_of P g [] h = All-from_recursion P [] tt
 All-pieces_of P g (x ∷ xs) h =
     All-append P (g x) (flat_map g xs) (recursion_from_All (λ y. All P (g y)) (x ∷ xs) h).0 (All-pieces_of P g xs
-        (All-from_recursion (λ y. All P (g y)) xs (recursion_from_All (λ y. All P (g y)) (x ∷ xs) h).1))
+    (All-from_recursion (λ y. All P (g y)) xs (recursion_from_All (λ y. All P (g y)) (x ∷ xs) h).1))
 
 -- two members
 pub All-first : {X : Type 0} (P : X → Type 0) (x y : X) → All P (x ∷ (y ∷ [])) → P x
@@ -102,7 +102,7 @@ pub All-those : (P : ℕ → Type 0) (p : ℕ → Bool) (n : ℕ) → ((i : ℕ)
 All-those P p zero h = All-from_recursion P [] tt
 All-those P p (suc n) h =
     subst (λ (k : ℕ). All P (those p k)) (add-one n) (subst (λ (xs : List ℕ). All P xs) (sym (those-more p n))
-        (All-append P (those p n) (cond (p n) (n ∷ []) []) (All-those P p n (λ i l. h i (omega arith))) (last (p n) refl)))
+    (All-append P (those p n) (cond (p n) (n ∷ []) []) (All-those P p n (λ i l. h i (omega arith))) (last (p n) refl)))
   where
     last : (b : Bool) → p n ≡ b → All P (cond b (n ∷ []) [])
     last true e = All-from_recursion P (n ∷ []) (h n (omega arith) e, tt)

@@ -37,12 +37,17 @@ count_those {A = A} p d q xs same = length_those p d q xs same (length xs) (omeg
 pub sums_agree : (g h : ℕ → ℕ) (n : ℕ) → ((x : ℕ) → x < n → g x ≡ h x) → sum_by g (below n) ≡ sum_by h (below n)
 sums_agree g h zero e = refl
 sums_agree g h (suc n) e =
-    subst (λ (k : ℕ). sum_by g (below k) ≡ sum_by h (below k)) (add-one n) (omega (arith, sum_by-below_more g n, sum_by-below_more h n, sums_agree g h n (λ x l. e x (omega (arith, l))),
-        e n (omega arith)))
+    subst (λ (k : ℕ). sum_by g (below k) ≡ sum_by h (below k)) (add-one n) (omega (
+      arith,
+      sum_by-below_more g n,
+      sum_by-below_more h n,
+      sums_agree g h n (λ x l. e x (omega (arith, l))),
+      e n (omega arith),
+    ))
 
 pub lists_agree : (g h : ℕ → ℕ) (n : ℕ) → ((x : ℕ) → x < n → g x ≡ h x) → map g (below n) ≡ map h (below n)
 lists_agree g h zero e = refl
 lists_agree g h (suc n) e =
     subst (λ (k : ℕ). map g (below k) ≡ map h (below k)) (add-one n)
     (map-below_more g n ∙ (ap (λ (x : ℕ). map g (below n) ++ x ∷ []) (e n (omega arith)) ∙ (ap (λ (xs : List ℕ). xs ++ h n ∷ []) (lists_agree g h n (λ x l. e x (omega (arith, l))))
-        ∙ sym (map-below_more h n))))
+    ∙ sym (map-below_more h n))))

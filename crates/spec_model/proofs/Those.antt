@@ -59,10 +59,6 @@ those-more_no p n xs ys e t h = h ∙ (e ∙ sym (those-more p n ∙ (ap (λ (b 
 pub family_more : {A : Type 0} (g : ℕ → List A) (n : ℕ) (start now next : List A) → now ≡ start ++ flat_map g (below n) → next ≡ now ++ g n → next ≡ start ++ flat_map g (below (n + 1))
 family_more g n start now next e h = h ∙ (ap (λ zs. zs ++ g n) e ∙ (append_assoc start (flat_map g (below n)) (g n) ∙ ap (λ zs. start ++ zs) (sym (flat_map-below_more g n))))
 
--- at most all of them pass
-pub few_those : (p : ℕ → Bool) (n : ℕ) → length (those p n) ≤ n
-few_those p n = omega (arith, length-filter p (below n), count_by-le-length p (below n), length-range_with_len 0 n)
-
 -- the steps of a loop over the numbers below n
 pub ruleset those_steps = (count_by-those_more, sum_by-those_more, those-more, below-more, flat_map-below_more, those-more_yes, those-more_no, family_more)
 

@@ -14,9 +14,7 @@ pub record Merging (old other now : List Bool) (i : ℕ) : Type 0 where
   pub done : (t : ℕ) → t < i → is_in now t ≡ (is_in old t || is_in other t)
   pub rest : (t : ℕ) → i ≤ t → is_in now t ≡ is_in old t
 
-}
 
-}
   where
     here : (t : ℕ) → is_in next t ≡ is_in (set now i true) t
     here t = ap (λ (xs : List Bool). is_in xs t) en
@@ -29,7 +27,6 @@ pub record Joining (old : List (List Bool)) (sender : ℕ) (after : List Bool) (
   pub done : (a b : ℕ) → a < i → comes_after now a b ≡ is_joined old sender after a b
   pub rest : (a : ℕ) → i ≤ a → get_or now a [] ≡ get_or old a []
 
-}
   where
     within : i < length now
     within = omega (arith, l, j.long)

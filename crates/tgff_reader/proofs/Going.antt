@@ -43,7 +43,7 @@ ranked_known b g ws (Some SoftDeadline) = ranked low (known_tests b g ws (Some S
 ranked_inner : (ws : Words) (own : List Test) → IsRanked low own → IsRanked low (inner_tests ws own)
 ranked_inner ws own h =
     ranked_if low (is_closing ws) [] (if is_at (first ws) then (Unclosed, true) ∷ [] else own) tt (ranked_if low (is_at (first ws)) ((Unclosed, true) ∷ []) own
-        (ranked low ((Unclosed, true) ∷ []) refl) h)
+    (ranked low ((Unclosed, true) ∷ []) refl) h)
 
 ranked_in : (c : Open) (b : Blocks) (ws : Words) → IsRanked low (tests_in c b ws)
 ranked_in Outside b ws =

@@ -209,7 +209,7 @@ outside_more b ws s h some e =
           let tests = faults.opening_tests b name index in
           let word : IsWord name = word_rest (first ws) (h 0 [] some) (fine_for BadStatement tests tried) in
           let next : IsState (standing now b) = opens b name (read_or 0 index) s word (index_small ws)
-              (number_new b name index (fine_for BadNumber tests tried) (fine_for TooBig tests tried) (fine_for RepeatedName tests tried)) in
+          (number_new b name index (fine_for BadNumber tests tried) (fine_for TooBig tests tried) (fine_for RepeatedName tests tried)) in
           subst (λ (c : Open). IsState (standing c b)) (sym (chosen (is_opening ws) now Outside t)) next
     ]
 
@@ -276,8 +276,17 @@ known_place tasks name e = leb-false (length tasks) (faults.place_of tasks name)
 
 period_more : (g : Graph) (ws : Words) → IsGraph g → IsGraph (states.with_period g ws)
 period_more g ws f =
-    record { index = f.index; period = decimal_small (word_at ws 1); tasks_in = f.tasks_in; tasks_distinct = f.tasks_distinct; arcs_in = f.arcs_in; arcs_distinct = f.arcs_distinct; no_cycle =
-    f.no_cycle; deadlines_in = f.deadlines_in }
+    record {
+      index = f.index;
+      period = decimal_small (word_at ws 1);
+      tasks_in = f.tasks_in;
+      tasks_distinct = f.tasks_distinct;
+      arcs_in = f.arcs_in;
+      arcs_distinct = f.arcs_distinct;
+      no_cycle =
+          f.no_cycle;
+      deadlines_in = f.deadlines_in;
+    }
 
 task_more : (b : Blocks) (g : Graph) (ws : Words) → IsGraph g → All IsWord ws → first_broken (faults.task_tests b g ws) ≡ None → IsGraph (states.with_task g ws)
 task_more b g ws f h e =
@@ -295,8 +304,13 @@ task_more b g ws f h e =
       tasks_in = All-push IsTask g.tasks t f.tasks_in (record { named = name_at ws 1 h (omega (arith, long)) short; kind = whole_small (word_at ws 3) });
       tasks_distinct = distinct_more task_name (faults.is_task (word_at ws 1)) g.tasks t f.tasks_distinct (λ y e. same_bytes y.name (word_at ws 1) e) new;
       arcs_in =
-          All-weaker (IsArc (length g.tasks)) (IsArc (length (g.tasks ++ t ∷ []))) (λ arc k. record { named = k.named; from = omega (arith, k.from, more); to = omega (arith, k.to, more); kind =
-          k.kind }) g.arcs f.arcs_in;
+          All-weaker (IsArc (length g.tasks)) (IsArc (length (g.tasks ++ t ∷ []))) (λ arc k. record {
+            named = k.named;
+            from = omega (arith, k.from, more);
+            to = omega (arith, k.to, more);
+            kind =
+                k.kind;
+          }) g.arcs f.arcs_in;
       arcs_distinct = f.arcs_distinct;
       no_cycle = f.no_cycle;
       deadlines_in = All-weaker (IsDeadline (length g.tasks)) (IsDeadline (length (g.tasks ++ t ∷ []))) (λ d k. record { task = omega (arith, k.task, more); at = k.at }) g.deadlines f.deadlines_in;

@@ -57,7 +57,7 @@ number_stays names x name h =
     let n = number_of names name in
     position_or_len_push (bytes_eq name) names x
     ∙ ap (λ (b : Bool). cond b (length names + cond (bytes_eq name x) 0 1) n) (false_from_ne_true _ (λ t. let e : n ≡ length names = eqb-true n (length names) t in
-        omega (arith, e, number_within names name h)))
+    omega (arith, e, number_within names name h)))
 
 -- a name whose number is below their count is there
 there_by : (names : List Name) (name : Name) → number_of names name < length names → Contains names name
@@ -177,7 +177,7 @@ found_with_table names old new tables t n f h u = record {
         })
     at name index c (inr e) =
         let is : new (number_of names name, index) ≡ old (number_of names name, index) = u (number_of names name, index)
-            ∙ ap (λ (b : Bool). cond b (Some (length tables)) (old (number_of names name, index))) e in
+        ∙ ap (λ (b : Bool). cond b (Some (length tables)) (old (number_of names name, index))) e in
         subst (Found name index) (sym is) (older name index c e (old (number_of names name, index)) (f.found name index c))
 
 -- a name without a number is no table's
@@ -190,7 +190,7 @@ pub found_by : (names : List Name) (place : ℕ × ℕ → Option ℕ) (tables :
     → MatchOption o (HasNoTable tables name index) (IsTableAt tables name index)
 found_by names place tables name index n o f h e =
     subst (λ (x : Option ℕ). MatchOption x (HasNoTable tables name index) (IsTableAt tables name index)) (sym (e ∙ ap (λ (k : ℕ). place (k, index)) h.first))
-        (f.found name index (is_there names name n h))
+    (f.found name index (is_there names name n h))
 
 -- entries that stay find what they found
 pub found_unchanged : {S : Type 0} (names : List Name) (old new : HashMap (ℕ × ℕ) ℕ S) (tables : List Table) → new.entries ≡ old.entries → AreFound names (place_in old) tables
@@ -205,7 +205,11 @@ tells tables name index (Some i) h =
 tells tables name index None h = sym (list_any_none (is_table name index) tables (λ i d l. false_from_ne_true _ (λ y.
     let e : get_or tables i d ≡ table_at tables i = get_or_default tables i d (record { name = []; index = 0; rows = [] }) l in
     let both = and_parts (bytes_eq (get_or tables i d).name name) ((get_or tables i d).index == index) y in
-    h i (record { there = l; name_is = sym (ap (λ (z : Table). z.name) e) ∙ same (get_or tables i d).name name both.0; index_is = sym (ap (λ (z : Table). z.index) e)
-        ∙ eqb-true (get_or tables i d).index index both.1 }))))
+    h i (record {
+      there = l;
+      name_is = sym (ap (λ (z : Table). z.name) e) ∙ same (get_or tables i d).name name both.0;
+      index_is = sym (ap (λ (z : Table). z.index) e)
+          ∙ eqb-true (get_or tables i d).index index both.1;
+    }))))
 
 -- ---- graphs

@@ -67,7 +67,7 @@ not_before kinds from kind at i m point le lt is = elim (cases_lt m at) [
   | inr ge ↦ ge
   | inl before ↦
       let small : order_of (get_or kinds m (entry kind i)) < order_of (entry kind from) = ltb-true (order_of (get_or kinds m (entry kind i))) (order_of (entry kind from))
-          (point.0 m (entry kind i) (omega arith) before) in
+      (point.0 m (entry kind i) (omega arith) before) in
       let same : order_of (get_or kinds m (entry kind i)) ≡ order_of (entry kind i) = ap order_of is in
       absurd (omega (arith, small, same, le))
 ]

@@ -254,7 +254,7 @@ IsTrail-pop ls rs ps m level d t level' e =
       ];
       level_is =
           let count : level_of (entries_of ls rs (m + 1)) ≡ level_of (entries_of ls rs m) + cond (is_none (get_or rs m d.reason)) 1 0 = ap level_of more
-              ∙ sum_by_push (λ (f : Entry). cond (is_decision f) 1 0) (entries_of ls rs m) (record { lit = get_or ls m d.lit; reason = get_or rs m d.reason }) in
+          ∙ sum_by_push (λ (f : Entry). cond (is_decision f) 1 0) (entries_of ls rs m) (record { lit = get_or ls m d.lit; reason = get_or rs m d.reason }) in
           let level_is = t.level_is in omega arith;
     }
 
@@ -264,8 +264,6 @@ same-at v zero x = refl
 same-at v (suc n) zero = refl
 same-at v (suc n) (suc x) = same-at v n x
 
-}
-
 abbrev record_at : Literal → Option ConId → Entry
 record_at m o = record { lit = m; reason = o }
 
@@ -273,7 +271,7 @@ record_at m o = record { lit = m; reason = o }
 pub IsTrail-pop_read : (ls : List Literal) (rs : List (Option ConId)) (ps : List (Option ℕ)) (n level : ℕ) → 0 < n → IsTrail ls rs ps n level → (l : Literal) (r : Option ConId)
     → l ≡ get_or ls (n - 1) l → r ≡ get_or rs (n - 1) r →
     (entries_of ls rs n ≡ entries_of ls rs (n - 1) ++ record { lit = l; reason = r } ∷ []) × (cond (is_none r) 1 0 ≤ level)
-        × ((level' : ℕ) → level ≡ level' + cond (is_none r) 1 0 → IsTrail ls rs (set ps l.var None) (n - 1) level')
+    × ((level' : ℕ) → level ≡ level' + cond (is_none r) 1 0 → IsTrail ls rs (set ps l.var None) (n - 1) level')
 IsTrail-pop_read ls rs ps n level pos t l r el er =
     let d : Entry = record { lit = l; reason = r } in
     let u : n ≡ (n - 1) + 1 = omega arith in
@@ -283,11 +281,11 @@ IsTrail-pop_read ls rs ps n level pos t l r el er =
     let lits = b.lits in
     let reasons = b.reasons in
     let more : entries_of ls rs ((n - 1) + 1) ≡ entries_of ls rs (n - 1) ++ record { lit = get_or ls (n - 1) l; reason = get_or rs (n - 1) r } ∷ [] =
-        entries-more ls rs (n - 1) d (omega arith) (omega arith) in
+    entries-more ls rs (n - 1) d (omega arith) (omega arith) in
     let read : record_at (get_or ls (n - 1) l) (get_or rs (n - 1) r) ≡ record_at l r = cc in
     let more' : entries_of ls rs n ≡ entries_of ls rs (n - 1) ++ record_at l r ∷ [] = ap (entries_of ls rs) u ∙ more ∙ ap (λ (e : Entry). entries_of ls rs (n - 1) ++ e ∷ []) read in
     let count : level_of (entries_of ls rs n) ≡ level_of (entries_of ls rs (n - 1)) + cond (is_none r) 1 0 = ap level_of more'
-        ∙ sum_by_push (λ (f : Entry). cond (is_decision f) 1 0) (entries_of ls rs (n - 1)) (record_at l r) in
+    ∙ sum_by_push (λ (f : Entry). cond (is_decision f) 1 0) (entries_of ls rs (n - 1)) (record_at l r) in
     let level_is = t.level_is in (
       more',
       omega arith,
@@ -505,7 +503,7 @@ among_first ls rs ps n level t x k count e = elim (cases_lt k count) [
   | inl lt ↦ (
       let at : get_or (take count es) k f ≡ get_or es k f = get_or-take count es k f lt in
       let w = value_in-at (take count es) x k f (omega (arith, length-take count es, here)) (ap (λ (g : Entry). g.lit.var) at ∙ var-is f)
-          (λ j g l q. only j g (omega (arith, length-take count es, l)) (sym (ap (λ (g : Entry). g.lit.var) (get_or-take count es j g (omega (arith, length-take count es, l)))) ∙ q)) in
+      (λ j g l q. only j g (omega (arith, length-take count es, l)) (sym (ap (λ (g : Entry). g.lit.var) (get_or-take count es j g (omega (arith, length-take count es, l)))) ∙ q)) in
       let test : ltb k count ≡ true = grind (arith, nat_tests) in
       test ∙ sym (ap is_some w.0))
   | inr ge ↦ (

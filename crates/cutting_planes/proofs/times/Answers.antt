@@ -15,7 +15,7 @@ returns-then-sum-ge-LIMIT-clause-refused c =
     let a = c.args.a.now in
     let n = c.args.factor in
     let e : c.from.result * c.from-2.result ≡ total (times n a).terms = ap (λ (x : ℕ). x * c.from-2.result) c.from.ensures
-        ∙ ap (λ (y : ℕ). n * y) (c.from-2.ensures ∙ c.coefficient_sum.ensures ∙ ap total c.terms.ensures.value) ∙ sym (times-total n a.terms) in
+    ∙ ap (λ (y : ℕ). n * y) (c.from-2.ensures ∙ c.coefficient_sum.ensures ∙ ap total c.terms.ensures.value) ∙ sym (times-total n a.terms) in
     let big = c.if-sum-ge-LIMIT.true in
     ap (λ (o : Option ℕ). unless_too_large o (times n a)) (excess-sum (times n a) (omega arith)) ∙ ap failed (sym e)
 
@@ -24,7 +24,7 @@ returns-then-degree-ge-LIMIT-clause-refused c =
     let a = c.args.a.now in
     let n = c.args.factor in
     let e : c.from.result * c.from-2.result ≡ total (times n a).terms = ap (λ (x : ℕ). x * c.from-2.result) c.from.ensures
-        ∙ ap (λ (y : ℕ). n * y) (c.from-2.ensures ∙ c.coefficient_sum.ensures ∙ ap total c.terms.ensures.value) ∙ sym (times-total n a.terms) in
+    ∙ ap (λ (y : ℕ). n * y) (c.from-2.ensures ∙ c.coefficient_sum.ensures ∙ ap total c.terms.ensures.value) ∙ sym (times-total n a.terms) in
     let f : c.from-3.result * c.from-4.result ≡ (times n a).degree = ap (λ (x : ℕ). x * c.from-4.result) c.from-3.ensures ∙ ap (λ (y : ℕ). n * y) (c.from-4.ensures ∙ c.degree.ensures.value) in
     let small = c.if-sum-ge-LIMIT.false in
     let big = c.if-degree-ge-LIMIT.true in
@@ -35,7 +35,7 @@ of_normal-requires c =
     let a = c.args.a.now in
     let n = c.args.factor in
     let e : c.from.result * c.from-2.result ≡ total (times n a).terms = ap (λ (x : ℕ). x * c.from-2.result) c.from.ensures
-        ∙ ap (λ (y : ℕ). n * y) (c.from-2.ensures ∙ c.coefficient_sum.ensures ∙ ap total c.terms.ensures.value) ∙ sym (times-total n a.terms) in
+    ∙ ap (λ (y : ℕ). n * y) (c.from-2.ensures ∙ c.coefficient_sum.ensures ∙ ap total c.terms.ensures.value) ∙ sym (times-total n a.terms) in
     let f : c.from-3.result * c.from-4.result ≡ (times n a).degree = ap (λ (x : ℕ). x * c.from-4.result) c.from-3.ensures ∙ ap (λ (y : ℕ). n * y) (c.from-4.ensures ∙ c.degree.ensures.value) in
     let small = c.if-sum-ge-LIMIT.false in
     let small_degree = c.if-degree-ge-LIMIT.false in

@@ -22,8 +22,8 @@ of_normal-requires c =
     let x = c.args.var in
     let t = c.index-all-place.result in
     let w = weakened x c.in-Some.place a.degree c.degree.result c.saturating_sub.result t c.terms-all.result.now a.terms c.in_ok-terms-in-Some.terms.items c.extend_from_slice.new.self.items
-        c.terms-all.ensures.value c.in-Some.ensures.in_range c.in-Some.ensures.first (c.in-Some.ensures.found t) c.in_ok-terms-in-Some.ensures.items c.in_ok-extend_from_slice-in-Some.ensures.items
-        c.degree.ensures.value c.saturating_sub.ensures in
+    c.terms-all.ensures.value c.in-Some.ensures.in_range c.in-Some.ensures.first (c.in-Some.ensures.found t) c.in_ok-terms-in-Some.ensures.items c.in_ok-extend_from_slice-in-Some.ensures.items
+    c.degree.ensures.value c.saturating_sub.ensures in
     let P : List Term → Type 0 = λ ts. IsNormal ts c.saturating_sub.result in
     let Q : ℕ → Type 0 = λ k. IsNormal (without_var x a.terms) k in
     subst P (sym w.0) (subst Q (sym w.1) (weaken-normal x a c.terms-all.ensures.normal))
@@ -47,7 +47,7 @@ returns-in_ok-extend_from_slice-in-Some c =
     let x = c.args.var in
     let t = c.index-all-place.result in
     let w = weakened x c.in-Some.place a.degree c.degree.result c.saturating_sub.result t c.terms-all.result.now a.terms c.in_ok-terms-in-Some.terms.items c.extend_from_slice.new.self.items
-        c.terms-all.ensures.value c.in-Some.ensures.in_range c.in-Some.ensures.first (c.in-Some.ensures.found t) c.in_ok-terms-in-Some.ensures.items c.in_ok-extend_from_slice-in-Some.ensures.items
-        c.degree.ensures.value c.saturating_sub.ensures in
+    c.terms-all.ensures.value c.in-Some.ensures.in_range c.in-Some.ensures.first (c.in-Some.ensures.found t) c.in_ok-terms-in-Some.ensures.items c.in_ok-extend_from_slice-in-Some.ensures.items
+    c.degree.ensures.value c.saturating_sub.ensures in
     let R : List Term → ℕ → Linear = λ ts k. record { terms = ts; degree = k } in
     c.of_normal.ensures.value ∙ ap (λ (ts : List Term). R ts c.saturating_sub.result) w.0 ∙ ap (R (without_var x a.terms)) w.1

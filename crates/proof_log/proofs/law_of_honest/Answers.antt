@@ -36,6 +36,6 @@ returns-clause-part c f g cs ds ls among honest = record {
     clauses_each = honest.honest.clauses_each;
     unabsorbed = λ k d l. (let earlier : List Linear = take k (derived_from f g ls) in
         unabsorbed-among (cs ++ earlier) (ds ++ earlier) _ (among-append cs earlier (ds ++ earlier) (λ x h. among-front ds earlier x (among x h)) (among-back ds earlier))
-            (honest.honest.unabsorbed k d l));
+        (honest.honest.unabsorbed k d l));
   };
 }

@@ -13,7 +13,7 @@ of_normal-requires c =
     let is_gap : g ≡ gap s c.args.j c.args.number = ap (λ (w : ℕ). w - c.args.number + 1) c.weight_sum.ensures.sum in
     number_normal s c.args.cover_no c.args.j c.args.number g c.push.new.self.items c.facts.ensures is_gap
     (number-terms s c.args.cover_no c.args.j c.args.number g c.below_var.result c.no.result c.in_ok-terms.terms.items c.push.new.self.items c.in_ok-terms.ensures is_gap
-        c.below_var.ensures.variable c.no.ensures c.in_ok-push.ensures.items)
+    c.below_var.ensures.variable c.no.ensures c.in_ok-push.ensures.items)
 
 pub returns : goal.returns
 returns c =
@@ -23,5 +23,5 @@ returns c =
     let ts : List Term = unused_terms s c.args.j ++ not_below s c.args.cover_no c.args.j c.args.number ∷ [] in
     made (gap s c.args.j c.args.number) g ts c.push.new.self.items c.of_normal.result c.of_normal.ensures.value is_gap
     (number-terms s c.args.cover_no c.args.j c.args.number g c.below_var.result c.no.result c.in_ok-terms.terms.items c.push.new.self.items c.in_ok-terms.ensures is_gap
-        c.below_var.ensures.variable c.no.ensures c.in_ok-push.ensures.items)
+    c.below_var.ensures.variable c.no.ensures c.in_ok-push.ensures.items)
     (number_is s c.args.cover_no c.args.j c.args.number c.facts.ensures)

@@ -21,5 +21,5 @@ returns c =
     let s = c.args.spec.now in
     let end : c.loop-j.j ≡ length s.objectives = omega (arith, c.loop-j-test.false, c.loop-j.auto.j-end, c.objectives-j-end.ensures.count) in
     made 1 1 (map (is_below s c.args.cover_no) (below (length s.objectives))) c.loop-j.terms.items c.of_normal.result c.of_normal.ensures.value refl
-        (c.loop-j.invariant ∙ ap (λ (n : ℕ). map (is_below s c.args.cover_no) (below n)) end)
+    (c.loop-j.invariant ∙ ap (λ (n : ℕ). map (is_below s c.args.cover_no) (below n)) end)
     (somewhere_is s c.args.cover_no)

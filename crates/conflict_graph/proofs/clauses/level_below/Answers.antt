@@ -41,7 +41,7 @@ loop-t-preserved c =
     let here : is_false (value_in c.args.trail.now.entries) c.t-item.result.lit ≡ true = subst G (sym at) (all c.loop-t.t-index c.t-item.result c.loop-t-test.true) in
     let r = false-at c.args.trail.now.entries c.args.trail.now.variables c.t-item.result.lit c.assigned-assigned.ensures.in_range here in
     let lv : get_or c.args.levels.now c.var.result 0 ≡ level_in c.args.trail.now.entries c.t-item.result.lit.var = ap (λ (x : ℕ). get_or c.args.levels.now x 0) c.var.ensures.value
-        ∙ c.requires.levels.level c.t-item.result.lit.var (not c.t-item.result.lit.yes) r.1 in
+    ∙ c.requires.levels.level c.t-item.result.lit.var (not c.t-item.result.lit.yes) r.1 in
     let g = c.greater_below-back.ensures in
     let cur : c.level-current.result ≡ level_of c.args.trail.now.entries = c.level-current.ensures in
     let P : ℕ → ℕ → Type 0 = λ x m. (x ≢ m → x ≤ c.greater_below-back.result) × ((c.greater_below-back.result ≡ c.loop-t.back) ⊎ ((c.greater_below-back.result ≡ x) × (x ≢ m))) in

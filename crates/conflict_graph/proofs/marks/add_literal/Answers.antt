@@ -18,7 +18,7 @@ returns-then-levels-var-clause-counted c =
     let free : signs c.args.clause.now x ≡ None = ap (signs c.args.clause.now) (sym v) ∙ none-of (signs c.args.clause.now c.var-var.result) (sym c.if-is_some.ensures) in
     let level : get_or c.args.levels.now x 0 ≡ c.level.result = ap (λ (y : ℕ). get_or c.args.levels.now y 0) (sym v) ∙ c.if-levels-var.true in
     let q = added-current c.args.trail.now.entries c.args.clause.now c.args.levels.now (length c.args.clause.now) x (not c.args.lit.yes) c.is_yes.result c.args.count c.requires.levels refl
-        c.requires.in_range c.requires.assigned free c.requires.counted (level ∙ c.level.ensures) in
+    c.requires.in_range c.requires.assigned free c.requires.counted (level ∙ c.level.ensures) in
     let P : ℕ → Type 0 = λ y. c.args.count + 1 ≡ currents (length c.args.clause.now) 0 c.args.trail.now.entries (signs (set c.args.clause.now y (Some c.is_yes.result))) in
     subst P (sym v) q
 
@@ -29,6 +29,6 @@ returns-else-levels-var-clause-counted c =
     let free : signs c.args.clause.now x ≡ None = ap (signs c.args.clause.now) (sym v) ∙ none-of (signs c.args.clause.now c.var-var.result) (sym c.if-is_some.ensures) in
     let level : get_or c.args.levels.now x 0 ≢ c.level.result = λ e. c.if-levels-var.false (ap (λ (y : ℕ). get_or c.args.levels.now y 0) v ∙ e) in
     let q = added-lower c.args.trail.now.entries c.args.clause.now c.args.levels.now (length c.args.clause.now) x (not c.args.lit.yes) c.is_yes.result c.args.count c.requires.levels refl
-        c.requires.in_range c.requires.assigned free c.requires.counted (λ e. level (e ∙ sym c.level.ensures)) in
+    c.requires.in_range c.requires.assigned free c.requires.counted (λ e. level (e ∙ sym c.level.ensures)) in
     let P : ℕ → Type 0 = λ y. c.args.count ≡ currents (length c.args.clause.now) 0 c.args.trail.now.entries (signs (set c.args.clause.now y (Some c.is_yes.result))) in
     subst P (sym v) q

@@ -9,4 +9,4 @@ pub returns-clause-ops : goal.returns-clause-ops
 returns-clause-ops c =
     let a = flipped (value_in (take c.args.place c.args.trail.now.entries)) c.args.lit in
     reason-ops (proof_id_of c.args.store.now c.args.c) (constraint_of c.args.store.now c.args.c) a a c.args.ops.now.items c.explain.new.ops.items c.push.new.self.items c.push-2.new.self.items refl
-        c.in_ok-explain.ensures.written c.in_ok-push.ensures.items c.in_ok-push-2.ensures.items
+    c.in_ok-explain.ensures.written c.in_ok-push.ensures.items c.in_ok-push-2.ensures.items

@@ -15,65 +15,65 @@ use Rattle.conflict_graph.proofs.resolution.resolve.Goals as goal
 pub reason-requires : goal.reason-requires
 reason-requires c =
     let a = (at-place c.args.trail.now.entries c.args.trail.now.variables c.args.place c.index-literals-place.result c.requires.place c.assigned-assigned.ensures.distinct
-        c.assigned-assigned.ensures.in_range (c.index-literals-place.is ∙ ap (λ (ls : List Literal). get_or ls c.args.place c.index-literals-place.result) c.literals.ensures)).0 in
+    c.assigned-assigned.ensures.in_range (c.index-literals-place.is ∙ ap (λ (ls : List Literal). get_or ls c.args.place c.index-literals-place.result) c.literals.ensures)).0 in
     let v = c.var.ensures.value in omega arith
 
 pub unreachable-requires : goal.unreachable-requires
 unreachable-requires c =
     no-decision c.args.store.now c.args.trail.now.entries c.args.trail.now.variables c.args.place c.index-literals-place.result (signs c.args.clause.now) c.args.count c.args.ops.now.items
-        c.requires.place c.assigned-assigned.ensures.distinct (c.index-literals-place.is ∙ ap (λ (ls : List Literal). get_or ls c.args.place c.index-literals-place.result) c.literals.ensures)
-        c.requires.two c.requires.learning (ap (reason_in c.args.trail.now.entries) (sym c.var.ensures.value) ∙ sym c.reason.ensures ∙ c.in-None.is)
+    c.requires.place c.assigned-assigned.ensures.distinct (c.index-literals-place.is ∙ ap (λ (ls : List Literal). get_or ls c.args.place c.index-literals-place.result) c.literals.ensures)
+    c.requires.two c.requires.learning (ap (reason_in c.args.trail.now.entries) (sym c.var.ensures.value) ∙ sym c.reason.ensures ∙ c.in-None.is)
 
 pub explain_reason-requires-clause-live : goal.explain_reason-requires-clause-live
 explain_reason-requires-clause-live c =
     let k = can-resolve c.args.store.now c.args.trail.now.entries c.args.trail.now.variables c.args.place c.index-literals-place.result c.in-Some.reason (signs c.args.clause.now) c.args.count
-        c.args.ops.now.items c.requires.place c.requires.few c.assigned-assigned.ensures.distinct (c.index-literals-place.is
-        ∙ ap (λ (ls : List Literal). get_or ls c.args.place c.index-literals-place.result) c.literals.ensures) c.requires.forced c.requires.marked c.requires.two c.requires.learning
-        (ap (reason_in c.args.trail.now.entries) (sym c.var.ensures.value) ∙ sym c.reason.ensures ∙ c.in-Some.is) in
+    c.args.ops.now.items c.requires.place c.requires.few c.assigned-assigned.ensures.distinct (c.index-literals-place.is
+    ∙ ap (λ (ls : List Literal). get_or ls c.args.place c.index-literals-place.result) c.literals.ensures) c.requires.forced c.requires.marked c.requires.two c.requires.learning
+    (ap (reason_in c.args.trail.now.entries) (sym c.var.ensures.value) ∙ sym c.reason.ensures ∙ c.in-Some.is) in
     (k.usable).live_there
 
 pub mark-requires-clause-live : goal.mark-requires-clause-live
 mark-requires-clause-live c =
     let k = can-resolve c.args.store.now c.args.trail.now.entries c.args.trail.now.variables c.args.place c.index-literals-place.result c.in-Some.reason (signs c.args.clause.now) c.args.count
-        c.args.ops.now.items c.requires.place c.requires.few c.assigned-assigned.ensures.distinct (c.index-literals-place.is
-        ∙ ap (λ (ls : List Literal). get_or ls c.args.place c.index-literals-place.result) c.literals.ensures) c.requires.forced c.requires.marked c.requires.two c.requires.learning
-        (ap (reason_in c.args.trail.now.entries) (sym c.var.ensures.value) ∙ sym c.reason.ensures ∙ c.in-Some.is) in
+    c.args.ops.now.items c.requires.place c.requires.few c.assigned-assigned.ensures.distinct (c.index-literals-place.is
+    ∙ ap (λ (ls : List Literal). get_or ls c.args.place c.index-literals-place.result) c.literals.ensures) c.requires.forced c.requires.marked c.requires.two c.requires.learning
+    (ap (reason_in c.args.trail.now.entries) (sym c.var.ensures.value) ∙ sym c.reason.ensures ∙ c.in-Some.is) in
     (k.usable).live_there
 
 pub explain_reason-requires-clause-conflict : goal.explain_reason-requires-clause-conflict
 explain_reason-requires-clause-conflict c =
     let k = can-resolve c.args.store.now c.args.trail.now.entries c.args.trail.now.variables c.args.place c.index-literals-place.result c.in-Some.reason (signs c.args.clause.now) c.args.count
-        c.args.ops.now.items c.requires.place c.requires.few c.assigned-assigned.ensures.distinct (c.index-literals-place.is
-        ∙ ap (λ (ls : List Literal). get_or ls c.args.place c.index-literals-place.result) c.literals.ensures) c.requires.forced c.requires.marked c.requires.two c.requires.learning
-        (ap (reason_in c.args.trail.now.entries) (sym c.var.ensures.value) ∙ sym c.reason.ensures ∙ c.in-Some.is) in
+    c.args.ops.now.items c.requires.place c.requires.few c.assigned-assigned.ensures.distinct (c.index-literals-place.is
+    ∙ ap (λ (ls : List Literal). get_or ls c.args.place c.index-literals-place.result) c.literals.ensures) c.requires.forced c.requires.marked c.requires.two c.requires.learning
+    (ap (reason_in c.args.trail.now.entries) (sym c.var.ensures.value) ∙ sym c.reason.ensures ∙ c.in-Some.is) in
     forced-flip (value_in (take c.args.place c.args.trail.now.entries)) (constraint_of c.args.store.now c.in-Some.reason) c.index-literals-place.result k.forces
 
 pub drop_literal-rest-requires-clause-in_range : goal.drop_literal-rest-requires-clause-in_range
 drop_literal-rest-requires-clause-in_range c =
     let a = (at-place c.args.trail.now.entries c.args.trail.now.variables c.args.place c.index-literals-place.result c.requires.place c.assigned-assigned.ensures.distinct
-        c.assigned-assigned.ensures.in_range (c.index-literals-place.is ∙ ap (λ (ls : List Literal). get_or ls c.args.place c.index-literals-place.result) c.literals.ensures)).0 in
+    c.assigned-assigned.ensures.in_range (c.index-literals-place.is ∙ ap (λ (ls : List Literal). get_or ls c.args.place c.index-literals-place.result) c.literals.ensures)).0 in
     let l = c.requires.clause_length in omega arith
 
 pub drop_literal-rest-requires-clause-assigned : goal.drop_literal-rest-requires-clause-assigned
 drop_literal-rest-requires-clause-assigned c =
     (can-resolve c.args.store.now c.args.trail.now.entries c.args.trail.now.variables c.args.place c.index-literals-place.result c.in-Some.reason (signs c.args.clause.now) c.args.count
-        c.args.ops.now.items c.requires.place c.requires.few c.assigned-assigned.ensures.distinct (c.index-literals-place.is
-        ∙ ap (λ (ls : List Literal). get_or ls c.args.place c.index-literals-place.result) c.literals.ensures) c.requires.forced c.requires.marked c.requires.two c.requires.learning
-        (ap (reason_in c.args.trail.now.entries) (sym c.var.ensures.value) ∙ sym c.reason.ensures ∙ c.in-Some.is)).set
+    c.args.ops.now.items c.requires.place c.requires.few c.assigned-assigned.ensures.distinct (c.index-literals-place.is
+    ∙ ap (λ (ls : List Literal). get_or ls c.args.place c.index-literals-place.result) c.literals.ensures) c.requires.forced c.requires.marked c.requires.two c.requires.learning
+    (ap (reason_in c.args.trail.now.entries) (sym c.var.ensures.value) ∙ sym c.reason.ensures ∙ c.in-Some.is)).set
 
 pub drop_literal-rest-requires-clause-there : goal.drop_literal-rest-requires-clause-there
 drop_literal-rest-requires-clause-there c =
     (can-resolve c.args.store.now c.args.trail.now.entries c.args.trail.now.variables c.args.place c.index-literals-place.result c.in-Some.reason (signs c.args.clause.now) c.args.count
-        c.args.ops.now.items c.requires.place c.requires.few c.assigned-assigned.ensures.distinct (c.index-literals-place.is
-        ∙ ap (λ (ls : List Literal). get_or ls c.args.place c.index-literals-place.result) c.literals.ensures) c.requires.forced c.requires.marked c.requires.two c.requires.learning
-        (ap (reason_in c.args.trail.now.entries) (sym c.var.ensures.value) ∙ sym c.reason.ensures ∙ c.in-Some.is)).there
+    c.args.ops.now.items c.requires.place c.requires.few c.assigned-assigned.ensures.distinct (c.index-literals-place.is
+    ∙ ap (λ (ls : List Literal). get_or ls c.args.place c.index-literals-place.result) c.literals.ensures) c.requires.forced c.requires.marked c.requires.two c.requires.learning
+    (ap (reason_in c.args.trail.now.entries) (sym c.var.ensures.value) ∙ sym c.reason.ensures ∙ c.in-Some.is)).there
 
 pub mark-requires-clause-in_range : goal.mark-requires-clause-in_range
 mark-requires-clause-in_range c =
     let k = can-resolve c.args.store.now c.args.trail.now.entries c.args.trail.now.variables c.args.place c.index-literals-place.result c.in-Some.reason (signs c.args.clause.now) c.args.count
-        c.args.ops.now.items c.requires.place c.requires.few c.assigned-assigned.ensures.distinct (c.index-literals-place.is
-        ∙ ap (λ (ls : List Literal). get_or ls c.args.place c.index-literals-place.result) c.literals.ensures) c.requires.forced c.requires.marked c.requires.two c.requires.learning
-        (ap (reason_in c.args.trail.now.entries) (sym c.var.ensures.value) ∙ sym c.reason.ensures ∙ c.in-Some.is) in
+    c.args.ops.now.items c.requires.place c.requires.few c.assigned-assigned.ensures.distinct (c.index-literals-place.is
+    ∙ ap (λ (ls : List Literal). get_or ls c.args.place c.index-literals-place.result) c.literals.ensures) c.requires.forced c.requires.marked c.requires.two c.requires.learning
+    (ap (reason_in c.args.trail.now.entries) (sym c.var.ensures.value) ∙ sym c.reason.ensures ∙ c.in-Some.is) in
     let len : length c.drop_literal-rest.new.clause ≡ c.args.trail.now.variables = c.drop_literal-rest.auto.clause ∙ c.requires.clause_length in
     let Q : ℕ → Type 0 = λ m. VarsBelow m (constraint_of c.args.store.now c.in-Some.reason).terms in
     subst Q (sym len) (k.usable).in_range
@@ -85,11 +85,11 @@ mark-requires-clause-assigned c =
 pub returns : goal.returns
 returns c =
     let k = can-resolve c.args.store.now c.args.trail.now.entries c.args.trail.now.variables c.args.place c.index-literals-place.result c.in-Some.reason (signs c.args.clause.now) c.args.count
-        c.args.ops.now.items c.requires.place c.requires.few c.assigned-assigned.ensures.distinct (c.index-literals-place.is
-        ∙ ap (λ (ls : List Literal). get_or ls c.args.place c.index-literals-place.result) c.literals.ensures) c.requires.forced c.requires.marked c.requires.two c.requires.learning
-        (ap (reason_in c.args.trail.now.entries) (sym c.var.ensures.value) ∙ sym c.reason.ensures ∙ c.in-Some.is) in
+    c.args.ops.now.items c.requires.place c.requires.few c.assigned-assigned.ensures.distinct (c.index-literals-place.is
+    ∙ ap (λ (ls : List Literal). get_or ls c.args.place c.index-literals-place.result) c.literals.ensures) c.requires.forced c.requires.marked c.requires.two c.requires.learning
+    (ap (reason_in c.args.trail.now.entries) (sym c.var.ensures.value) ∙ sym c.reason.ensures ∙ c.in-Some.is) in
     let at = at-place c.args.trail.now.entries c.args.trail.now.variables c.args.place c.index-literals-place.result c.requires.place c.assigned-assigned.ensures.distinct
-        c.assigned-assigned.ensures.in_range (c.index-literals-place.is ∙ ap (λ (ls : List Literal). get_or ls c.args.place c.index-literals-place.result) c.literals.ensures) in
+    c.assigned-assigned.ensures.in_range (c.index-literals-place.is ∙ ap (λ (ls : List Literal). get_or ls c.args.place c.index-literals-place.result) c.literals.ensures) in
     let es = c.args.trail.now.entries in
     let n = c.args.trail.now.variables in
     let a : ℕ → Option Bool = value_in (take c.args.place es) in

@@ -55,11 +55,11 @@ returns-then-not-goes_on c =
     let pos = off.0 in
     let level = c.level-level.ensures in
     learnt-one c.args.store.now c.args.trail.now.entries c.args.trail.now.variables c.loop-place.place (signs c.loop-place.clause) c.loop-place.count c.loop-place.ops.items (omega arith) off.1
-        c.loop-place.invariant.learning
+    c.loop-place.invariant.learning
 
 pub returns : goal.returns
 returns c =
     let zero : c.loop-place.place ≡ 0 = omega arith in
     let P : ℕ → Type 0 = λ p. Learning c.args.store.now c.args.trail.now.entries c.args.trail.now.variables p (signs c.loop-place.clause) c.loop-place.count c.loop-place.ops.items in
     learnt-none c.args.store.now c.args.trail.now.entries c.args.trail.now.variables (signs c.loop-place.clause) c.loop-place.count c.loop-place.ops.items
-        (subst P zero c.loop-place.invariant.learning)
+    (subst P zero c.loop-place.invariant.learning)

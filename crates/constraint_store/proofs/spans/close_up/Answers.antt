@@ -58,4 +58,4 @@ pub returns-clause-live : goal.returns-clause-live
 returns-clause-live c =
     let l = c.loop-place in
     closed_live c.args.terms.now.items l.terms.items c.truncate-2.new.self.items c.args.spans.now.items l.spans.items c.truncate.new.self.items l.used l.place l.end
-        (omega (arith, l.invariant.as_many)) l.invariant.front l.invariant.live c.truncate-2.ensures.items c.truncate.ensures.items
+    (omega (arith, l.invariant.as_many)) l.invariant.front l.invariant.live c.truncate-2.ensures.items c.truncate.ensures.items

@@ -8,19 +8,19 @@ use Rattle.constraint_store.proofs.spans.drop_empty.Goals as goal
 pub overflow_add-result : goal.overflow_add-result
 overflow_add-result c =
     let f = follow_taken c.args.end c.args.spans.now.items c.loop-filled.spans.items c.loop-filled.filled c.index.result.now c.in-Some.span (omega arith) c.loop-filled.invariant.within
-        c.loop-filled.invariant.same c.index.ensures c.in-Some.is c.requires in
+    c.loop-filled.invariant.same c.index.ensures c.in-Some.is c.requires in
     omega (arith, f.1)
 
 pub returns-in-Some-clause-follow : goal.returns-in-Some-clause-follow
 returns-in-Some-clause-follow c =
     let f = follow_taken c.args.end c.args.spans.now.items c.loop-filled.spans.items c.loop-filled.filled c.index.result.now c.in-Some.span (omega arith) c.loop-filled.invariant.within
-        c.loop-filled.invariant.same c.index.ensures c.in-Some.is c.requires in
+    c.loop-filled.invariant.same c.index.ensures c.in-Some.is c.requires in
     rw c.truncate.ensures.items f.0
 
 pub returns-in-Some-clause-within : goal.returns-in-Some-clause-within
 returns-in-Some-clause-within c =
     (follow_taken c.args.end c.args.spans.now.items c.loop-filled.spans.items c.loop-filled.filled c.index.result.now c.in-Some.span (omega arith) c.loop-filled.invariant.within
-        c.loop-filled.invariant.same c.index.ensures c.in-Some.is c.requires).1
+    c.loop-filled.invariant.same c.index.ensures c.in-Some.is c.requires).1
 
 pub loop-filled-preserved : goal.loop-filled-preserved
 loop-filled-preserved c =

@@ -10,7 +10,7 @@ of_normal-requires c =
     let a = c.args.a in
     let n = saturate-normal a c.into_terms-terms.ensures.normal in
     let items : c.cut_terms.new.terms.items ≡ cut a.degree a.terms = c.cut_terms.ensures ∙ ap (λ (k : ℕ). cut k c.into_terms-terms.result.items) c.degree-degree.ensures.value
-        ∙ ap (cut a.degree) c.into_terms-terms.ensures.value in
+    ∙ ap (cut a.degree) c.into_terms-terms.ensures.value in
     let P : List Term → Type 0 = λ ts. IsNormal ts c.degree-degree.result in
     let Q : ℕ → Type 0 = λ k. IsNormal (cut a.degree a.terms) k in
     subst P (sym items) (subst Q (sym c.degree-degree.ensures.value) n)

@@ -23,8 +23,8 @@ of_normal-requires c =
     let x = c.args.var in
     let gone = c.remove-gone.result in
     let w = weakened x c.in-Some.place a.degree c.degree-degree.result c.saturating_sub.result gone c.terms.result.now a.terms c.into_terms-terms.result.items c.remove-gone.new.self.items
-        c.terms.ensures.value c.into_terms-terms.ensures.value c.in-Some.ensures.in_range c.in-Some.ensures.first (c.in-Some.ensures.found gone) c.remove-gone.ensures.by_index.2
-        c.remove-gone.ensures.value c.degree-degree.ensures.value c.saturating_sub.ensures in
+    c.terms.ensures.value c.into_terms-terms.ensures.value c.in-Some.ensures.in_range c.in-Some.ensures.first (c.in-Some.ensures.found gone) c.remove-gone.ensures.by_index.2
+    c.remove-gone.ensures.value c.degree-degree.ensures.value c.saturating_sub.ensures in
     let P : List Term → Type 0 = λ ts. IsNormal ts c.saturating_sub.result in
     let Q : ℕ → Type 0 = λ k. IsNormal (without_var x a.terms) k in
     subst P (sym w.0) (subst Q (sym w.1) (weaken-normal x a c.terms.ensures.normal))
@@ -46,7 +46,7 @@ returns-in-Some c =
     let x = c.args.var in
     let gone = c.remove-gone.result in
     let w = weakened x c.in-Some.place a.degree c.degree-degree.result c.saturating_sub.result gone c.terms.result.now a.terms c.into_terms-terms.result.items c.remove-gone.new.self.items
-        c.terms.ensures.value c.into_terms-terms.ensures.value c.in-Some.ensures.in_range c.in-Some.ensures.first (c.in-Some.ensures.found gone) c.remove-gone.ensures.by_index.2
-        c.remove-gone.ensures.value c.degree-degree.ensures.value c.saturating_sub.ensures in
+    c.terms.ensures.value c.into_terms-terms.ensures.value c.in-Some.ensures.in_range c.in-Some.ensures.first (c.in-Some.ensures.found gone) c.remove-gone.ensures.by_index.2
+    c.remove-gone.ensures.value c.degree-degree.ensures.value c.saturating_sub.ensures in
     let R : List Term → ℕ → Linear = λ ts k. record { terms = ts; degree = k } in
     c.of_normal.ensures.value ∙ ap (λ (ts : List Term). R ts c.saturating_sub.result) w.0 ∙ ap (R (without_var x a.terms)) w.1

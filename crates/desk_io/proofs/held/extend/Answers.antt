@@ -16,7 +16,7 @@ returns-in_ok-extend_from_slice-in-Some-clause-ok c =
     let at = c.in-Some.ensures {u = tt} ∙ ap (position (has_name c.args.name.now)) c.deref.ensures.value in
     let before = content_there c.args.files.now.items c.args.name.now c.in-Some.i c.index_mut-file.result.now at c.index_mut-file.ensures.value in
     written_in_place c.args.files.now.items c.args.name.now c.in-Some.i _ c.index_mut-file.result.now _ c.requires at c.index_mut-file.ensures.value refl
-        (c.in_ok-extend_from_slice-in-Some.ensures.items ∙ ap (λ (b : List ℕ). b ++ c.args.bytes.now) (sym before))
+    (c.in_ok-extend_from_slice-in-Some.ensures.items ∙ ap (λ (b : List ℕ). b ++ c.args.bytes.now) (sym before))
 
 pub returns-in_ok-push-in-None-clause-ok : goal.returns-in_ok-push-in-None-clause-ok
 returns-in_ok-push-in-None-clause-ok c =

@@ -8,7 +8,7 @@ use Rattle.dominance_lanes.proofs.Columns.keep.Goals as goal
 pub keep_each-requires : goal.keep_each-requires
 keep_each-requires c =
     let places : length c.args.marks.now ≡ c.self.inside.len = c.requires ∙ sym (ap (λ (s : Vectors). length s.vectors) c.self.view_is)
-        ∙ length-rows (map vec_items c.self.inside.columns.items) c.self.inside.len in
+    ∙ length-rows (map vec_items c.self.inside.columns.items) c.self.inside.len in
     subst (λ n. All (HasLength n) (map vec_items c.deref_mut.result.now)) (sym places)
     (subst (λ (cs : List (Vec ℕ Global)). All (HasLength c.self.inside.len) (map vec_items cs)) (sym c.deref_mut.ensures.value) c.self.invariant.even)
 

@@ -30,7 +30,7 @@ invariant_of-self-2 c =
     let width : length c.args.v.now ≡ c.self.inside.width = c.requires ∙ sym (ap (λ (s : Vectors). s.width) c.self.view_is) in
     subst (λ (cs : List (Vec ℕ Global)). AreColumns (map vec_items cs) c.self.inside.width c.in-Some.len) (sym (with_items_is c.complete.new.columns c.push_row.new.columns long))
     (subst (λ cs. AreColumns cs c.self.inside.width c.in-Some.len) (sym (c.in_ok-push_row.ensures.ok
-        ∙ ap (λ (cs : List (Vec ℕ Global)). with_row (map vec_items cs) c.args.v.now) c.deref_mut.ensures.value))
+    ∙ ap (λ (cs : List (Vec ℕ Global)). with_row (map vec_items cs) c.args.v.now) c.deref_mut.ensures.value))
     (subst (λ n. AreColumns (with_row now c.args.v.now) c.self.inside.width n) (sym plus) (are-with_row now c.args.v.now c.self.inside.width c.self.inside.len whole width done.are.even)))
 
 pub returns-clause-ok : goal.returns-clause-ok
@@ -39,8 +39,14 @@ returns-clause-ok c =
     let done = completed_by c.self.inside.columns c.complete.new.columns c.self.inside.width c.self.inside.len c.complete.ensures.more c.complete.ensures.bound c.self.invariant in
     let long : length c.push_row.new.columns ≡ c.complete.new.columns.len = omega (arith, c.push_row.auto.columns, c.deref_mut.ensures.len) in
     let plus : c.in-Some.len ≡ c.self.inside.len + 1 = search rules in
-    let whole : length now ≡ length c.args.v.now = omega (arith, length-map c.complete.new.columns.items vec_items, c.complete.new.columns.ok.0, c.in_ok-complete.ensures.whole,
-        ap (λ (s : Vectors). s.width) c.self.view_is, c.requires) in
+    let whole : length now ≡ length c.args.v.now = omega (
+      arith,
+      length-map c.complete.new.columns.items vec_items,
+      c.complete.new.columns.ok.0,
+      c.in_ok-complete.ensures.whole,
+      ap (λ (s : Vectors). s.width) c.self.view_is,
+      c.requires,
+    ) in
     ap (λ (cs : List (Vec ℕ Global)). seen c.self.inside.width (map vec_items cs) c.in-Some.len) (with_items_is c.complete.new.columns c.push_row.new.columns long)
     ∙ ap₂ (seen c.self.inside.width) (c.in_ok-push_row.ensures.ok ∙ ap (λ (cs : List (Vec ℕ Global)). with_row (map vec_items cs) c.args.v.now) c.deref_mut.ensures.value) plus
     ∙ ap (λ us. record { width = c.self.inside.width; vectors = us }) (rows-with_row now c.args.v.now c.self.inside.len whole done.are.even ∙ ap (λ us. us ++ c.args.v.now ∷ []) done.same)

@@ -124,7 +124,7 @@ returns-then-not-more-clause-counted g c =
     let new : List ℕ = map (λ t. (goal.Evaluator-dyn g (t.vtable, t.value)).calls t.value) c.round.new.tools.items in
     let same = subst (λ (b : Bool). CountsSay c.deref.result.now mid new b) c.if-not-more.true c.in_ok-more.ensures.counted in
     counted_none s g.W.Words.gives g.W.Words.after old _ _ _ _ c.ended.result.history _ _ _ _ _ _ (c.ended.ensures.history ∙ found.no_history) found.refuted.none_valid c.loop-round.invariant.found
-        c.loop-round.invariant.rose same
+    c.loop-round.invariant.rose same
 
 pub returns-then-not-more-clause-at_most : goal.returns-then-not-more-clause-at_most
 returns-then-not-more-clause-at_most g c =
@@ -143,7 +143,7 @@ returns-clause-run g c =
     let old : Bits → List ℕ = λ f. picked (map (λ t. (goal.Evaluator-dyn g (t.vtable, t.value)).value t.value s f) c.args.tools.now.items) c.args.params.now.chosen.items in
     let all : c.loop-round._round ≡ c.args.params.now.rounds = omega (arith, c.loop-round-test.false, c.loop-round.auto._round-end) in
     let found = subst (λ (n : ℕ). IsFound s g.W.Words.gives g.W.Words.after old c.args.words.now c.loop-round.words c.loop-round.decoder.log c.loop-round.found.history
-        c.loop-round.found.archive.members n) all c.loop-round.invariant.found in
+    c.loop-round.found.archive.members n) all c.loop-round.invariant.found in
     let e = c.ended-2.ensures in
     done_run s g.W.Words.gives g.W.Words.after old _ _ _ c.ended-2.result _ c.loop-round.found e.history e.archive e.log e.end found
 
@@ -153,7 +153,7 @@ returns-clause-infeasible g c =
     let old : Bits → List ℕ = λ f. picked (map (λ t. (goal.Evaluator-dyn g (t.vtable, t.value)).value t.value s f) c.args.tools.now.items) c.args.params.now.chosen.items in
     let all : c.loop-round._round ≡ c.args.params.now.rounds = omega (arith, c.loop-round-test.false, c.loop-round.auto._round-end) in
     let found = subst (λ (n : ℕ). IsFound s g.W.Words.gives g.W.Words.after old c.args.words.now c.loop-round.words c.loop-round.decoder.log c.loop-round.found.history
-        c.loop-round.found.archive.members n) all c.loop-round.invariant.found in
+    c.loop-round.found.archive.members n) all c.loop-round.invariant.found in
     done_not s g.W.Words.gives g.W.Words.after old _ _ _ _ _ _ c.ended-2.result.end c.ended-2.ensures.end found
 
 pub returns-clause-log : goal.returns-clause-log

@@ -53,7 +53,7 @@ returns-clause-ok g c =
     let piece = c.loop-i.piece.items in
     on_ok_weaker c.append-2.result
     (λ edits. filled_whole start now new name lines c.loop-i.i piece (omega (arith, c.loop-i-test.false, c.steps-i-end.ensures)) c.loop-i.invariant.0
-        (subst (λ (p : List ℕ). Edits now new name (Appends p)) c.deref-2.ensures.value edits))
+    (subst (λ (p : List ℕ). Edits now new name (Appends p)) c.deref-2.ensures.value edits))
     c.append-2.ensures.ok
 
 pub returns-clause-err : goal.returns-clause-err

@@ -19,7 +19,7 @@ loop-found-init c =
     let e = c.in_ok-solver.ensures in
     let lines = ap (λ (v : SolverValue). v.log.lines) e.ok in
     let start = starts_searching s c.in_ok-set.set.variables c.in_ok-set.set.constraints c.in_ok-solver.solver c.facts.ensures c.in_ok-set.ensures.variables c.in_ok-set.ensures.constraints e.few
-        e.ok in
+    e.ok in
     record {
       searching = subst (λ (es : List Entry). IsSearching s (seen es) c.in_ok-solver.solver) (sym c.new-found.ensures.items) start;
       unfinished = starts_unfinished s c.args.budget c.in_ok-solver.solver.log.lines c.requires.some lines;
@@ -81,9 +81,9 @@ returns-in-Ended-clause-end c =
     let found : r.searched.found ≡ seen c.deref.result.now = x.found ∙ sym (ap seen c.deref.ensures.value) in
     let said = subst (TurnSays s c.args.budget (seen c.deref.result.now) c.next_turn.new.solver.log.lines) c.in-Ended.is turn.says in
     let by_found : EndSays s c.args.budget r.searched.found c.next_turn.new.solver.log.lines c.in-Ended.end =
-        subst (λ (es : List EntryValue). EndSays s c.args.budget es c.next_turn.new.solver.log.lines c.in-Ended.end) (sym found) said in
+    subst (λ (es : List EntryValue). EndSays s c.args.budget es c.next_turn.new.solver.log.lines c.in-Ended.end) (sym found) said in
     let by_log : EndSays s c.args.budget r.searched.found r.searched.log.lines c.in-Ended.end = subst (λ (log : LogValue). EndSays s c.args.budget r.searched.found log.lines c.in-Ended.end)
-        (sym x.log) by_found in
+    (sym x.log) by_found in
     let says : EndSays s c.args.budget r.searched.found r.searched.log.lines r.searched.end = subst (EndSays s c.args.budget r.searched.found r.searched.log.lines) (sym x.end) by_log in
     says
 
@@ -96,12 +96,12 @@ returns-in-Ended-clause-exact c is =
     let found : r.searched.found ≡ seen c.deref.result.now = x.found ∙ sym (ap seen c.deref.ensures.value) in
     let said = subst (TurnSays s c.args.budget (seen c.deref.result.now) c.next_turn.new.solver.log.lines) c.in-Ended.is turn.says in
     let by_found : EndSays s c.args.budget r.searched.found c.next_turn.new.solver.log.lines c.in-Ended.end =
-        subst (λ (es : List EntryValue). EndSays s c.args.budget es c.next_turn.new.solver.log.lines c.in-Ended.end) (sym found) said in
+    subst (λ (es : List EntryValue). EndSays s c.args.budget es c.next_turn.new.solver.log.lines c.in-Ended.end) (sym found) said in
     let by_log : EndSays s c.args.budget r.searched.found r.searched.log.lines c.in-Ended.end = subst (λ (log : LogValue). EndSays s c.args.budget r.searched.found log.lines c.in-Ended.end)
-        (sym x.log) by_found in
+    (sym x.log) by_found in
     let says : EndSays s c.args.budget r.searched.found r.searched.log.lines r.searched.end = subst (EndSays s c.args.budget r.searched.found r.searched.log.lines) (sym x.end) by_log in
     exact s c.args.budget r.searched.found (front_of r.searched.front) r.searched.log.lines r.searched.end c.facts.ensures (subst (FoundPrefix s) (sym found) turn.searching.prefix) x.front
-        x.complete says is
+    x.complete says is
 
 pub returns-in-Ended-clause-accepted : goal.returns-in-Ended-clause-accepted
 returns-in-Ended-clause-accepted c is =
@@ -112,12 +112,12 @@ returns-in-Ended-clause-accepted c is =
     let found : r.searched.found ≡ seen c.deref.result.now = x.found ∙ sym (ap seen c.deref.ensures.value) in
     let said = subst (TurnSays s c.args.budget (seen c.deref.result.now) c.next_turn.new.solver.log.lines) c.in-Ended.is turn.says in
     let by_found : EndSays s c.args.budget r.searched.found c.next_turn.new.solver.log.lines c.in-Ended.end =
-        subst (λ (es : List EntryValue). EndSays s c.args.budget es c.next_turn.new.solver.log.lines c.in-Ended.end) (sym found) said in
+    subst (λ (es : List EntryValue). EndSays s c.args.budget es c.next_turn.new.solver.log.lines c.in-Ended.end) (sym found) said in
     let by_log : EndSays s c.args.budget r.searched.found r.searched.log.lines c.in-Ended.end = subst (λ (log : LogValue). EndSays s c.args.budget r.searched.found log.lines c.in-Ended.end)
-        (sym x.log) by_found in
+    (sym x.log) by_found in
     let says : EndSays s c.args.budget r.searched.found r.searched.log.lines r.searched.end = subst (EndSays s c.args.budget r.searched.found r.searched.log.lines) (sym x.end) by_log in
     accepted s c.args.budget r.searched.found (front_of r.searched.front) r.searched.log.lines r.searched.end c.facts.ensures (subst (FoundPrefix s) (sym found) turn.searching.prefix) x.front
-        x.complete says is
+    x.complete says is
 
 pub returns-in-Ended-clause-shaped : goal.returns-in-Ended-clause-shaped
 returns-in-Ended-clause-shaped c =

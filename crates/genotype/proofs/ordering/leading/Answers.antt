@@ -19,4 +19,4 @@ returns c =
     (subst (λ (xs : List Literal). IsPermutation xs new) c.in_ok-literals.ensures c.in_ok-sort_by_key.ensures.permutation)
     (IsNonDecreasingBy-from_sort_by_key (lateness genes) new c.in_ok-sort_by_key.ensures.sorted (λ a r q k. search rules))
     (ties_still_rise var_of (lateness genes) old new start (c.in_ok-sort_by_key.ensures.stable (lateness genes)
-        (always_returns_same _ (λ a r. r ≡ lateness genes a.0.now) _ (λ a r q k. search rules))))
+    (always_returns_same _ (λ a r. r ≡ lateness genes a.0.now) _ (λ a r q k. search rules))))

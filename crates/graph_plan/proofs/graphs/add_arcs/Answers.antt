@@ -18,7 +18,7 @@ add_arc-requires-clause-new c =
     let distinct : AreDistinct (map arc_name arcs) = subst (λ (xs : List TgffArc). AreDistinct (map arc_name xs)) (sym c.list-arcs.ensures) c.requires.graph.arcs_distinct in
     subst (λ (p : SpecValue). Contains p.message_names (arc_in g.index arc) → ⊥) (sym c.loop-arc.invariant)
     (new_name arc_name (arc_in g.index) g.index c.args.plan.now.message_names arcs c.loop-arc.arc-index arc (λ a. refl) c.requires.graph.index c.requires.ready.new distinct (omega arith)
-        c.arc-item.is)
+    c.arc-item.is)
 
 pub add_arc-requires-clause-free : goal.add_arc-requires-clause-free
 add_arc-requires-clause-free c =

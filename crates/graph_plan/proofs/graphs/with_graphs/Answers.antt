@@ -7,7 +7,7 @@ pub add_graph-requires-clause-room : goal.add_graph-requires-clause-room
 add_graph-requires-clause-room c =
     let graphs : c.list-graphs.result.now ≡ c.args.tgff.now.graphs = c.list-graphs.ensures ∙ ap (λ (f : TgffValue). f.graphs) c.tgff.view_is in
     room_for c.args.tgff.now c.list-graphs.result.now c.args.clock c.args.plan c.loop-graph.graph-index c.graph-item.result c.loop-graph.filled c.facts.ensures graphs c.loop-graph.invariant
-        (omega arith) c.graph-item.is
+    (omega arith) c.graph-item.is
 
 pub loop-graph-preserved : goal.loop-graph-preserved
 loop-graph-preserved c =

@@ -11,7 +11,7 @@ returns-in-NoArcIntoSender-clause-broken c = rw c.in-NoArcIntoSender.is c.enters
 pub returns-in-OneArcInto-clause-broken : goal.returns-in-OneArcInto-clause-broken
 returns-in-OneArcInto-clause-broken c =
     rw c.in-OneArcInto.is (OnTrue_from (nat_lt 1 c.arcs_into.result) (IsCrowded c.args.spec.now (bits_of c.args.design.now) c.args.m.0 c.args.place)
-        (λ e. record { in_range = rw c.in-OneArcInto.is at c.requires.place; two = omega (arith, more_than_one _ e, c.arcs_into.ensures) }))
+    (λ e. record { in_range = rw c.in-OneArcInto.is at c.requires.place; two = omega (arith, more_than_one _ e, c.arcs_into.ensures) }))
 
 pub returns-in-ShortWalk-clause-broken : goal.returns-in-ShortWalk-clause-broken
 returns-in-ShortWalk-clause-broken c = rw c.in-ShortWalk.is c.is_stray.ensures.broken

@@ -10,7 +10,7 @@ pub entry_fault-requires-clause-shaped : goal.entry_fault-requires-clause-shaped
 entry_fault-requires-clause-shaped c =
     let es = c.list-entries.result.now in
     item_shaped c.args.spec.now c.args.front.now.entries es c.loop-i.i c.index-entries-i.result c.list-entries.ensures c.requires
-        (omega (arith, ap length c.list-entries.ensures, length-map es as_seen)) c.index-entries-i.is
+    (omega (arith, ap length c.list-entries.ensures, length-map es as_seen)) c.index-entries-i.is
 
 pub entry_fault-requires-clause-long : goal.entry_fault-requires-clause-long
 entry_fault-requires-clause-long c = shaped_long c.args.spec.now (front_of c.args.front.now) c.list-entries.result.now c.loop-i.i c.list-entries.ensures c.requires

@@ -39,10 +39,10 @@ returns-then-t-slack-clause-quiet c =
     let a : Attached = record { id = c.args.id; constraint = c.args.c.now } in
     let s : c.args.room - c.degree.result ≡ c.args.room - c.args.c.now.degree = ap (λ (n : ℕ). c.args.room - n) c.degree.ensures.value in
     Progress-stop a c.by_falling-t-items.result.now c.args.trail.now.entries c.loop-t.trail.entries c.loop-t.t-index c.args.room (c.args.room - c.degree.result) c.t-item.result
-        c.loop-t.invariant.progress c.by_falling-t-items.ensures c.loop-t-test.true c.t-item.is c.requires.no_conflict s c.if-t-slack.true
+    c.loop-t.invariant.progress c.by_falling-t-items.ensures c.loop-t-test.true c.t-item.is c.requires.no_conflict s c.if-t-slack.true
 
 pub returns-clause-quiet : goal.returns-clause-quiet
 returns-clause-quiet c =
     let a : Attached = record { id = c.args.id; constraint = c.args.c.now } in
     Progress-all a c.by_falling-t-items.result.now c.args.trail.now.entries c.loop-t.trail.entries c.loop-t.t-index c.args.room c.loop-t.invariant.progress c.by_falling-t-items.ensures
-        c.loop-t-test.false c.requires.no_conflict
+    c.loop-t-test.false c.requires.no_conflict

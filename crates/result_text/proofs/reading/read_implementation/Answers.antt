@@ -19,4 +19,4 @@ pub returns-clause-back : goal.returns-clause-back
 returns-clause-back c = λ e is.
     let names = c.facts_of_names.ensures in
     back c.args.spec.now c.facts.ensures (record { tasks = names.tasks; messages = names.messages; resources = names.resources; links = names.links }) c.args.bytes.now c.read_all.result
-        (returns-clause-reads c) e is
+    (returns-clause-reads c) e is

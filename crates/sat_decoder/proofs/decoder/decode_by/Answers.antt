@@ -18,7 +18,7 @@ returns-clause-answer c =
     let s = c.args.spec.now in
     let o : IsOrderOf c.args.g.now (all_variables s) c.in_ok-order.order = subst (λ (n : ℕ). IsOrderOf c.args.g.now n c.in_ok-order.order) c.all_variables.ensures.count c.in_ok-order.ensures in
     says s c.args.g.now c.args.solver.now c.in_ok-order.order c.in_ok-answer.answer c.in_ok-decoded.decoded c.requires.solver_of c.facts.ensures c.requires.genes o c.in_ok-answer.ensures.answer
-        c.in_ok-decoded.ensures
+    c.in_ok-decoded.ensures
 
 pub returns-clause-count : goal.returns-clause-count
 returns-clause-count c =
@@ -29,9 +29,9 @@ returns-clause-shown c =
     let s = c.args.spec.now in
     let o : IsOrderOf c.args.g.now (all_variables s) c.in_ok-order.order = subst (λ (n : ℕ). IsOrderOf c.args.g.now n c.in_ok-order.order) c.all_variables.ensures.count c.in_ok-order.ensures in
     shown s c.args.g.now c.args.solver.now c.solve.new.self c.in_ok-order.order c.in_ok-answer.answer c.in_ok-decoded.decoded c.requires.solver_of c.requires.genes o c.in_ok-answer.ensures.frames
-        c.in_ok-decoded.ensures
+    c.in_ok-decoded.ensures
 
 pub returns-clause-solver_of : goal.returns-clause-solver_of
 returns-clause-solver_of c =
     solver_later c.args.spec.now c.args.solver.now c.solve.new.self c.in_ok-order.order c.in_ok-answer.answer c.requires.solver_of c.in_ok-answer.ensures.same c.in_ok-answer.ensures.log
-        c.in_ok-answer.ensures.frames
+    c.in_ok-answer.ensures.frames

@@ -52,7 +52,7 @@ built : (t0 t1 t2 : List Entry) (l m : Literal) (a : ConId) → t0 ≡ [] → t1
     → t2 ≡ entries a
 built t0 t1 t2 l m a e f g h k =
     g ∙ ap (λ (es : List Entry). es ++ implied a m) f ∙ ap (λ (es : List Entry). (es ++ decided l) ++ implied a m) e ∙ ap (λ (l : Literal). decided l ++ implied a m) h
-        ∙ ap (λ (m : Literal). decided (record { var = 0; yes = false }) ++ implied a m) k
+    ∙ ap (λ (m : Literal). decided (record { var = 0; yes = false }) ++ implied a m) k
 
 usable : (live : List Live) (a : ConId) (b : Bool) → is_live live a ≡ true → constraint_of live a ≡ either b → IsUsable live 2 a
 usable live a b l e =

@@ -62,7 +62,7 @@ implied a l = record { lit = l; reason = Some a } ∷ []
 built : (t0 t1 t2 : List Entry) (l m : Literal) (a b : ConId) → t0 ≡ [] → t1 ≡ t0 ++ implied a l → t2 ≡ t1 ++ implied b m → l ≡ x0 → m ≡ x1 → t2 ≡ entries a b
 built t0 t1 t2 l m a b e f g h k =
     g ∙ ap (λ (es : List Entry). es ++ implied b m) f ∙ ap (λ (es : List Entry). (es ++ implied a l) ++ implied b m) e ∙ ap (λ (l : Literal). implied a l ++ implied b m) h
-        ∙ ap (λ (m : Literal). implied a x0 ++ implied b m) k
+    ∙ ap (λ (m : Literal). implied a x0 ++ implied b m) k
 
 usable : (live : List Live) (a : ConId) (k : Linear) → is_live live a ≡ true → constraint_of live a ≡ k → VarsBelow 2 k.terms → IsUsable live 2 a
 usable live a k l e w =

@@ -21,4 +21,4 @@ pub add-requires-2-clause-new : goal.add-requires-2-clause-new
 add-requires-2-clause-new c h =
     let same : c.loop-m.m ≡ length c.args.names.now = omega arith in
     name_free c.args.names.now c.args.name.now c.args.listed.now c.requires.new (subst (λ (xs : List Name). Contains xs c.args.name.now)
-        (c.loop-m.invariant ∙ ap (λ (n : ℕ). map (name_at c.args.names.now) (unlisted c.args.listed.now n)) same) h)
+    (c.loop-m.invariant ∙ ap (λ (n : ℕ). map (name_at c.args.names.now) (unlisted c.args.listed.now n)) same) h)

@@ -12,7 +12,7 @@ pub returns-in-Err-clause-refused : goal.returns-in-Err-clause-refused
 returns-in-Err-clause-refused c =
     subst (λ (f : ReadFault). IsRefused c.args.tgff.now c.args.lines.now f) (sym c.at_line.ensures)
     (stopped c.args.tgff.now c.args.lines.now c.loop-line.line-index c.line-item.result c.loop-line.joiner c.in-Err.stop (omega arith) c.line-item.is c.loop-line.invariant.made
-        c.loop-line.invariant.none c.in-Err.ensures.refused)
+    c.loop-line.invariant.none c.in-Err.ensures.refused)
 
 pub loop-line-preserved : goal.loop-line-preserved
 loop-line-preserved c = record {

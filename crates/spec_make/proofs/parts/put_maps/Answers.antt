@@ -13,12 +13,12 @@ pub loop-t-preserved : goal.loop-t-preserved
 loop-t-preserved g c =
     let t = c.loop-t.t in
     written_all g.W.Words.gives g.W.Words.after 7 (map_lines c.args.side) c.args.words.now c.args.text.now.items _ (below (t + 1)) c.put_maps_of.new.text.items c.put_maps_of.new.words
-        (sym (below-more t))
+    (sym (below-more t))
     (written_next g.W.Words.gives g.W.Words.after 7 (map_lines c.args.side) c.args.words.now c.args.text.now.items (below t) t c.loop-t.text.items c.put_maps_of.new.text.items c.loop-t.words
-        c.put_maps_of.new.words c.loop-t.invariant c.in_ok-put_maps_of.ensures.text c.in_ok-put_maps_of.ensures.words)
+    c.put_maps_of.new.words c.loop-t.invariant c.in_ok-put_maps_of.ensures.text c.in_ok-put_maps_of.ensures.words)
 
 pub returns : goal.returns
 returns g c =
     let all : c.loop-t.t ≡ tasks_of c.args.side = omega (arith, c.tasks_of-t-end.ensures.value) in
     (written_all g.W.Words.gives g.W.Words.after 7 (map_lines c.args.side) c.args.words.now c.args.text.now.items (below c.loop-t.t) (below (tasks_of c.args.side)) c.loop-t.text.items
-        c.loop-t.words (ap below all) c.loop-t.invariant).put
+    c.loop-t.words (ap below all) c.loop-t.invariant).put

@@ -7,8 +7,11 @@ use Rattle.genotype.proofs.ordering.Genotype.order_of.Goals as goal
 
 pub add_others-requires-clause-more : goal.add_others-requires-clause-more
 add_others-requires-clause-more c =
-    omega (arith, led_len c.genes.result.now c.in_ok-literals.literals.items c.in_ok-literals.ensures,
-    subst (λ (genes : List GeneValue). length genes ≤ c.args.variables) (sym c.genes.ensures.genes) c.requires)
+    omega (
+      arith,
+      led_len c.genes.result.now c.in_ok-literals.literals.items c.in_ok-literals.ensures,
+      subst (λ (genes : List GeneValue). length genes ≤ c.args.variables) (sym c.genes.ensures.genes) c.requires,
+    )
 
 pub new-requires : goal.new-requires
 new-requires c =

@@ -16,7 +16,7 @@ pub returns-in-Some-clause-again : goal.returns-in-Some-clause-again
 returns-in-Some-clause-again c = λ refusal s.
     let first = c.first_line-first.ensures in
     let refused = refuses_one c.args.self.now _ (line_of c.loop-self.self-inside.rest.now) (lines c.first_line-first.result.rest.now) c.in-Some.why c.loop-self.invariant.passes first.lines
-        (sym first.fault ∙ c.in-Some.is) in
+    (sym first.fault ∙ c.in-Some.is) in
     let same = again_refused c.args.self.now _ refusal _ s refused in
     let answer : Refusal1 → Option (Result Line Refusal1) = λ r. Some (Err r) in
     (ap answer same.0, same.1)
@@ -25,7 +25,7 @@ pub returns-then-first-clause-line : goal.returns-then-first-clause-line
 returns-then-first-clause-line c =
     let first = c.first_line-first.ensures in
     gives_one c.args.self.now _ (line_of c.loop-self.self-inside.rest.now) (lines c.first_line-first.result.rest.now) _ c.loop-self.invariant.passes first.lines (sym first.fault ∙ c.in_default.is)
-        first.content refl (sym first.word ∙ c.if-first.true)
+    first.content refl (sym first.word ∙ c.if-first.true)
 
 pub returns-then-first-clause-again : goal.returns-then-first-clause-again
 returns-then-first-clause-again c = λ refusal s. absurd (again_line c.args.self.now _ refusal _ s (returns-then-first-clause-line c))

@@ -27,7 +27,7 @@ attach-requires-clause-in_range c =
     let s = c.args.self.now in
     let x : Live = record { id = c.in_ok-id.id; constraint = c.args.c; proof_id = c.args.proof_id } in
     let is : constraint_of c.add.new.self c.in_ok-id.id ≡ c.args.c = ap (λ (ls : List Live). constraint_of ls c.in_ok-id.id) c.in_ok-id.ensures.added
-        ∙ constraint-added s.store x c.in_ok-id.ensures.fresh in
+    ∙ constraint-added s.store x c.in_ok-id.ensures.fresh in
     let P : Linear → Type 0 = λ k. VarsBelow s.propagator.variables k.terms in
     let Q : ℕ → Type 0 = λ n. VarsBelow n c.args.c.terms in
     subst P (sym is) (subst Q (sym c.requires.loaded.ready.variables) c.requires.in_range)
@@ -37,7 +37,7 @@ returns-clause-attached c =
     let s = c.args.self.now in
     let x : Live = record { id = c.in_ok-id.id; constraint = c.args.c; proof_id = c.args.proof_id } in
     let is : constraint_of c.add.new.self c.in_ok-id.id ≡ c.args.c = ap (λ (ls : List Live). constraint_of ls c.in_ok-id.id) c.in_ok-id.ensures.added
-        ∙ constraint-added s.store x c.in_ok-id.ensures.fresh in
+    ∙ constraint-added s.store x c.in_ok-id.ensures.fresh in
     let P : Linear → Type 0 = λ k. ChangesOnly s.propagator.attached c.attach.new.self.attached c.in_ok-id.id (Some k) in
     subst P is c.in_ok-attach.ensures.ok
 
@@ -48,4 +48,4 @@ returns-clause-loaded c =
     let C : List Live → Type 0 = λ ls. ChangesOnly s.propagator.attached c.attach.new.self.attached c.in_ok-id.id (Some (constraint_of ls c.in_ok-id.id)) in
     let P : List Live → Type 0 = λ ls. IsLoaded ls c.attach.new.self s.trail in
     subst P (sym c.in_ok-id.ensures.added) (loaded-add s.store s.propagator c.attach.new.self s.trail x c.requires.loaded c.in_ok-id.ensures.fresh c.requires.in_range
-        (subst C c.in_ok-id.ensures.added c.in_ok-attach.ensures.ok) c.in_ok-attach.ensures.variables c.in_ok-attach.ensures.counted)
+    (subst C c.in_ok-id.ensures.added c.in_ok-attach.ensures.ok) c.in_ok-attach.ensures.variables c.in_ok-attach.ensures.counted)

@@ -15,14 +15,14 @@ returns-then-is_some-clause-ordered c =
     let i = c.loop-conflict.invariant in
     let A : List Attached → Type 0 = λ held. Appends held c.loop-conflict.self.trail.entries c.run-conflict.new.trail.entries in
     ordered-appends c.args.self.now.propagator.attached c.args.order.now c.loop-conflict.self.trail.entries c.run-conflict.new.trail.entries i.ordered
-        (subst A i.attached c.run-conflict.ensures.appends)
+    (subst A i.attached c.run-conflict.ensures.appends)
 
 pub returns-in-None-clause-ordered : goal.returns-in-None-clause-ordered
 returns-in-None-clause-ordered c =
     let i = c.loop-conflict.invariant in
     let A : List Attached → Type 0 = λ held. Appends held c.loop-conflict.self.trail.entries c.run-conflict.new.trail.entries in
     ordered-appends c.args.self.now.propagator.attached c.args.order.now c.loop-conflict.self.trail.entries c.run-conflict.new.trail.entries i.ordered
-        (subst A i.attached c.run-conflict.ensures.appends)
+    (subst A i.attached c.run-conflict.ensures.appends)
 
 pub returns-then-is_some-clause-passed : goal.returns-then-is_some-clause-passed
 returns-then-is_some-clause-passed c =
@@ -47,7 +47,7 @@ next_decision-requires c =
     let mid : List Entry = c.run-conflict.new.trail.entries in
     let A : List Attached → Type 0 = λ held. Appends held es mid in
     passed-here c.args.order.now c.loop-conflict.places mid c.level.result c.level.ensures (passed-appends c.args.self.now.propagator.attached c.args.order.now c.loop-conflict.places es mid
-        (subst A i.attached c.run-conflict.ensures.appends) i.passed)
+    (subst A i.attached c.run-conflict.ensures.appends) i.passed)
 
 pub loop-conflict-preserved : goal.loop-conflict-preserved
 loop-conflict-preserved c =
@@ -68,7 +68,7 @@ loop-conflict-preserved c =
     let appends = subst A i.attached c.run-conflict.ensures.appends in
     let C : List Attached → Type 0 = λ h. AllClosed h mid in
     let closed = subst C i.attached (closed-none c.run-conflict.result c.is_some.result (AllClosed c.loop-conflict.self.propagator.attached mid) c.is_some.ensures c.if-is_some.false
-        c.run-conflict.ensures.closed) in
+    c.run-conflict.ensures.closed) in
     let O : List Entry → Type 0 = λ us. IsOrdered held order us in
     let S : List Entry → Type 0 = λ us. ArePassed order us (set places level place) in
     let H : List Entry → Type 0 = λ us. GoesOnFrom mid us in

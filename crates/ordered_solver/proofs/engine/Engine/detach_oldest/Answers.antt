@@ -19,7 +19,7 @@ returns-clause-leaving c =
     let a = c.detach_each.ensures in
     let b = c.detach_each-2.ensures in
     let drops : Drops (take many all) p.attached r.attached = drops-parts front back all many first p.attached q.attached r.attached c.as_slices.ensures.items c.min-first.ensures a.attached
-        b.attached in
+    b.attached in
     let same : r.variables ≡ p.variables = ap (λ (x : PropagatorView). x.variables) b.same ∙ ap (λ (x : PropagatorView). x.variables) a.same in
     let counted : IsCounted r s.trail = counted-same q r s.trail b.same (counted-same p q s.trail a.same c.requires.idle.loaded.ready.counted) in
     leaving-all s.store p r s.trail (take many all) c.requires.idle.loaded drops same counted

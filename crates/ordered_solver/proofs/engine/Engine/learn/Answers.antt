@@ -32,7 +32,7 @@ unassigned_literal-lit-requires c =
     let es = c.args.self.now.trail.entries in
     let P : List Entry → Type 0 = λ us. HasUnassigned (value_in us) l.clause.terms in
     subst P (sym c.jump_back.ensures.entries) (found-one (value_in (upto_level l.back_level es)) l.clause
-        (leaves-one c.args.self.now.store es l.clause l.back_level c.in_ok-lesson.ensures.learned c.in_ok-lesson.ensures.back c.requires.level))
+    (leaves-one c.args.self.now.store es l.clause l.back_level c.in_ok-lesson.ensures.learned c.in_ok-lesson.ensures.back c.requires.level))
 
 pub add-requires-clause-in_range : goal.add-requires-clause-in_range
 add-requires-clause-in_range c =

@@ -59,7 +59,7 @@ learn-requires-clause-current c =
     let not-zero = c.if-level-eq0.false in
     let is = c.level.ensures in
     current s.store s.propagator s.trail c.args.order.now c.in-Some.conflict c.descend.ensures.loaded (subst O (sym c.descend.ensures.attached) c.descend.ensures.ordered)
-        (subst H (sym c.descend.ensures.attached) c.in-Some.ensures.conflict) (omega arith)
+    (subst H (sym c.descend.ensures.attached) c.in-Some.ensures.conflict) (omega arith)
 
 pub learn-requires-clause-forced : goal.learn-requires-clause-forced
 learn-requires-clause-forced c =
@@ -89,7 +89,7 @@ returns-in_default-clause-found c =
     subst F many (found-model start.store s.store start.kept.items s.kept.items held start.log s.log order v c.args.budget n s.trail.entries c.in_ok-values_of.field-0 learned below
     (still-counted l.trail.variables v l.trail.entries s.trail.entries n d.variables d.goes_on i.counted) (c.requires.every ∙ sym many) (subst V (sym many) c.requires.covers)
     d.loaded.attached d.loaded.in_range (are-held s.store s.propagator s.trail d.loaded) (subst O (sym d.attached) d.ordered).search c.in_default.ensures.full
-        (subst C (sym d.attached) c.in_default.ensures.closed)
+    (subst C (sym d.attached) c.in_default.ensures.closed)
     c.assigned-assigned.ensures.distinct c.assigned-assigned.ensures.in_range c.in_ok-values_of.ensures)
 
 pub returns-then-level-eq0-clause-found : goal.returns-then-level-eq0-clause-found
@@ -104,7 +104,7 @@ returns-then-level-eq0-clause-found c =
     let K : ℕ → Type 0 = λ m. IsCounted m l.trail.entries n in
     let below = i.below in
     found-nothing start.store s.store c.refute.new.self.store start.kept.items s.kept.items start.log s.log c.refute.new.self.log c.in_ok-refute.field-0 c.args.order.now start.trail.variables
-        c.args.budget n l.trail.entries learned c.in_ok-refute.ensures.refutes below (subst K i.variables i.counted)
+    c.args.budget n l.trail.entries learned c.in_ok-refute.ensures.refutes below (subst K i.variables i.counted)
 
 pub returns-in_default-clause-added : goal.returns-in_default-clause-added
 returns-in_default-clause-added c =
@@ -127,7 +127,7 @@ returns-then-level-eq0-clause-added c =
     let learned = learned-same start.store l.store s.store start.kept.items l.kept.items s.kept.items start.log l.log s.log c.loop-conflict.conflicts d.store d.kept d.log i.learned in
     let A : List ConId → Type 0 = λ is. HasAdded start.store w.store start.kept.items is start.log w.log in
     subst A (sym c.in_ok-refute.ensures.id) (added-refuted start.store s.store w.store start.kept.items s.kept.items start.log s.log w.log c.in_ok-refute.field-0 learned.added
-        c.in_ok-refute.ensures.refutes)
+    c.in_ok-refute.ensures.refutes)
 
 pub returns-then-conflicts-budget-clause-found : goal.returns-then-conflicts-budget-clause-found
 returns-then-conflicts-budget-clause-found c =
@@ -146,11 +146,11 @@ returns-then-conflicts-budget-clause-found c =
     let O : List Attached → Type 0 = λ h. IsOrdered h order s.trail.entries in
     let ordered = subst O (sym d.attached) d.ordered in
     let more = turn-learned start.store s.store w.store start.kept.items s.kept.items w.kept.items s.propagator s.trail w.propagator.attached order w.trail.entries start.log s.log w.log n
-        c.in_ok-learn.field-0 d.loaded ordered high learned c.in_ok-learn.ensures.learns c.in_ok-learn.ensures.id in
+    c.in_ok-learn.field-0 d.loaded ordered high learned c.in_ok-learn.ensures.learns c.in_ok-learn.ensures.id in
     let few = d.few in
     let vars = d.variables in
     let rise = turn-word s.store w.store s.propagator.attached w.propagator.attached l.trail.entries s.trail.entries w.trail.entries s.log w.log c.in_ok-learn.field-0 l.trail.variables d.goes_on
-        (omega arith) high c.in_ok-learn.ensures.learns in
+    (omega arith) high c.in_ok-learn.ensures.learns in
     let counted = turn-counted l.trail.variables start.trail.variables l.trail.entries w.trail.entries n (sym i.variables) rise i.counted in
     found-budget start.store w.store start.kept.items w.kept.items start.log w.log order start.trail.variables c.args.budget (n + 1) w.trail.entries more c.if-conflicts-budget.true counted
 
@@ -171,7 +171,7 @@ returns-then-conflicts-budget-clause-added c =
     let O : List Attached → Type 0 = λ h. IsOrdered h order s.trail.entries in
     let ordered = subst O (sym d.attached) d.ordered in
     let more = turn-learned start.store s.store w.store start.kept.items s.kept.items w.kept.items s.propagator s.trail w.propagator.attached order w.trail.entries start.log s.log w.log n
-        c.in_ok-learn.field-0 d.loaded ordered high learned c.in_ok-learn.ensures.learns c.in_ok-learn.ensures.id in
+    c.in_ok-learn.field-0 d.loaded ordered high learned c.in_ok-learn.ensures.learns c.in_ok-learn.ensures.id in
     more.added
 
 pub loop-conflict-smaller : goal.loop-conflict-smaller
@@ -186,7 +186,7 @@ loop-conflict-smaller c =
     let few = d.few in
     let vars = d.variables in
     let rise = turn-word s.store w.store s.propagator.attached w.propagator.attached l.trail.entries s.trail.entries w.trail.entries s.log w.log c.in_ok-learn.field-0 l.trail.variables d.goes_on
-        (omega arith) high c.in_ok-learn.ensures.learns in
+    (omega arith) high c.in_ok-learn.ensures.learns in
     turn-smaller l.trail.variables w.trail.variables l.trail.entries w.trail.entries (c.learn.ensures.variables ∙ d.variables) rise
 
 pub loop-conflict-preserved : goal.loop-conflict-preserved
@@ -208,12 +208,12 @@ loop-conflict-preserved c =
     let few = d.few in
     let vars = d.variables in
     let rise = turn-word s.store w.store s.propagator.attached w.propagator.attached l.trail.entries s.trail.entries w.trail.entries s.log w.log c.in_ok-learn.field-0 l.trail.variables d.goes_on
-        (omega arith) high c.in_ok-learn.ensures.learns in
+    (omega arith) high c.in_ok-learn.ensures.learns in
     let below = i.below in
     let not-all = c.if-conflicts-budget.false in
     let same : length c.descend.new.places ≡ length c.loop-conflict.places.items = d.same_length ∙ ap (λ (us : List ℕ). length us) c.deref_mut.ensures.value in
     let items : (with_items c.loop-conflict.places c.descend.new.places).items ≡ c.descend.new.places =
-        with_items_is c.loop-conflict.places c.descend.new.places (omega (arith, same, c.loop-conflict.places.ok.0)) in
+    with_items_is c.loop-conflict.places c.descend.new.places (omega (arith, same, c.loop-conflict.places.ok.0)) in
     let S : List ℕ → Type 0 = λ us. ArePassed order w.trail.entries us in
     let N : List ℕ → Type 0 = λ us. w.trail.variables < length us in
     let after = c.learn.ensures.variables in

@@ -41,5 +41,5 @@ returns-clause-kept c =
     let before = listed-added s.store w.store s.kept.items w.kept.items s.log w.log c.requires.listed added in
     let listed : HasKeptIds d.store d.kept.items w.log = subst (λ (v : LogValue). HasKeptIds d.store d.kept.items v) c.drop_oldest.ensures.log c.drop_oldest.ensures.listed in
     let kept : GoesOnKept s.store g.store s.log w.log = goes-kept s.store w.store d.store g.store s.kept.items w.kept.items d.kept.items s.log w.log added c.drop_oldest.ensures.dropped before
-        listed c.drop_oldest.ensures.count c.close_gaps.ensures.same in
+    listed c.drop_oldest.ensures.count c.close_gaps.ensures.same in
     subst (λ (v : LogValue). GoesOnKept s.store g.store s.log v) (sym (c.close_gaps.ensures.log ∙ c.drop_oldest.ensures.log)) kept

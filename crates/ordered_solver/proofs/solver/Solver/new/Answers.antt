@@ -13,7 +13,7 @@ invariant_of-result c = λ _.
     let many : c.len.result ≡ length cs = omega arith in
     let fresh : ℕ → LogValue = λ n. record { first = n + 1; lines = [] } in
     between-new e.store e.propagator e.trail e.kept.items e.log cs c.in_ok-load.ensures.idle (c.in_ok-load.ensures.kept ∙ c.in_ok-engine.ensures.none_kept)
-        (c.load.ensures.log ∙ c.in_ok-engine.ensures.log ∙ ap fresh many) c.in_ok-load.ensures.given)
+    (c.load.ensures.log ∙ c.in_ok-engine.ensures.log ∙ ap fresh many) c.in_ok-load.ensures.given)
 
 pub returns-clause-ok : goal.returns-clause-ok
 returns-clause-ok c =

@@ -40,7 +40,7 @@ invariant_of-self-2 c = λ _.
     (let e = c.self.inside.engine in
     let w = c.solve.new.self in
     between-on e.store w.store e.propagator w.propagator e.trail w.trail e.kept.items w.kept.items e.log w.log (c.self.invariant c.if-self.false) c.in_ok-answer.ensures.idle
-        c.in_ok-answer.ensures.listed c.in_ok-answer.ensures.kept)
+    c.in_ok-answer.ensures.listed c.in_ok-answer.ensures.kept)
 
 pub returns-clause-same : goal.returns-clause-same
 returns-clause-same c =

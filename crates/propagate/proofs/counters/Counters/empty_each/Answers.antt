@@ -20,9 +20,18 @@ returns-clause-built c =
     let same_rooms = e.cleared.same_rooms in
     let kept : List (Option Linear) → List (List Occurrence) → List (List Occurrence) = λ slots lists. map (filter (is_filled slots)) lists in
     let is : new ≡ kept d.slots.items s.occurrences = c.keep_filled.ensures ∙ ap (λ slots. kept slots d.occurrences) c.deref.ensures.value
-        ∙ ap (λ (v : Counters). kept d.slots.items v.occurrences) e.same in
-    let P : Counters → Type 0 = λ v. AreBuilt (record { variables = v.variables; slots = d.slots; rooms = d.rooms; limits = v.limits; occurrences = new; lits = v.lits; used = v.used; waiting =
-        v.waiting }) in
+    ∙ ap (λ (v : Counters). kept d.slots.items v.occurrences) e.same in
+    let P : Counters → Type 0 = λ v. AreBuilt (record {
+      variables = v.variables;
+      slots = d.slots;
+      rooms = d.rooms;
+      limits = v.limits;
+      occurrences = new;
+      lits = v.lits;
+      used = v.used;
+      waiting =
+          v.waiting;
+    }) in
     subst P (sym e.same) (record {
       built = built-cleared s.variables s.slots.items d.slots.items s.limits.items s.rooms.items d.rooms.items s.occurrences new b.built e.cleared is;
       room = record { has_rooms = omega arith; has_limits = omega arith; can_wait = omega arith };

@@ -7,5 +7,5 @@ pub returns-clause-woke : goal.returns-clause-woke
 returns-clause-woke c off p =
     let s = c.args.self.now in
     let k = woke-by c.of.result.now (occurrences_of s.occurrences (number_of c.args.lit)) c.deref-2.result.now s.limits.items c.deref.result.now s.rooms.items s.waiting c.wake.new.waiting
-        c.of.ensures c.deref-2.ensures.value c.deref.ensures.value c.wake.ensures.woke in
+    c.of.ensures c.deref-2.ensures.value c.deref.ensures.value c.wake.ensures.woke in
     given-woken s.variables s.slots.items s.limits.items s.rooms.items s.occurrences s.waiting c.wake.new.waiting (counted_of s) off c.args.lit c.requires.built.built p k

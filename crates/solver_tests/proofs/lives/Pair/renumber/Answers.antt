@@ -12,4 +12,4 @@ returns c =
     let same : q ≡ record s.propagator { attached = q.attached } = c.remap.ensures.same in
     let N : List Literal → Type 0 = λ ls. take (length ls) (map (λ (e : Entry). e.lit) s.trail.entries) ≡ ls in
     ready-remap s.propagator q s.store c.compact.new.self c.in_ok-moves.moves s.trail c.requires c.in_ok-moves.ensures.moves c.of-first.ensures.one_to_one c.remap.ensures.attached
-        (ap (λ (p : PropagatorView). p.variables) same) (subst N (sym (ap (λ (p : PropagatorView). p.counted) same)) c.requires.counted)
+    (ap (λ (p : PropagatorView). p.variables) same) (subst N (sym (ap (λ (p : PropagatorView). p.counted) same)) c.requires.counted)

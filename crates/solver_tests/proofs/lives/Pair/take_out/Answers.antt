@@ -14,4 +14,4 @@ returns c =
     let N : List Literal → Type 0 = λ ls. take (length ls) (map (λ (e : Entry). e.lit) s.trail.entries) ≡ ls in
     let P : List Live → Type 0 = λ ls. IsReady q ls s.trail in
     subst P (sym c.remove.ensures) (ready-remove s.propagator q s.store s.trail c.args.id c.requires.ready c.detach.ensures.attached (ap (λ (p : PropagatorView). p.variables) same)
-        (subst N (sym (ap (λ (p : PropagatorView). p.counted) same)) c.requires.ready.counted))
+    (subst N (sym (ap (λ (p : PropagatorView). p.counted) same)) c.requires.ready.counted))

@@ -29,7 +29,7 @@ invariant_of-self-2 c =
     let m : Message = message_of c.args.sender c.args.receivers.now c.args.hops c.args.delay c.args.quantity in
     let fine : IsMessageAccepted old c.args.name.now m = subst (λ (s : SpecValue). IsMessageAccepted s c.args.name.now m) (sym c.self.view_is) (c.in_ok-after.ensures.accepted c.args.hops) in
     let led : IsLed c.in_ok-after.after old.messages (map task_number c.args.receivers.now) = subst (λ (s : SpecValue). IsLed c.in_ok-after.after s.messages (map task_number c.args.receivers.now))
-        (sym c.self.view_is) c.in_ok-after.ensures.led in
+    (sym c.self.view_is) c.in_ok-after.ensures.led in
     let new : value_of c.add_message.new.self ≡ with_message old c.args.name.now m = c.in_ok-number.ensures.added in
     let tasks : length old.tasks ≡ length c.args.self.now.tasks = ap (λ (s : SpecValue). length s.tasks) c.self.view_is in
     record {

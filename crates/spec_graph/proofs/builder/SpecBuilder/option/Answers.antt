@@ -19,12 +19,16 @@ invariant_of-self-2 c =
     let o : Choice = choice c.args.task.0 c.args.resource.0 c.args.time in
     let time : c.args.time ≤ 2 ^ 40 = omega arith in
     let options : map choice_value c.push.new.self ≡ (value_of c.self.inside.held).options ++ o ∷ [] = ap (map choice_value) c.in_ok-push.ensures.added
-        ∙ map-append choice_value c.self.inside.held.options _ in
+    ∙ map-append choice_value c.self.inside.held.options _ in
     let rows = row_added c.self.inside.held.option_weights.items c.reserve.new.self.items c.push_reserved.new.self.items c.in_ok-weights.weights c.args.weights.now c.reserve.ensures.items
-        c.push_reserved.ensures.items c.in_ok-weights.ensures in
-    record { plan = plan_option_at (value_of c.self.inside.held) o c.args.weights.now _ _ options rows c.self.invariant.plan
-        (record { task = omega (arith, tasks); resource = omega (arith, resources); time = time }) new (c.requires.one_each ∙ sym objectives) small room; order =
-        c.self.invariant.order; room = c.self.invariant.room }
+    c.push_reserved.ensures.items c.in_ok-weights.ensures in
+    record {
+      plan = plan_option_at (value_of c.self.inside.held) o c.args.weights.now _ _ options rows c.self.invariant.plan
+          (record { task = omega (arith, tasks); resource = omega (arith, resources); time = time }) new (c.requires.one_each ∙ sym objectives) small room;
+      order =
+          c.self.invariant.order;
+      room = c.self.invariant.room;
+    }
 
 pub returns-then-has-clause-refused : goal.returns-then-has-clause-refused
 returns-then-has-clause-refused c = subst (λ (s : SpecValue). IsMapped s c.args.task.0 c.args.resource.0) c.self.view_is (c.has.ensures.0 c.if-has.true)

@@ -12,9 +12,13 @@ invariant_of-self-2 c =
     let small : ¬ HasBig c.args.weights.now = search rules in
     let room : length c.self.inside.held.resources < 256 = omega arith in
     let rows = row_added c.self.inside.held.resource_weights.items c.reserve.new.self.items c.push_reserved.new.self.items c.in_ok-weights.weights c.args.weights.now c.reserve.ensures.items
-        c.push_reserved.ensures.items c.in_ok-weights.ensures in
-    record { plan = plan_resource_at (value_of c.self.inside.held) c.args.name.now c.args.weights.now _ _ c.in_ok-number.ensures.added rows c.self.invariant.plan new
-        (c.requires.one_each ∙ sym objectives) small room; order = c.self.invariant.order; room = c.self.invariant.room }
+    c.push_reserved.ensures.items c.in_ok-weights.ensures in
+    record {
+      plan = plan_resource_at (value_of c.self.inside.held) c.args.name.now c.args.weights.now _ _ c.in_ok-number.ensures.added rows c.self.invariant.plan new
+          (c.requires.one_each ∙ sym objectives) small room;
+      order = c.self.invariant.order;
+      room = c.self.invariant.room;
+    }
 
 pub returns-then-contains-clause-refused : goal.returns-then-contains-clause-refused
 returns-then-contains-clause-refused c = subst (λ (s : SpecValue). Contains s.resources c.args.name.now) c.self.view_is (c.contains.ensures.0 c.if-contains.true)

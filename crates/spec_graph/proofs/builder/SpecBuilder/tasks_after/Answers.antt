@@ -28,7 +28,7 @@ returns-then-len-ge-MOST_MESSAGES-clause-refused c hops =
     let small = never c.is_too_big.result c.is_too_big.ensures c.if-is_too_big.false in
     let led : IsLed c.in_ok-after.after c.self.inside.held.messages.items (map task_number c.args.receivers.now) = c.in_ok-after.ensures c.self.inside.held.messages.items c.self.invariant.order in
     let free : ¬ Leads c.self.inside.held.messages.items (map task_number c.args.receivers.now) c.args.sender.0 =
-        never (is_in c.in_ok-after.after c.args.sender.0) (led c.args.sender.0) (sym c.has.ensures ∙ c.if-has.false) in
+    never (is_in c.in_ok-after.after c.args.sender.0) (led c.args.sender.0) (sym c.has.ensures ∙ c.if-has.false) in
     let m : Message = message_of c.args.sender c.args.receivers.now hops c.args.delay c.args.quantity in
     let full : 2048 ≤ length c.self.inside.held.messages.items = omega arith in
     subst (λ (s : SpecValue). IsMessageRefused s c.args.name.now m (Limit Messages)) c.self.view_is (refl, repeated, small, free, full)
@@ -36,7 +36,7 @@ returns-then-len-ge-MOST_MESSAGES-clause-refused c hops =
 pub returns-clause-led : goal.returns-clause-led
 returns-clause-led c =
     subst (λ (s : SpecValue). IsLed c.in_ok-after.after s.messages (map task_number c.args.receivers.now)) c.self.view_is
-        (c.in_ok-after.ensures c.self.inside.held.messages.items c.self.invariant.order)
+    (c.in_ok-after.ensures c.self.inside.held.messages.items c.self.invariant.order)
 
 pub returns-clause-accepted : goal.returns-clause-accepted
 returns-clause-accepted c hops =
@@ -44,7 +44,7 @@ returns-clause-accepted c hops =
     let small = never c.is_too_big.result c.is_too_big.ensures c.if-is_too_big.false in
     let led : IsLed c.in_ok-after.after c.self.inside.held.messages.items (map task_number c.args.receivers.now) = c.in_ok-after.ensures c.self.inside.held.messages.items c.self.invariant.order in
     let free : ¬ Leads c.self.inside.held.messages.items (map task_number c.args.receivers.now) c.args.sender.0 =
-        never (is_in c.in_ok-after.after c.args.sender.0) (led c.args.sender.0) (sym c.has.ensures ∙ c.if-has.false) in
+    never (is_in c.in_ok-after.after c.args.sender.0) (led c.args.sender.0) (sym c.has.ensures ∙ c.if-has.false) in
     let m : Message = message_of c.args.sender c.args.receivers.now hops c.args.delay c.args.quantity in
     let room : length c.self.inside.held.messages.items < 2048 = omega arith in
     subst (λ (s : SpecValue). IsMessageAccepted s c.args.name.now m) c.self.view_is (record { once = repeated; small = small; free = free; room = room })

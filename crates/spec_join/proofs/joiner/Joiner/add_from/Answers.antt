@@ -16,7 +16,7 @@ unreachable-requires c =
     let s = c.args.self.now in
     let small = time_small s c.args.keys.now (row_at (table_at s.tables c.args.table) c.args.row) c.requires.unbroken in
     c.in_default.not-NoMemory (only_memory c.self.inside.plan s.plan c.args.t c.resource_there-place.result.0 c.time_from-time.result (number_of s.plan.resources c.args.resource.now)
-        c.deref.result.now c.in-Err.fault
+    c.deref.result.now c.in-Err.fault
     (ap (λ (x : Joining). x.plan) c.self.view_is) c.resource_there-place.ensures.first c.in-Err.ensures.refused c.requires.new
     (subst (λ (n : ℕ). n ≤ 2 ^ 40) (sym c.time_from-time.ensures) small)
     (subst (λ (row : List ℕ). All (λ w. w ≤ 2 ^ 40) row) (sym c.deref.ensures.value) c.in_ok-weights.ensures.small) c.requires.room)

@@ -27,10 +27,10 @@ loop-name-preserved c =
     elim c.match-sender.branch [
       | in-Some-sender+else-first-from w ↦
           subst new (sym w.sender-is) (sender_again p names i w.in-Some-sender.first c.sender-from.result c.name-item.result said (omega arith) c.name-item.is c.list.ensures from
-              w.if-first-from.false (subst old w.in-Some-sender.is c.loop-name.invariant))
+          w.if-first-from.false (subst old w.in-Some-sender.is c.loop-name.invariant))
       | in-None w ↦
           subst new (sym w.sender-is) (sender_first p names i c.sender-from.result c.name-item.result said (omega arith) c.name-item.is c.list.ensures
-              (there_of p.message_names said m c.in-Some.ensures.number) from (subst old w.in-None.is c.loop-name.invariant))
+          (there_of p.message_names said m c.in-Some.ensures.number) from (subst old w.in-None.is c.loop-name.invariant))
     ]
 
 pub returns : goal.returns

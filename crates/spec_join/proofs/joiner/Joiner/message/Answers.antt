@@ -14,7 +14,7 @@ returns-in-Ok-clause-accepted c =
     let s = c.args.self.now in
     let m : Message = message_of c.in-Some.from c.deref.result.now c.self.inside.hops c.self.inside.delay 1 in
     let r = resolved _ s c.args.sender.now c.args.receivers.now c.in-Some.from c.in_ok-to.to.items c.deref.result.now c.self.view_is c.deref.ensures.value c.in-Some.ensures
-        c.in_ok-to.ensures.known c.in_ok-to.ensures.numbers c.self.invariant.4 in
+    c.in_ok-to.ensures.known c.in_ok-to.ensures.numbers c.self.invariant.4 in
     message_accepted s c.args.name.now c.args.sender.now c.args.receivers.now m r (subst (λ (x : Joining). IsMessageAccepted x.plan c.args.name.now m) c.self.view_is c.in-Ok.ensures.accepted)
 
 pub returns-clause-refused : goal.returns-clause-refused
@@ -22,7 +22,7 @@ returns-clause-refused c =
     let s = c.args.self.now in
     let m : Message = message_of c.in-Some.from c.deref.result.now c.self.inside.hops c.self.inside.delay 1 in
     let r = resolved _ s c.args.sender.now c.args.receivers.now c.in-Some.from c.in_ok-to.to.items c.deref.result.now c.self.view_is c.deref.ensures.value c.in-Some.ensures
-        c.in_ok-to.ensures.known c.in_ok-to.ensures.numbers c.self.invariant.4 in
+    c.in_ok-to.ensures.known c.in_ok-to.ensures.numbers c.self.invariant.4 in
     let h = message_refused s c.args.name.now c.args.sender.now c.args.receivers.now m c.in-Err.fault r
-        (subst (λ (x : Joining). IsMessageRefused x.plan c.args.name.now m c.in-Err.fault) c.self.view_is c.in-Err.ensures.refused) in
+    (subst (λ (x : Joining). IsMessageRefused x.plan c.args.name.now m c.in-Err.fault) c.self.view_is c.in-Err.ensures.refused) in
     subst (λ (x : Stop). Refuses s (statements.Message c.args.name.now c.args.sender.now c.args.receivers.now) x) (sym c.stop_for.ensures) h

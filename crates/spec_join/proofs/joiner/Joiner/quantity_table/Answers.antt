@@ -11,4 +11,4 @@ returns-clause-accepted c =
     let found : table_called s.tables c.args.name.now c.args.index ≡ Some (table_at s.tables c.in-Some.table)
     = subst (λ (j : Joining). table_called j.tables c.args.name.now c.args.index ≡ Some (table_at j.tables c.in-Some.table)) c.self.view_is c.in-Some.ensures.found in
     accepted_by s (table_called s.tables c.args.name.now c.args.index) (table_at s.tables c.in-Some.table) c.args.column c.args.rows c.messages_fault.result found c.in_default-messages_fault.is
-        c.messages_fault.ensures
+    c.messages_fault.ensures
