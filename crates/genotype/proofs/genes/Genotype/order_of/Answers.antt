@@ -3,7 +3,7 @@ use Rattle.spec_model.specs.Genotypes.{GeneValue}
 use Rattle.genotype.specs.Order.{IsOrderOf}
 use Rattle.genotype.specs.Placing.{IsLed}
 use Rattle.genotype.proofs.Placing.{order_is, led_len}
-use Rattle.genotype.proofs.ordering.Genotype.order_of.Goals as goal
+use Rattle.genotype.proofs.genes.Genotype.order_of.Goals as goal
 
 pub add_others-requires-clause-more : goal.add_others-requires-clause-more
 add_others-requires-clause-more c =
