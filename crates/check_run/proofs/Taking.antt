@@ -93,12 +93,7 @@ ends_line reader some clean =
 
 pub refused_verdict : (p : Progress) (r : Refused) → p.refused ≡ Some r → verdict_of p ≡ verdicts.Refused r
 refused_verdict p r e = ap (verdict_if p) e
-  -- ---- the file
-
-  where
-    none_found : (files : Option Files) → IfSome files (λ all. [] ≡ take 0 (content all name))
-    none_found None = tt
-    none_found (Some all) = refl
+    -- ---- the file
 
 parts_found : (files : Option Files) (name : List ℕ) (at count : ℕ) (bytes more : List ℕ) → IfSome files (λ all. bytes ≡ take at (content all name))
     → IfSome files (λ all. more ≡ take count (drop at (content all name))) → IfSome files (λ all. bytes ++ more ≡ take (at + count) (content all name))

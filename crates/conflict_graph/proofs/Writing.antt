@@ -89,17 +89,6 @@ explain-end a c id room most i old now last ts e l x p =
     p ∙ ap (λ os. os ++ finishing (c.degree - room) most) w ∙ ap (λ os. ((old ++ Id id ∷ []) ++ weakenings a c.terms) ++ os) same
     ∙ append_assoc (old ++ Id id ∷ []) (weakenings a c.terms) tail ∙ append_assoc old (Id id ∷ []) (weakenings a c.terms ++ tail)
 
-
-  where
-    nothing : (o : Option Bool) → o ≡ either o None
-    nothing None = refl
-    nothing (Some b) = refl
-
-  where
-    nothing : (o : Option Bool) → o ≡ either o None
-    nothing None = refl
-    nothing (Some b) = refl
-
 -- the count after one sign is changed
 pub count-set : (es : List Entry) (items : List (Option Bool)) (x : ℕ) (o p : Option Bool) (n : ℕ) → n ≡ length items → x < n → signs items x ≡ p
     → currents n 0 es (signs items) + current_at es x o ≡ currents n 0 es (signs (set items x o)) + current_at es x p
@@ -195,11 +184,11 @@ signs-more a ts i t y rising h e =
 pub mark-false : (a : ℕ → Option Bool) (ts : List Term) (i : ℕ) (t : Term) (start now next : ℕ → Option Bool)
     → ((i j : ℕ) (d : Term) → i < j → j < length ts → (get_or ts i d).lit.var < (get_or ts j d).lit.var) → i < length ts → t ≡ get_or ts i t → is_false a t.lit ≡ true →
     ((y : ℕ) → now y ≡ either (start y) (false_signs a (take i ts) y)) → ((y : ℕ) → next y ≡ either (now y) (cond (eqb t.lit.var y) (Some t.lit.yes) None)) → (y : ℕ)
-        → next y ≡ either (start y) (false_signs a (take (i + 1) ts) y)
+    → next y ≡ either (start y) (false_signs a (take (i + 1) ts) y)
 mark-false a ts i t start now next rising h e f w p y =
     let m = rw f at (signs-more a ts i t y rising h e) in
     p y ∙ ap (λ o. either o (cond (eqb t.lit.var y) (Some t.lit.yes) None)) (w y) ∙ either-assoc (start y) (false_signs a (take i ts) y) (cond (eqb t.lit.var y) (Some t.lit.yes) None)
-        ∙ ap (either (start y)) (sym m)
+    ∙ ap (either (start y)) (sym m)
 
 pub mark-kept : (a : ℕ → Option Bool) (ts : List Term) (i : ℕ) (t : Term) (start now : ℕ → Option Bool)
     → ((i j : ℕ) (d : Term) → i < j → j < length ts → (get_or ts i d).lit.var < (get_or ts j d).lit.var) → i < length ts → t ≡ get_or ts i t → is_false a t.lit ≡ false →

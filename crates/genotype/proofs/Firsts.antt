@@ -10,7 +10,8 @@ use Rattle.pb_rules.specs.Order.{AgreeOn}
 use Rattle.pb_rules.specs.Order as along
 use Rattle.spec_model.specs.Spec.{below}
 use Rattle.spec_model.specs.Genotypes.{GeneValue, gene_at, StandsBefore, IsBefore}
-use Rattle.genotype.specs.Order.{var_of, IsOrder, IsOrderOf}
+use Rattle.variable_order.specs.Order.{var_of, IsOrder}
+use Rattle.genotype.specs.Order.{IsOrderOf}
 use Rattle.genotype.proofs.Placing.{stands_trans}
 
 -- ---- literals

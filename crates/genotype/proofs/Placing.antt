@@ -14,7 +14,8 @@ use Rattle.pb_rules.specs.Literal.{Literal}
 use Rattle.spec_model.specs.Spec.{below}
 use Rattle.spec_model.specs.Genotypes.{GeneValue, plain_gene, gene_at, StandsBefore}
 use Rattle.genotype.specs.Genes.{HasPriority}
-use Rattle.genotype.specs.Order.{var_of, IsOrder, IsOrderOf}
+use Rattle.variable_order.specs.Order.{var_of, IsOrder}
+use Rattle.genotype.specs.Order.{IsOrderOf}
 use Rattle.genotype.specs.Placing.{literal_at, other_literal, literals_of, lateness, IsLed}
 use Rattle.plain_lists.proofs.Numbers.{eqb_comm}
 

@@ -59,7 +59,7 @@ without-first p (f ∷ live) x xs distinct e = go (p f) refl e (without-first p 
     here : p f ≡ true → f ≡ x → filter p live ≡ xs → Goal
     here t is tail =
         let out : without x.id (f ∷ live) ≡ without x.id live =
-            ap (λ b. cond (not b) (f ∷ without x.id live) (without x.id live)) (ap (λ (g : Live). eqb g.id.0 x.id.0) is ∙ eq-eqb x.id.0 x.id.0 refl) in
+        ap (λ b. cond (not b) (f ∷ without x.id live) (without x.id live)) (ap (λ (g : Live). eqb g.id.0 x.id.0) is ∙ eq-eqb x.id.0 x.id.0 refl) in
         let rest : without x.id live ≡ live = ap (λ (g : Live). without g.id live) (sym is) ∙ without-fresh live f.id apart in
         let failing : filter (fails p) (f ∷ live) ≡ filter (fails p) live = ap (λ b. cond (not b) (f ∷ filter (fails p) live) (filter (fails p) live)) t in
         (ap (filter p) (out ∙ rest) ∙ tail, ap (filter (fails p)) (out ∙ rest) ∙ sym failing)

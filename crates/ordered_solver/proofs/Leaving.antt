@@ -90,11 +90,6 @@ leaving-fewer live after p t id ids e l =
     still x n (inl w) = inl (Contains-tail id ids x.id (λ z. n (sym z)) w)
     still x n (inr a) = inr a
 
-  where
-    is : (x : Live) → Contains [] x.id ⊎ IsAttached p.attached x → IsAttached p.attached x
-    is x (inl w) = absurd (let lt = w.1 in omega arith)
-    is x (inr a) = a
-
 -- the first of a list that leaves
 pub leaving-first : (live after : List Live) (p : PropagatorView) (t : TrailView) (all : List ConId) (id : ConId) (ids : List ConId) (n : ℕ) → all ≡ id ∷ ids → after ≡ without id live
     → AreLeaving live p t (take (n + 1) all) → AreLeaving after p t (take n ids)

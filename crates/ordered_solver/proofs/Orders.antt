@@ -6,7 +6,7 @@ use Rattle.std.proofs.lemmas.List.{get_or-map, length-map}
 use Rattle.std.proofs.lemmas.List.FromFn.{get_or-range_with_len, length-range_with_len}
 use Rattle.std.proofs.lemmas.List.Sorted.{All-permutation, Contains-permutation}
 use Rattle.pb_rules.specs.Literal.{Literal}
-use Rattle.genotype.specs.Order.{var_of, IsOrder}
+use Rattle.variable_order.specs.Order.{var_of, IsOrder}
 use Rattle.ordered_solver.specs.Trails.{IsVarBelow, Covers}
 
 abbrev IsLess : ℕ → ℕ → Type 0

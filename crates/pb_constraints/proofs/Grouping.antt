@@ -44,10 +44,6 @@ closed-below : (gs : List Group) (x y : ℕ) (z : ℤ) → All (VarBelow x) gs �
 closed-below gs x y (pos zero) a h = λ k d l. omega (arith, a k d l)
 closed-below gs x y (pos (suc n)) a h = All-push (VarBelow y) gs (record { var = x; sum = pos (suc n) }) (λ k d l. omega (arith, a k d l)) h
 closed-below gs x y (negsuc n) a h = All-push (VarBelow y) gs (record { var = x; sum = negsuc n }) (λ k d l. omega (arith, a k d l)) h
-  where
-    share_zero : (b : Bool) → pos 0 +ℤ (cond b (pos 0) (pos 0)) ≡ pos 0
-    share_zero true = refl
-    share_zero false = refl
 
 -- one more part of the same variable
 pub grouping_more : (ps : List Part) (gs : List Group) (x : ℕ) (z : ℤ) (p : Part) (y : ℤ) → IsGrouping ps gs x z → p.lit.var ≡ x → y ≡ z +ℤ signed p → neg_ℤ (pos (2 ^ 63)) ≤ℤ signed p

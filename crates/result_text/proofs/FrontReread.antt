@@ -216,7 +216,7 @@ head_read s names =
     let p = spelled_is (codes "objectives") s.objectives words in
     let empty = none_empty (objectives_words s) words in
     let fine : first_broken (front_line_tests s second (spelled (objectives_words s))) ≡ None =
-        rw (p.good, p.ended, p.words, empty, (bytes_eq-Decides (spelled (objectives_words s)) (spelled (objectives_words s))).1 refl) refl in
+    rw (p.good, p.ended, p.words, empty, (bytes_eq-Decides (spelled (objectives_words s)) (spelled (objectives_words s))).1 refl) refl in
     line_more s (spelled header_words) second (between s []) (objectives_words s) header p fine refl
 
 -- a front is closed

@@ -48,9 +48,21 @@ no_arc = record { link = 0; tail = 0; head = 0 }
 bind_fine : (s : SpecValue) (t r n : List ℕ) (task resource o : ℕ) → plain_whole_of n ≡ Ok o → number_of s.tasks t ≡ task → number_of s.resources r ≡ resource → task < length s.tasks
     → resource < length s.resources
     → o < length s.options → (option_at s o).task ≡ task → (option_at s o).resource ≡ resource → (first_broken (bind_tests s t r n) ≡ None) × (number_in n ≡ o)
-bind_fine s t r n task resource o number et er lt lr lo ot or =
-    (rw (number, et, er, lt-ltb task (length s.tasks) lt, lt-ltb resource (length s.resources) lr, lt-leb (length s.options) o lo, ot, or,
-        eq-eqb task task refl, eq-eqb resource resource refl) refl, rw number refl)
+bind_fine s t r n task resource o number et er lt lr lo ot or = (
+  rw (
+    number,
+    et,
+    er,
+    lt-ltb task (length s.tasks) lt,
+    lt-ltb resource (length s.resources) lr,
+    lt-leb (length s.options) o lo,
+    ot,
+    or,
+    eq-eqb task task refl,
+    eq-eqb resource resource refl,
+  ) refl,
+  rw number refl,
+)
 
 bind_read : (s : SpecValue) → IsWellFormed s → HasNames s → (o : ℕ) → o < length s.options → IsReadAs s o (bind_words s o)
 bind_read s w h o lt =

@@ -69,9 +69,9 @@ bind_back s t r n e =
     let known_r = not (is_name s.resources r) in
     let past = is_past (length s.options) m in
     let a = none_of (whys.BadNumber, is_no_number m) ((whys.UnknownName, known_t || known_r || past) ∷ (whys.TooBig, is_too_big m)
-        ∷ (whys.WrongBinding, not (is_option_of s (number_of s.tasks t) (number_of s.resources r) o)) ∷ []) e in
+    ∷ (whys.WrongBinding, not (is_option_of s (number_of s.tasks t) (number_of s.resources r) o)) ∷ []) e in
     let b = none_of (whys.UnknownName, known_t || known_r || past) ((whys.TooBig, is_too_big m) ∷ (whys.WrongBinding, not (is_option_of s (number_of s.tasks t) (number_of s.resources r) o)) ∷ [])
-        a.1 in
+    a.1 in
     let d = none_of (whys.TooBig, is_too_big m) ((whys.WrongBinding, not (is_option_of s (number_of s.tasks t) (number_of s.resources r) o)) ∷ []) b.1 in
     let w = none_of (whys.WrongBinding, not (is_option_of s (number_of s.tasks t) (number_of s.resources r) o)) [] d.1 in
     let outer = or_parts (known_t || known_r) past b.0 in
@@ -83,7 +83,7 @@ bind_back s t r n e =
     let option = and_parts ((option_at s o).task == number_of s.tasks t) ((option_at s o).resource == number_of s.resources r) (not-false _ w.0) in
     let task : name_at s.tasks (option_at s o).task ≡ t = ap (name_at s.tasks) (eqb-true (option_at s o).task (number_of s.tasks t) option.0) ∙ name_of_number s.tasks t (not-false _ inner.0) in
     let resource : name_at s.resources (option_at s o).resource ≡ r = ap (name_at s.resources) (eqb-true (option_at s o).resource (number_of s.resources r) option.1)
-        ∙ name_of_number s.resources r (not-false _ inner.1) in
+    ∙ name_of_number s.resources r (not-false _ inner.1) in
     record {
       there = omega (arith, lt);
       words = sym (item_option s o lt ∙ rw (task, resource, ← text.0) refl);
@@ -152,13 +152,13 @@ item_back s w (k ∷ a ∷ []) e =
           let tests : item_tests s (k ∷ a ∷ []) ≡ name_tests s.resources a = rw t refl in
           let variable : item_variable s (k ∷ a ∷ []) ≡ resource_var s (number_of s.resources a) = rw t refl in
           item_by s (k ∷ a ∷ []) (codes "alloc" ∷ a ∷ []) _ _ (cons_same k (codes "alloc") (a ∷ []) (a ∷ []) ((bytes_eq-Decides k (codes "alloc")).0 t) refl) variable
-              (alloc_back s a (sym (ap first_broken tests) ∙ e))
+          (alloc_back s a (sym (ap first_broken tests) ∙ e))
       | inr f ↦ elim (cases_Bool (bytes_eq k (codes "wire"))) [
         | inl t ↦
             let tests : item_tests s (k ∷ a ∷ []) ≡ name_tests s.links a = rw (f, t) refl in
             let variable : item_variable s (k ∷ a ∷ []) ≡ link_var s (number_of s.links a) = rw f refl in
             item_by s (k ∷ a ∷ []) (codes "wire" ∷ a ∷ []) _ _ (cons_same k (codes "wire") (a ∷ []) (a ∷ []) ((bytes_eq-Decides k (codes "wire")).0 t) refl) variable
-                (wire_back s a (sym (ap first_broken tests) ∙ e))
+            (wire_back s a (sym (ap first_broken tests) ∙ e))
         | inr g ↦ absurd (let tests : item_tests s (k ∷ a ∷ []) ≡ misshapen = rw (f, g) refl in misshapen_not (sym (ap first_broken tests) ∙ e))
       ]
     ]
@@ -168,7 +168,7 @@ item_back s w (k ∷ a ∷ b ∷ c ∷ []) e =
       | inl t ↦
           let tests : item_tests s (k ∷ a ∷ b ∷ c ∷ []) ≡ bind_tests s a b c = rw t refl in
           item_by s (k ∷ a ∷ b ∷ c ∷ []) (codes "bind" ∷ a ∷ b ∷ c ∷ []) _ _ (cons_same k (codes "bind") (a ∷ b ∷ c ∷ []) (a ∷ b ∷ c ∷ []) ((bytes_eq-Decides k (codes "bind")).0 t) refl) refl
-              (bind_back s a b c (sym (ap first_broken tests) ∙ e))
+          (bind_back s a b c (sym (ap first_broken tests) ∙ e))
       | inr f ↦ absurd (let tests : item_tests s (k ∷ a ∷ b ∷ c ∷ []) ≡ misshapen = rw f refl in misshapen_not (sym (ap first_broken tests) ∙ e))
     ]
 item_back s w (k ∷ a ∷ b ∷ c ∷ d ∷ []) e =
@@ -176,8 +176,8 @@ item_back s w (k ∷ a ∷ b ∷ c ∷ d ∷ []) e =
       | inl t ↦
           let tests : item_tests s (k ∷ a ∷ b ∷ c ∷ d ∷ []) ≡ use_tests s a b c d = rw t refl in
           item_by s (k ∷ a ∷ b ∷ c ∷ d ∷ []) (codes "use" ∷ a ∷ b ∷ c ∷ d ∷ []) _ _
-              (cons_same k (codes "use") (a ∷ b ∷ c ∷ d ∷ []) (a ∷ b ∷ c ∷ d ∷ []) ((bytes_eq-Decides k (codes "use")).0 t) refl) refl
-              (use_back s w a b c d (sym (ap first_broken tests) ∙ e))
+          (cons_same k (codes "use") (a ∷ b ∷ c ∷ d ∷ []) (a ∷ b ∷ c ∷ d ∷ []) ((bytes_eq-Decides k (codes "use")).0 t) refl) refl
+          (use_back s w a b c d (sym (ap first_broken tests) ∙ e))
       | inr f ↦ absurd (let tests : item_tests s (k ∷ a ∷ b ∷ c ∷ d ∷ []) ≡ misshapen = rw f refl in misshapen_not (sym (ap first_broken tests) ∙ e))
     ]
 item_back s w (k ∷ a ∷ b ∷ c ∷ d ∷ x ∷ more) e = absurd (misshapen_not e)

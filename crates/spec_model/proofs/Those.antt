@@ -26,6 +26,10 @@ below-more n =
 pub those-more : (p : ℕ → Bool) (n : ℕ) → those p (n + 1) ≡ those p n ++ cond (p n) (n ∷ []) []
 those-more p n = ap (filter p) (below-more n) ∙ filter-append p (below n) (n ∷ [])
 
+-- no more of those than there are numbers
+pub few_those : (p : ℕ → Bool) (n : ℕ) → length (those p n) ≤ n
+few_those p n = omega (arith, length-filter p (below n), count_by-le-length p (below n), length-range_with_len 0 n)
+
 -- the sum over those that pass, with one number more
 pub sum_by-those_more : (f : ℕ → ℕ) (p : ℕ → Bool) (n : ℕ) → sum_by f (those p (n + 1)) ≡ sum_by f (those p n) + cond (p n) (f n) 0
 sum_by-those_more f p n = ap (sum_by f) (those-more p n) ∙ (sum_by-append f (those p n) (cond (p n) (n ∷ []) []) ∙ ap (λ x. sum_by f (those p n) + x) (one (p n)))

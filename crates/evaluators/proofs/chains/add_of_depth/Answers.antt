@@ -1,6 +1,6 @@
 use Rattle.std.proofs.Common.{rules, ◌≡◌, ◌++◌, [], ◌∷◌, ◌∙◌, All, arith, length, subst, sym}
+use Rattle.std.proofs.lemmas.Bool.{eq-eqb, ne_eqb}
 use Rattle.std.proofs.lemmas.List.Elements.{All-push}
-use Rattle.std.proofs.lemmas.Bool.{ne_eqb, eq-eqb}
 use Rattle.spec_model.specs.Schedule.{has_depth}
 use Rattle.evaluators.specs.Marks.{IsBelow}
 use Rattle.evaluators.proofs.Deepening.{placed_yes, placed_no, depth_test}

@@ -15,8 +15,8 @@ use Rattle.front_search.proofs.Steps.{searching_solved}
 use Rattle.front_search.proofs.Turns.{solved_of, model_turn, model_open, model_most, budget_turn, nothing_turn, model_says, model_encodes}
 use Rattle.front_search.proofs.searching.next_turn.Goals as goal
 
-pub of-requires : goal.of-requires
-of-requires c =
+pub order_of-requires : goal.order_of-requires
+order_of-requires c =
     let len = ap length c.in_ok-genotype.ensures ∙ length-replicate c.design_variables.result _ in
     omega (arith, len, c.design_variables.ensures.count, c.all_variables.ensures.count, design_variables-le c.args.spec.now)
 

@@ -4,7 +4,7 @@ use Rattle.std.specs.Ordering.{nat_cmp}
 use Rattle.std.proofs.lemmas.List.Sorted.{IsNonDecreasingBy-from_sort_by_key, ties_still_rise}
 use Rattle.std.proofs.lemmas.Fn.{always_returns_same}
 use Rattle.pb_rules.specs.Literal.{Literal}
-use Rattle.genotype.specs.Order.{var_of}
+use Rattle.variable_order.specs.Order.{var_of}
 use Rattle.genotype.specs.Placing.{lateness}
 use Rattle.genotype.proofs.Placing.{led, by_number_sorted}
 use Rattle.genotype.proofs.ordering.leading.Goals as goal

@@ -5,8 +5,8 @@ use Rattle.genotype.specs.Order.{IsOrderOf}
 use Rattle.sat_decoder.proofs.Standing.{may_have_model, says, counts, shown, solver_later}
 use Rattle.sat_decoder.proofs.decoder.decode_by.Goals as goal
 
-pub of-requires : goal.of-requires
-of-requires c = omega (arith, c.requires.genes, c.all_variables.ensures.count, design_variables-le c.args.spec.now)
+pub order_of-requires : goal.order_of-requires
+order_of-requires c = omega (arith, c.requires.genes, c.all_variables.ensures.count, design_variables-le c.args.spec.now)
 
 pub decoded_from-requires : goal.decoded_from-requires
 decoded_from-requires c =
