@@ -82,7 +82,9 @@ fn statement_of(alloc: Global, seen: &Seen, words: &[&str]) -> Result<Statement,
 /// The statements that were read, and what they declare.
 #[derive(Drop)]
 pub struct Taken {
+    /// What the statements declare.
     pub seen: Seen,
+    /// The statements, each with the number of its line.
     pub lines: Items<ArchLine>,
 }
 

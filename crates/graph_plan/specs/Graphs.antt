@@ -21,12 +21,13 @@ task_in index task = name_in index task.name
 abbrev pub arc_in : ℕ → TgffArc → Name
 arc_in index arc = name_in index arc.name
 
--- the message that an arc is, where so many tasks stand before those of its graph; its hop limit and its delay are those
--- of a message for which none is stated
+-- the message that an arc is, where so many tasks stand before those of its graph; its hop limit and its delay are
+-- those of a message for which none is stated
 abbrev pub message_of : ℕ → TgffArc → Message
 message_of first arc = record { sender = first + arc.from; receivers = (first + arc.to) ∷ []; limit = 2 ^ 63 - 1; delay = 0; quantity = 1 }
 
--- the deadline at the clock's scale, cut toward zero; one below zero counts as 0, and one that is too big as the greatest
+-- the deadline at the clock's scale, cut toward zero; one below zero counts as 0, and one that is too big as the
+-- greatest number
 abbrev pub deadline_of : ℕ → ℕ → TgffDeadline → Deadline
 deadline_of clock first deadline = record { task = first + deadline.task; time = min (at_scale clock deadline.at) most_number }
 

@@ -27,8 +27,8 @@ pub enum Request {
         /// The file that the proof is written to, where one is given: none of the others.
         proof_file: Option<String>,
     },
-    /// `explore TGFF ARCH --rounds N --seed S [--measure LIST] [--proof FILE]`: an exploration of the specification of a
-    /// file of task graphs and tables and an architecture file.
+    /// `explore TGFF ARCH --rounds N --seed S [--measure LIST] [--proof FILE]`: an exploration of the specification of
+    /// a file of task graphs and tables and an architecture file.
     Explore {
         /// The file of task graphs and tables, or `-` for no graphs and no tables.
         tgff: String,
@@ -43,8 +43,8 @@ pub enum Request {
         /// The file that the proof of all decodings is written to, where one is given: none of the others.
         proof_file: Option<String>,
     },
-    /// `front TGFF ARCH --front FILE --proof FILE [--budget N]`: the front of the specification of a file of task graphs and
-    /// tables and an architecture file, written to a file, with its proof in another.
+    /// `front TGFF ARCH --front FILE --proof FILE [--budget N]`: the front of the specification of a file of task graphs
+    /// and tables and an architecture file, written to a file, with its proof in another.
     Front {
         /// The file of task graphs and tables, or `-` for no graphs and no tables.
         tgff: String,
@@ -57,8 +57,8 @@ pub enum Request {
         /// How many lines the search may derive, at least 1, where it is given.
         budget: Option<u64>,
     },
-    /// `check TGFF ARCH FRONT PROOF`: whether a front file is accepted with a proof file for the specification of a file
-    /// of task graphs and tables and an architecture file.
+    /// `check TGFF ARCH FRONT PROOF`: whether a front file is accepted with a proof file for the specification of a
+    /// file of task graphs and tables and an architecture file.
     Check {
         /// The file of task graphs and tables, or `-` for no graphs and no tables.
         tgff: String,

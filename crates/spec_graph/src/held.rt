@@ -16,18 +16,31 @@ use std::alloc::Global;
 /// The lists of a specification, and the look-ups that a plan and a whole specification share.
 #[derive(Drop)]
 pub struct Held {
+    /// The names of tasks.
     pub tasks: Names,
+    /// The names of messages.
     pub message_names: Names,
+    /// The messages, in the order of their names.
     pub messages: Vec<Message>,
+    /// The names of resources.
     pub resources: Names,
+    /// The names of links.
     pub links: Names,
+    /// The arcs of links.
     pub arcs: Vec<Arc>,
+    /// The options.
     pub options: Choices,
+    /// The deadlines of tasks.
     pub deadlines: Vec<Deadline>,
+    /// The names of objectives.
     pub objectives: Names,
+    /// For each option its weights, one for each objective.
     pub option_weights: Vec<Weights>,
+    /// Those of each resource.
     pub resource_weights: Vec<Weights>,
+    /// Those of each link.
     pub link_weights: Vec<Weights>,
+    /// What each link weighs for a message of quantity 1 that goes over it.
     pub traffic_weights: Vec<Weights>,
 }
 

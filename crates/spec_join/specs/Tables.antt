@@ -1,5 +1,5 @@
--- What a `table` line makes of a table of the TGFF file, and what it is refused for. It makes an option for each task of
--- the graphs whose type has a row that counts, and sets the weights of its resource from the first row.
+-- What a `table` line makes of a table of the TGFF file, and what it is refused for. It makes an option for each task
+-- of the graphs whose type has a row that counts, and sets the weights of its resource from the first row.
 use Rattle.std.specs.Prelude.{◌≡◌, ℕ, zero, suc, ◌+◌, ◌<◌, ◌⊎◌, List, [], ◌∷◌, ◌++◌, length, fold, Bool, true, false, if◌then◌else◌, Option, None, Some, is_some, find, slice_index_or, option_map, option_and_then, Any, codes}
 use Rattle.names.specs.Names.{number_of}
 use Rattle.spec_model.specs.Spec.{Name, SpecValue, Choice, choice}

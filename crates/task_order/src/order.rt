@@ -32,8 +32,8 @@ impl TaskOrder {
         }
     }
 
-    /// Makes room for a further task, before which and after which no task comes, where there is none. Where memory runs
-    /// out, the table is as before.
+    /// Makes room for a further task, before which and after which no task comes, where there is none. Where memory
+    /// runs out, the table is as before.
     pub fn make_room(&mut self, alloc: Global, tasks: usize) -> Result<(), AllocError>
         requires { tasks ≤ length self.old + 1 }
         ensures room { OnOk result (tasks ≤ length self.new) }
