@@ -6,7 +6,7 @@ use Rattle.line_words.specs.Rules.{Words, said}
 use Rattle.file_bricks.proofs.Deciding.{or_or}
 use Rattle.arch_reader.specs.Numbers.{fine, both, all_misread}
 use Rattle.arch_reader.specs.declared.numbers.Misread.{Misread}
-use Rattle.file_bricks.proofs.Said.{said-more}
+use Rattle.file_bricks.proofs.Said.{said_more}
 
 abbrev made : Bool → Bool → Misread
 made bad big = record { bad = bad; big = big }
@@ -37,7 +37,7 @@ items_more {X} f ws i d h items new x so_far e is =
     e ∙ ap (λ (l : List X). l ++ x ∷ []) so_far
     ∙ ap (λ (y : X). map f (said (take i ws)) ++ y ∷ []) is
     ∙ sym (map_push f (said (take i ws)) (get_or ws i d).now)
-    ∙ ap (λ (l : Words). map f l) (sym (said-more ws i d h))
+    ∙ ap (λ (l : Words). map f l) (sym (said_more ws i d h))
 
 pub misread_more : (f : List ℕ → Misread) (ws : List (Bor (List ℕ))) (i : ℕ) (d : Bor (List ℕ)) → i < length ws → (m n k : Misread)
     → m ≡ all_misread f (said (take i ws)) → n ≡ both m k → k ≡ f (get_or ws i d).now → n ≡ all_misread f (said (take (i + 1) ws))
@@ -45,4 +45,4 @@ misread_more f ws i d h m n k so_far e is =
     e ∙ ap (λ (x : Misread). both x k) so_far
     ∙ ap (λ (x : Misread). both (all_misread f (said (take i ws))) x) is
     ∙ sym (misread-push f (said (take i ws)) (get_or ws i d).now)
-    ∙ ap (λ (l : Words). all_misread f l) (sym (said-more ws i d h))
+    ∙ ap (λ (l : Words). all_misread f l) (sym (said_more ws i d h))

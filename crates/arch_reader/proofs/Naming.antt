@@ -11,7 +11,7 @@ use Rattle.file_bricks.specs.Numbers.{whole_in, decimal_in}
 use Rattle.file_bricks.specs.Bounds.{IsAmount}
 use Rattle.file_bricks.proofs.Numbered.{whole_small}
 use Rattle.file_bricks.proofs.Bounded.{decimal_small}
-use Rattle.arch_reader.specs.Words.{equals, at_sign, value_of, is_time, are_keyed, are_placed}
+use Rattle.arch_reader.specs.Words.{equals, at_sign, after_mark, is_time, are_keyed, are_placed}
 use Rattle.arch_reader.specs.Numbers.{key_amount, amounts, key_column, columns}
 use Rattle.arch_reader.specs.Formed.{IsFormed, HasAmount, HasColumn}
 use Rattle.arch_reader.specs.Shapes.{plain, settings_of, objective_with, clock_with, link_with, is_two_way, objective_form, clock_form, resource_form, link_form, traffic_form, task_form, message_form, merge_form, map_form, time_in, after_time, table_form, keys_in, after_keys, quantity_form, quantity_table, quantity_table_rows, rows_key, hops_form, delay_form, deadline_form, form_with, keyword_of, form_of}
@@ -33,7 +33,7 @@ AreWords ws = AllByRecursion IsWord ws
 
 whole_keyed : (mark : ℕ) (ws : Words) → AllByRecursion HasColumn (map (key_column mark) ws)
 whole_keyed mark [] = tt
-whole_keyed mark (w ∷ ws) = (whole_small (value_of mark w), whole_keyed mark ws)
+whole_keyed mark (w ∷ ws) = (whole_small (after_mark mark w), whole_keyed mark ws)
 
 columns_whole : (mark : ℕ) (ws : Words) → All HasColumn (columns mark ws).items
 unfolding columns
@@ -41,7 +41,7 @@ columns_whole mark ws = All-from_recursion HasColumn (map (key_column mark) ws) 
 
 small_keyed : (ws : Words) → AllByRecursion HasAmount (map key_amount ws)
 small_keyed [] = tt
-small_keyed (w ∷ ws) = (decimal_small (value_of equals w), small_keyed ws)
+small_keyed (w ∷ ws) = (decimal_small (after_mark equals w), small_keyed ws)
 
 amounts_small : (ws : Words) → All HasAmount (amounts ws).items
 unfolding amounts
@@ -53,7 +53,7 @@ amounts_some w ws = omega arith
 
 time_small : (ws : Words) → IfSome (time_in ws) IsAmount
 time_small [] = tt
-time_small (w ∷ ws) = elim (cases_Bool (is_time w)) [ inl t ↦ rw t (decimal_small (value_of equals w)) | inr f ↦ rw f tt ]
+time_small (w ∷ ws) = elim (cases_Bool (is_time w)) [ inl t ↦ rw t (decimal_small (after_mark equals w)) | inr f ↦ rw f tt ]
 
 -- ---- the names and the numbers of a form
 
@@ -159,10 +159,10 @@ table_named (name ∷ []) h = tt
 table_named (name ∷ index ∷ []) h = tt
 table_named (name ∷ index ∷ resource ∷ ws) h = elim (cases_Bool (are_placed (after_keys ws))) [ inl t ↦ rw t (said_table name index resource ws (h.0, (h.1.1.0, tt))) | inr f ↦ rw f tt ]
 
-said_rows : (name index column rows : List ℕ) → AreWords (name ∷ []) → IsSaid (statements.QuantityTable name (whole_in index) (whole_in column) (Some (whole_in (value_of equals rows))))
+said_rows : (name index column rows : List ℕ) → AreWords (name ∷ []) → IsSaid (statements.QuantityTable name (whole_in index) (whole_in column) (Some (whole_in (after_mark equals rows))))
 said_rows name index column rows n = record {
   named = n;
-  formed = record { index_is_whole = whole_small index; column_is_whole = whole_small column; rows_are_whole = whole_small (value_of equals rows) };
+  formed = record { index_is_whole = whole_small index; column_is_whole = whole_small column; rows_are_whole = whole_small (after_mark equals rows) };
 }
 
 quantity_named : (ws : Words) → AreWords ws → Named (quantity_form ws)

@@ -10,7 +10,7 @@ ghost use Rattle.line_words.specs.declared.refusals.FileTag.TheVariants.{Arch};
 ghost use Rattle.line_words.specs.declared.refusals.Why.TheVariants.{NoHeader};
 ghost use Rattle.arch_reader.specs.Shapes.{plain, form_of};
 ghost use Rattle.arch_reader.specs.Tests.{tests};
-ghost use Rattle.arch_reader.specs.Arch.{stated, arch_rules, lines_in, AllPass};
+ghost use Rattle.arch_reader.specs.Arch.{arch_stated, arch_rules, lines_in, AllPass};
 ghost use Rattle.arch_reader.specs.Seen.{seen};
 ghost use Rattle.arch_reader.specs.Taking.{Begins, Keeps, Takes, TakesLine, TakesAll, StopsLine, IsRefused, broken_by, reading_of};
 
@@ -166,7 +166,7 @@ fn take_all(alloc: Global, lines: &mut Lines, taken: &mut Taken) -> Result<(), R
 }
 
 fn read_all(alloc: Global, mut lines: Lines) -> Result<ArchFile, ReadFault>
-    ensures agrees { Agrees Arch lines_in stated (reading_of lines.entry) result }
+    ensures agrees { Agrees Arch lines_in arch_stated (reading_of lines.entry) result }
     ensures end_line { IfOk result (λ file. file.end_line ≡ lines.entry.number + length lines.entry.lines) }
 {
     let mut taken = Taken::none(alloc);
@@ -184,7 +184,7 @@ fn read_all(alloc: Global, mut lines: Lines) -> Result<ArchFile, ReadFault>
 /// isn't tested here.
 pub fn read_arch(alloc: Global, bytes: &[u8]) -> Result<ArchFile, ReadFault>
     requires { length bytes.now ≤ most_file_bytes }
-    ensures reads { Reads Arch arch_rules lines_in stated (lines bytes.now) result }
+    ensures reads { Reads Arch arch_rules lines_in arch_stated (lines bytes.now) result }
     ensures end_line { IfOk result (λ file. file.end_line ≡ 1 + length (lines bytes.now)) }
 {
     read_all(alloc, Lines::new(bytes))

@@ -15,11 +15,11 @@ use Rattle.spec_model.proofs.Joined.{All-ones, All-those}
 use Rattle.spec_model.proofs.Sums.{sum_by_map}
 use Rattle.spec_model.proofs.Those.{sum_by-those_more, sum_by-below_more}
 use Rattle.encode_model.specs.Rising.{TermsWithin}
-use Rattle.encode_model.proofs.Rising.{literal_from, terms_wider, terms_then, weights_rise, normal_within, below_within, at_least-within, at_least-each}
+use Rattle.encode_model.proofs.Rising.{literal_from, terms_wider, terms_then, weights_rise, normal_within, below_within, at_least_within, at_least_each}
 use Rattle.encode_model.specs.Encoding.{weighted, has_weight, at_least}
 use Rattle.encode_model.specs.Block.{total_weight, below_var, is_below, below_somewhere, unused_terms, gap, not_below, below_number, below_place, block_of}
 use Rattle.block_encode.specs.Laws.{variables_to, BlocksAreInRange}
-use Rattle.block_encode.proofs.Adding.{weight-small, total-small}
+use Rattle.block_encode.proofs.Adding.{weight_small, total_small}
 
 -- the variables of a block
 own_within : (s : SpecValue) (b a n : ℕ) → TermsWithin (2 ^ 40) (below_var s b a) (below_var s b (a + n)) (map (is_below s b) (range_with_len a n))
@@ -51,7 +51,7 @@ made degree m ts us c h em et is = h ∙ (ap (λ (k : ℕ). make us k) em ∙ (a
     make ws k = record { terms = ws; degree = k }
 
 pub somewhere_is : (s : SpecValue) (b : ℕ) → below_somewhere s b ≡ record { terms = map (is_below s b) (below (length s.objectives)); degree = 1 }
-somewhere_is s b = let k : ℕ = length s.objectives in at_least-within (2 ^ 40) (below_var s b 0) (below_var s b (0 + k)) 1 (map (is_below s b) (below k)) (own_within s b 0 k)
+somewhere_is s b = let k : ℕ = length s.objectives in at_least_within (2 ^ 40) (below_var s b 0) (below_var s b (0 + k)) 1 (map (is_below s b) (below k)) (own_within s b 0 k)
 
 -- the weights
 some_of_sum : (g : ℕ → ℕ) (p : ℕ → Bool) (n : ℕ) → sum_by g (those p n) ≤ sum_by g (below n)
@@ -77,19 +77,19 @@ unfolding all_variables
 number_within s b j n wf =
     terms_then (2 ^ 60 + 1) 0 (design_variables s) (unused_terms s j) (not_below s b j n)
     (terms_wider (2 ^ 40) (2 ^ 60 + 1) 0 (design_variables s) 0 (design_variables s) (unused_terms s j) (omega arith) (omega arith) (omega arith)
-    (weights_rise (weight s j) false (design_variables s) (λ x. weight-small s j x wf)))
-    (record { from = omega arith; some = omega arith; small = omega (arith, total-small s j wf) })
+    (weights_rise (weight s j) false (design_variables s) (λ x. weight_small s j x wf)))
+    (record { from = omega arith; some = omega arith; small = omega (arith, total_small s j wf) })
 
 pub number_normal : (s : SpecValue) (b j n g : ℕ) (ts : List Term) → IsWellFormed s → g ≡ gap s j n → ts ≡ unused_terms s j ++ not_below s b j n ∷ [] → IsNormal ts g
 number_normal s b j n g ts wf eg et =
     let own : Term = not_below s b j n in
     subst (λ (x : ℕ). IsNormal ts x) (sym eg) (subst (λ (us : List Term). IsNormal us (gap s j n)) (sym et)
     (normal_within (2 ^ 60 + 1) 0 (below_var s b j + 1) (gap s j n) (unused_terms s j ++ own ∷ []) (number_within s b j n wf)
-    (omega (arith, sum_by-append (λ (t : Term). t.coef) (unused_terms s j) (own ∷ []), sum_by-cons (λ (t : Term). t.coef) own [], unused_total s j, total-small s j wf))
-    (omega (arith, total-small s j wf))))
+    (omega (arith, sum_by-append (λ (t : Term). t.coef) (unused_terms s j) (own ∷ []), sum_by-cons (λ (t : Term). t.coef) own [], unused_total s j, total_small s j wf))
+    (omega (arith, total_small s j wf))))
 
 pub number_is : (s : SpecValue) (b j n : ℕ) → IsWellFormed s → below_number s b j n ≡ record { terms = unused_terms s j ++ not_below s b j n ∷ []; degree = gap s j n }
-number_is s b j n wf = at_least-within (2 ^ 60 + 1) 0 (below_var s b j + 1) (gap s j n) (unused_terms s j ++ not_below s b j n ∷ []) (number_within s b j n wf)
+number_is s b j n wf = at_least_within (2 ^ 60 + 1) 0 (below_var s b j + 1) (gap s j n) (unused_terms s j ++ not_below s b j n ∷ []) (number_within s b j n wf)
 
 -- the whole block
 pub block_normal : (s : SpecValue) (b : ℕ) (v : List ℕ) → IsWellFormed s → All (λ c. IsNormal c.terms c.degree) (block_of s b v)
@@ -108,7 +108,7 @@ IsUpTo n t = t.lit.var < n
 own_up_to : (s : SpecValue) (b n : ℕ) → below_var s b (0 + length s.objectives) ≤ n → All (IsUpTo n) (below_somewhere s b).terms
 own_up_to s b n l =
     let k : ℕ = length s.objectives in
-    at_least-each (IsUpTo n) 1 (map (is_below s b) (below k)) (λ i d h. omega (
+    at_least_each (IsUpTo n) 1 (map (is_below s b) (below k)) (λ i d h. omega (
       arith,
       l,
       below_within (2 ^ 40) (below_var s b 0) (below_var s b (0 + k)) (map (is_below s b) (below k))
@@ -118,7 +118,7 @@ own_up_to s b n l =
 number_up_to : (s : SpecValue) (b j m n : ℕ) → below_var s b j + 1 ≤ n → All (IsUpTo n) (below_number s b j m).terms
 unfolding weighted all_variables
 number_up_to s b j m n l =
-    at_least-each (IsUpTo n) (gap s j m) (unused_terms s j ++ not_below s b j m ∷ [])
+    at_least_each (IsUpTo n) (gap s j m) (unused_terms s j ++ not_below s b j m ∷ [])
     (All-append (IsUpTo n) (unused_terms s j) (not_below s b j m ∷ [])
     (All-map (IsUpTo n) (weighted (weight s j) false) (those (has_weight (weight s j)) (design_variables s))
     (All-those (λ (x : ℕ). x < n) (has_weight (weight s j)) (design_variables s) (λ x h e. omega (arith, l, h))))

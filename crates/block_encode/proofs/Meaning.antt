@@ -23,7 +23,7 @@ use Rattle.encode_model.specs.Encoding.{weighted, has_weight}
 use Rattle.encode_model.proofs.Weights.{true_weight-append, at_least-holds, holds-at_least}
 use Rattle.encode_model.specs.Block.{total_weight, IsWithinWeights, below_var, is_below, below_somewhere, unused_terms, gap, not_below, below_number, below_place, block_of}
 use Rattle.block_encode.specs.Laws.{AgreeOutside, Extends, UncoveredExtend, ModelsAreUncovered}
-use Rattle.block_encode.proofs.Adding.{unused_below, unused-more}
+use Rattle.block_encode.proofs.Adding.{unused_below, unused_more}
 
 abbrev counts : Bits → Term → ℕ
 counts f t = cond (lit_true f t.lit) t.coef 0
@@ -56,7 +56,7 @@ unused_and_used s f j (suc n) =
     subst (λ (k : ℕ). true_weight f (unused_below s j k) + sum_by (weight_if_true s f j) (below k) ≡ sum_by (weight s j) (below k)) (add-one n)
     (omega (
       arith,
-      ap (true_weight f) (unused-more s j n),
+      ap (true_weight f) (unused_more s j n),
       sum_by-append (counts f) (unused_below s j n) (map (weighted (weight s j) false) (cond (has_weight (weight s j) n) (n ∷ []) [])),
       sum_by-below_more (weight_if_true s f j) n,
       sum_by-below_more (weight s j) n,

@@ -17,7 +17,7 @@ use Rattle.pb_rules.proofs.Rising.{From}
 use Rattle.pb_rules.proofs.Carried.{apply_all-append}
 use Rattle.conflict_graph.specs.Clauses.{clause_of, clause_row, false_terms, false_signs, weakenings, greatest, finishing, clause_ops}
 use Rattle.conflict_graph.proofs.Rows.{clashes, resolved, resolvent}
-use Rattle.conflict_graph.proofs.Making.{Terms, Below, Below-push, weaken-at, making, up-one, Positive, positive-of, false-positive, cut-whole, divided-one}
+use Rattle.conflict_graph.proofs.Making.{Terms, Below, Below-push, weaken_at, making, up-one, Positive, positive_of, false-positive, cut_whole, divided-one}
 
 -- a variable that an operation may name
 abbrev CanName : Context → ℕ → Type 0
@@ -31,12 +31,12 @@ KnowsAll context (t ∷ ts) = CanName context t.lit.var × KnowsAll context ts
 small_is : (n : ℕ) → n < 2 ^ 63 → small_number n ≡ true
 small_is n h = grind (arith, nat_tests)
 
-knows-part : (context : Context) (ts : List Term) → ((i : ℕ) (d : Term) → i < length ts → (get_or ts i d).lit.var < 2 ^ 63) → ((x : ℕ) → mentions x ts ≡ true → context.knows x ≡ true)
+knows_part : (context : Context) (ts : List Term) → ((i : ℕ) (d : Term) → i < length ts → (get_or ts i d).lit.var < 2 ^ 63) → ((x : ℕ) → mentions x ts ≡ true → context.knows x ≡ true)
     → KnowsAll context ts
-knows-part context [] w h = tt
-knows-part context (t ∷ ts) w h =
+knows_part context [] w h = tt
+knows_part context (t ∷ ts) w h =
     let hit : eqb t.lit.var t.lit.var ≡ true = grind (arith, nat_tests) in
-    ((small_is t.lit.var (w 0 t (omega arith)), h t.lit.var (rw hit refl)), knows-part context ts (λ i d l. w (suc i) d (omega arith)) (λ x m. h x (go x (eqb t.lit.var x) m)))
+    ((small_is t.lit.var (w 0 t (omega arith)), h t.lit.var (rw hit refl)), knows_part context ts (λ i d l. w (suc i) d (omega arith)) (λ x m. h x (go x (eqb t.lit.var x) m)))
   where
     go : (x : ℕ) (b : Bool) → mentions x ts ≡ true → cond b true (mentions x ts) ≡ true
     go x true m = refl
@@ -70,7 +70,7 @@ weakened context a done (t ∷ ts) k d st b f n =
         let e' : open_weight a ts ≡ w = omega arith in
         subst R e' (ap (λ us. apply_all context (weakenings a ts) (P us)) (sym (append_assoc done (t ∷ []) ts)) ∙ kept ∙ ap Q (append_assoc done (t ∷ []) (false_terms a ts)))
     go false w e kept gone =
-        let x = weaken-at done ts t k b f.0 in
+        let x = weaken_at done ts t k b f.0 in
         let known = n.0 in
         let R : List Term → ℕ → List Linear = λ us m. record { terms = us; degree = m } ∷ st in
         let num : d + w - coef_of t.lit.var (done ++ t ∷ ts) ≡ d + open_weight a ts = rw x.1 (omega arith) in
@@ -86,7 +86,7 @@ finished context d ts us st pos small all made = go (ltb d (greatest ts)) refl (
     last xs m = Ok (record { terms = xs; degree = m } ∷ st)
 
     whole : ltb d (greatest ts) ≡ false → cut d ts ≡ ts
-    whole t = cut-whole d ts pos (grind (arith, nat_tests)) all
+    whole t = cut_whole d ts pos (grind (arith, nat_tests)) all
 
     one : ltb 1 d ≡ false → d ≡ 1
     one t = (let le : d ≤ 1 = grind (arith, nat_tests) in omega arith)
@@ -118,7 +118,7 @@ making_gives context n id a c st live stands few terms small conflict =
     let d : ℕ = c.degree - open_weight a c.terms in
     let id-test : small_number id ≡ true = small_is id stands.small in
     let here = stands.there in
-    let w = weakened context a [] c.terms 0 d st tt terms.from (knows-part context c.terms (λ j e l. (let v = terms.within j e l in omega arith)) (live id c here)) in
+    let w = weakened context a [] c.terms 0 d st tt terms.from (knows_part context c.terms (λ j e l. (let v = terms.within j e l in omega arith)) (live id c here)) in
     let split : c.degree ≡ d + open_weight a c.terms = omega arith in
     let P : ℕ → Type 0 = λ m. apply_all context (weakenings a c.terms) (record { terms = c.terms; degree = m } ∷ st) ≡ Ok (record { terms = false_terms a c.terms; degree = d } ∷ st) in
     let w' : apply_all context (weakenings a c.terms) (c ∷ st) ≡ Ok (record { terms = false_terms a c.terms; degree = d } ∷ st) = subst P (sym split) w in
@@ -127,7 +127,7 @@ making_gives context n id a c st live stands few terms small conflict =
     let N : ℕ → Type 0 = λ m. Terms 0 m c.terms in
     let n-is : n ≡ 0 + n = omega arith in
     let m = making n 0 d a c.terms (omega arith) (subst N n-is terms) in
-    let ends = finished context d left (clause_row n 0 (false_signs a c.terms)) st (omega arith) (omega arith) (false-positive a c.terms (positive-of c.terms terms.positive)) m in
+    let ends = finished context d left (clause_row n 0 (false_signs a c.terms)) st (omega arith) (omega arith) (false-positive a c.terms (positive_of c.terms terms.positive)) m in
     let app = apply_all-append context (weakenings a c.terms) last (c ∷ st) (record { terms = left; degree = d } ∷ st) w' in
     rw (id-test, here) (app ∙ ends)
 

@@ -47,9 +47,9 @@ distinct_none (f ∷ fs) few = absurd (omega arith)
 abbrev pub others_of : List HeldFile → List HeldFile
 others_of held = take (length held - 1) (drop 1 held)
 
-first-others : (held : List HeldFile) (f : HeldFile) → 1 ≤ length held → f ≡ get_or held 0 f → held ≡ f ∷ others_of held
-first-others [] f more is = absurd (omega (arith, more))
-first-others (g ∷ gs) f more is =
+first_others : (held : List HeldFile) (f : HeldFile) → 1 ≤ length held → f ≡ get_or held 0 f → held ≡ f ∷ others_of held
+first_others [] f more is = absurd (omega (arith, more))
+first_others (g ∷ gs) f more is =
     let whole : take (length (g ∷ gs) - 1) gs ≡ gs = take_all _ gs (omega arith) in
     cc (whole, is)
 
@@ -57,7 +57,7 @@ first-others (g ∷ gs) f more is =
 pub distinct_first : (held : List HeldFile) (f : HeldFile) (name : List ℕ) (found : Option ℕ) → 1 ≤ length held → f ≡ get_or held 0 f → name ≡ string_bytes f.0
     → found ≡ position (has_name name) (others_of held) → is_some found ≡ false → HasDistinctNames (entries (others_of held)) ↔ HasDistinctNames (entries held)
 distinct_first held f name found more is named at none =
-    let whole = first-others held f more is in
+    let whole = first_others held f more is in
     let alone : file_at (entries (others_of held)) (string_bytes f.0) ≡ None = rw (← named) (absent (others_of held) name (sym (none_from found none) ∙ at)) in (
       (λ distinct. subst (λ h. HasDistinctNames (entries h)) (sym whole) (alone, distinct)),
       (λ distinct. (subst (λ h. HasDistinctNames (entries h)) whole distinct).1),
@@ -67,7 +67,7 @@ distinct_first held f name found more is named at none =
 pub distinct_clash : (held : List HeldFile) (f : HeldFile) (name : List ℕ) (found : Option ℕ) → 1 ≤ length held → f ≡ get_or held 0 f → name ≡ string_bytes f.0
     → found ≡ position (has_name name) (others_of held) → is_some found ≡ true → HasDistinctNames (entries held) → ⊥
 distinct_clash held f name found more is named at there distinct =
-    let alone = (subst (λ h. HasDistinctNames (entries h)) (first-others held f more is) distinct).0 in
+    let alone = (subst (λ h. HasDistinctNames (entries h)) (first_others held f more is) distinct).0 in
     let none : found ≡ None = at ∙ placeless (others_of held) name (rw named alone) in
     cc
 

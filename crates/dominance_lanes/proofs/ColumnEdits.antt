@@ -89,13 +89,13 @@ cut n (c ∷ cs) [] even =
 cut n (c ∷ cs) (x ∷ v) even =
     ap₂ (λ a l. a ∷ l) (take_at c (x ∷ []) n (All-head (HasLength n) c cs even)) (cut n cs v (All-tail (HasLength n) c cs even))
 
-pub even-with_row : (n : ℕ) (cs : List (List ℕ)) (v : List ℕ) → length cs ≡ length v → All (HasLength n) cs → All (HasLength (n + 1)) (with_row cs v)
-even-with_row n [] v same even = All-nil (HasLength (n + 1))
-even-with_row n (c ∷ cs) [] same even = absurd (omega arith)
-even-with_row n (c ∷ cs) (x ∷ v) same even =
+pub even_with_row : (n : ℕ) (cs : List (List ℕ)) (v : List ℕ) → length cs ≡ length v → All (HasLength n) cs → All (HasLength (n + 1)) (with_row cs v)
+even_with_row n [] v same even = All-nil (HasLength (n + 1))
+even_with_row n (c ∷ cs) [] same even = absurd (omega arith)
+even_with_row n (c ∷ cs) (x ∷ v) same even =
     All-cons (HasLength (n + 1)) (c ++ x ∷ []) (with_row cs v)
     (length_push c x ∙ ap (λ m. m + 1) (All-head (HasLength n) c cs even))
-    (even-with_row n cs v (omega arith) (All-tail (HasLength n) c cs even))
+    (even_with_row n cs v (omega arith) (All-tail (HasLength n) c cs even))
 
 -- ---- an empty column more
 

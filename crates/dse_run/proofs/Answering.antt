@@ -13,8 +13,8 @@ use Rattle.run_base.specs.declared.outcome.Ending.TheVariants as endings
 use Rattle.run_base.specs.declared.outcome.Outcome.{Outcome}
 use Rattle.explore_run.specs.Tools.{ToolsValue}
 use Rattle.explore_run.specs.Exploring.{Finds as FindsArchive}
-use Rattle.explore_run.specs.Exploring.{WantedValue as ExplorationValue}
-use Rattle.front_run.specs.Fronting.{WantedValue}
+use Rattle.explore_run.specs.Exploring.{ExplorationValue}
+use Rattle.front_run.specs.Fronting.{WantedFrontValue}
 use Rattle.front_run.specs.Fronting.{Finds as FindsFront}
 use Rattle.dse_run.specs.Commands.{ComesTo, HasBudget, exploration_of, names_of, wanted_of}
 use Rattle.dse_run.specs.Decoding.{EvidenceValue, Finds}
@@ -82,7 +82,7 @@ finds_budget wanted outcome e alone s genes (inl h) = let q = sym h.ending ∙ e
 finds_budget wanted outcome e alone s genes (inr (inl h)) = let q = sym h.ending ∙ e in absurd (cc)
 finds_budget wanted outcome e alone s genes (inr (inr h)) = beside wanted.budget wanted.proof h.budget h.given alone
 
-fronts_budget : (wanted : WantedValue) (outcome : Outcome) → outcome.ending ≡ endings.Budget → (s : _) → FindsFront wanted s outcome → IsTrue (is_some wanted.budget)
+fronts_budget : (wanted : WantedFrontValue) (outcome : Outcome) → outcome.ending ≡ endings.Budget → (s : _) → FindsFront wanted s outcome → IsTrue (is_some wanted.budget)
 fronts_budget wanted outcome e s (inl h) = let q = sym h.ending ∙ e in absurd (cc)
 fronts_budget wanted outcome e s (inr h) = rw h.given refl
 

@@ -13,8 +13,8 @@ use Rattle.check_run.specs.Calls.{MayBeChecked}
 use Rattle.evo_explore.specs.Counts.{RoseAtMost}
 use Rattle.explore_run.specs.Tools.{ToolsValue, Keeps}
 use Rattle.explore_run.specs.Exploring.{Explores}
-use Rattle.explore_run.specs.Exploring.{WantedValue as ExplorationValue}
-use Rattle.front_run.specs.Fronting.{WantedValue, Fronts}
+use Rattle.explore_run.specs.Exploring.{ExplorationValue}
+use Rattle.front_run.specs.Fronting.{WantedFrontValue, Fronts}
 use Rattle.dse_run.specs.Decoding.{EvidenceValue, Decodes}
 
 -- the files that a request names and that are loaded whole; `explore` and `front` have no third one
@@ -33,7 +33,7 @@ abbrev pub exploration_of : ExploringValue → ExplorationValue
 exploration_of e = record { rounds = e.rounds; seed = e.seed; chosen = e.chosen; proof = e.proof }
 
 -- the budget and the files of a front
-abbrev pub wanted_of : FrontingValue → WantedValue
+abbrev pub wanted_of : FrontingValue → WantedFrontValue
 wanted_of f = record { budget = f.budget; front = f.front; proof = f.proof }
 
 -- what a request comes to, with tools and the calls that they have had afterwards; a file that isn't loaded whole is one of those that the desk may tell

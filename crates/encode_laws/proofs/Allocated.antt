@@ -9,7 +9,7 @@ use Rattle.spec_model.specs.Rules.{Uses, Walk, WalkBelow, IsResourceNeeded, IsLi
 use Rattle.spec_model.specs.WellFormed.{IsWellFormed}
 use Rattle.spec_model.proofs.InRange.{arc_in, option_in, message_in}
 use Rattle.spec_model.proofs.Once.{counted}
-use Rattle.spec_model.proofs.Counts.{bit, count-map, some_those, some_below, counted_below, some_piece, count-piece_le}
+use Rattle.spec_model.proofs.Counts.{bit, count-map, some_those, some_below, counted_below, some_piece, count_piece_le}
 use Rattle.encode_model.specs.Encoding.{negative, positives, on_resource, options_on, messages_of, cover_of, option_allocates, cover_allocates, resource_has_use, arc_allocates, link_arcs, link_has_use}
 use Rattle.pb_rules.proofs.Sums.{true_weight-cons}
 use Rattle.encode_model.proofs.Weights.{true_weight-append, weight-positives, at_least-holds, holds-at_least, if_then, from_if_then, then_if, from_then_if}
@@ -162,7 +162,7 @@ module _ (s : SpecValue) (f : Bits) (parts : HasParts s) (walked : (m : ℕ) →
       sum true e =
           let x = (routed.link_use l hl).0 e in
           let one = counted (λ a. f (arc_var s x.message a)) (of_link s l) (length s.arcs) x.arc x.used.in_range (eq-eqb _ _ x.of_link) x.used.bit in
-          omega (arith, one, count-map f (arc_var s x.message) (arcs_of s l), count-piece_le f (link_arcs s l) (length s.messages) x.message x.in_range)
+          omega (arith, one, count-map f (arc_var s x.message) (arcs_of s l), count_piece_le f (link_arcs s l) (length s.messages) x.message x.in_range)
 
   pub allocation_of : IsRouted s f → IsAllocationModel s f
   unfolding option_allocates cover_allocates arc_allocates

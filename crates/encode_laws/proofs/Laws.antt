@@ -10,10 +10,10 @@ use Rattle.spec_model.specs.Spec.{SpecValue, Bits, bits_of, message_at, arc_at, 
 use Rattle.spec_model.specs.Rules.{IsOn, Uses, Walk, WalkBelow, IsRouted, IsValid, IsUnreached, options_of, of_task}
 use Rattle.spec_model.specs.Genotypes.{IsSameDesign}
 use Rattle.spec_model.specs.WellFormed.{IsWellFormed}
-use Rattle.spec_model.proofs.Decide.{passes_some, some_passes-from, Walk-from_test, walk_test-from}
+use Rattle.spec_model.proofs.Decide.{passes_some, some_passes_from, Walk-from_test, walk_test_from}
 use Rattle.spec_model.proofs.Tests.{Contains-those}
 use Rattle.spec_model.proofs.Joined.{All-piece_of, All-pieces_of, All-of_map, All-those}
-use Rattle.spec_model.proofs.Along.{same_back, Walk-along, reached-along, IsRouted-along, IsValid-along, IsUnreached-along}
+use Rattle.spec_model.proofs.Along.{same_back, Walk-along, reached_along, IsRouted-along, IsValid-along, IsUnreached-along}
 use Rattle.encode_model.specs.Encoding.{encoding, route_encoding, receiver_covered, option_covers, view}
 use Rattle.encode_model.proofs.Weights.{if_then, from_if_then, exactly_one}
 use Rattle.spec_model.proofs.Joined.{All-first, All-second}
@@ -124,11 +124,11 @@ module _ (s : SpecValue) (x : Bits) (wf : IsWellFormed s) (routed : IsRouted s x
   unfolding step_bit cover_bit
   made_walked m hm = record {
     walk = λ r t hr ht e. Walk-along s x (bits_of (model_list s x)) same_made m t r hm (Walk-from_test s x m t r (sym (step_reads s x m r t hm hr ht) ∙ e));
-    step = λ r t hr ht w. step_reads s x m r t hm hr ht ∙ walk_test-from s x m t r (Walk-along s (bits_of (model_list s x)) x (same_back s x (bits_of (model_list s x)) same_made) m t r hm w);
+    step = λ r t hr ht w. step_reads s x m r t hm hr ht ∙ walk_test_from s x m t r (Walk-along s (bits_of (model_list s x)) x (same_back s x (bits_of (model_list s x)) same_made) m t r hm w);
     short_walk = λ r hr e. (let y = passes_some (step_bit s x m r) ((message_at s m).limit + 1) (sym (cover_reads s x m r hm hr) ∙ e) in
         (y.0, y.1, Walk-along s x (bits_of (model_list s x)) same_made m y.0 r hm (Walk-from_test s x m y.0 r y.2)));
-    cover = λ r hr w. cover_reads s x m r hm hr ∙ some_passes-from (step_bit s x m r) ((message_at s m).limit + 1) w.0 w.1
-        (walk_test-from s x m w.0 r (Walk-along s (bits_of (model_list s x)) x (same_back s x (bits_of (model_list s x)) same_made) m w.0 r hm w.2));
+    cover = λ r hr w. cover_reads s x m r hm hr ∙ some_passes_from (step_bit s x m r) ((message_at s m).limit + 1) w.0 w.1
+        (walk_test_from s x m w.0 r (Walk-along s (bits_of (model_list s x)) x (same_back s x (bits_of (model_list s x)) same_made) m w.0 r hm w.2));
   }
 
   pub made_routed : IsRouted s (bits_of (model_list s x))
@@ -163,7 +163,7 @@ module _ (s : SpecValue) (x : Bits) (wf : IsWellFormed s) (routed : IsRouted s x
   made_covered m w hm reached =
       holds_of_covered s (bits_of (model_list s x)) m w hm made_parts made_routed (made_walked m hm)
       (covered_of_reached s (bits_of (model_list s x)) m w hm made_parts made_routed (made_walked m hm)
-      (λ r on. reached-along s x (bits_of (model_list s x)) same_made m w r hm (reached r) on))
+      (λ r on. reached_along s x (bits_of (model_list s x)) same_made m w r hm (reached r) on))
 
   -- a design that reaches its receivers has one model
   pub only_model : ((m w : ℕ) → m < length s.messages → Contains (message_at s m).receivers w → (r : ℕ) → IsOn s x w r → (n : ℕ) × Walk s x m r n)

@@ -5,7 +5,7 @@ use Rattle.std.proofs.lemmas.Bool.{false≢true, cases_lt, eqb-true}
 use Rattle.spec_model.specs.Spec.{SpecValue, Bits, below, message_at, arc_at, step_var, covered_var}
 use Rattle.spec_model.specs.Rules.{IsOn, Uses, Walk, WalkBelow, goes_into, arc_bit, uses_into, sender_of}
 use Rattle.encode_model.specs.Encoding.{step_after}
-use Rattle.spec_model.proofs.Counts.{bit, count-map, some_below, counted_below, same_below, some_those, count-below_first, count-agree}
+use Rattle.spec_model.proofs.Counts.{bit, count-map, some_below, counted_below, same_below, some_those, count-below_first, count_agree}
 use Rattle.encode_laws.proofs.Equations.{Equations, HasEnds, steps_true}
 
 bit-le : (b : Bool) → bit b ≤ 1
@@ -19,7 +19,7 @@ steps_0 s f m r =
     let n : (message_at s m).limit + 1 - 0 ≡ (message_at s m).limit + 1 = omega arith in
     count-map f (step_after s m r 0) (below ((message_at s m).limit + 1 - 0))
     ∙ (ap (λ (k : ℕ). count_by (λ t. f (step_after s m r 0 t)) (below k)) n
-    ∙ count-agree (λ t. f (step_after s m r 0 t)) (λ t. f (step_var s m r t)) (below ((message_at s m).limit + 1)) (λ t. let e : 0 + t ≡ t = omega arith in ap (λ (k : ℕ). f (step_var s m r k)) e))
+    ∙ count_agree (λ t. f (step_after s m r 0 t)) (λ t. f (step_var s m r t)) (below ((message_at s m).limit + 1)) (λ t. let e : 0 + t ≡ t = omega arith in ap (λ (k : ℕ). f (step_var s m r k)) e))
 
 pub steps_1 : (s : SpecValue) (f : Bits) (m r : ℕ) → steps_true s f m r 1 ≡ count_by (λ t. f (step_var s m r (1 + t))) (below (message_at s m).limit)
 unfolding steps_true step_after

@@ -13,7 +13,7 @@ use Rattle.spec_model.proofs.Joined.{All-pieces, All-ones, All-pieces_of, All-tw
 use Rattle.spec_model.proofs.Those.{few_those}
 use Rattle.encode_model.specs.Encoding.{positive, negative, positives, negatives, put, at_least, option_on, options_on, receiver_options, arc_vars, steps_from, neighbours, step_at, resources_of, messages_of, cover_of, link_arcs, one_option, sender_start, option_covers, receiver_covered, receivers_covered, covered_once, one_arc_in, carries, arc_carries, has_cause, steps_have_cause, no_dangling, routes_of, message_part, option_allocates, cover_allocates, covers_allocate, resource_has_use, arc_allocates, arcs_allocate, link_has_use, allocation, options_chosen, encoding}
 use Rattle.encode_model.specs.Rising.{IsRising}
-use Rattle.encode_model.proofs.Rising.{at_least-within, normal_of_rising, below_within}
+use Rattle.encode_model.proofs.Rising.{at_least_within, normal_of_rising, below_within}
 use Rattle.encode_model.proofs.Shapes as shapes
 use Rattle.encode_model.proofs.Shapes.{carry_shape, cause_shape}
 
@@ -154,11 +154,11 @@ module _ (s : SpecValue) (wf : IsWellFormed s) (P : Linear → Type 0) (made : (
 pub encoding_normal : (s : SpecValue) → IsWellFormed s → All (λ c. IsNormal c.terms c.degree) (encoding s)
 encoding_normal s wf =
     encoding_each s wf (λ (c : Linear). IsNormal c.terms c.degree)
-    (λ n ts h few. subst (λ (c : Linear). IsNormal c.terms c.degree) (sym (at_least-within (2 ^ 40) 0 (all_variables s) n ts h.rises))
+    (λ n ts h few. subst (λ (c : Linear). IsNormal c.terms c.degree) (sym (at_least_within (2 ^ 40) 0 (all_variables s) n ts h.rises))
     (normal_of_rising (all_variables s) n ts h (omega (arith, wf.few_variables)) few))
 
 -- and has no variables but its own
 pub encoding_below : (s : SpecValue) → IsWellFormed s → All (λ c. VarsBelow (all_variables s) c.terms) (encoding s)
 encoding_below s wf =
     encoding_each s wf (λ (c : Linear). VarsBelow (all_variables s) c.terms)
-    (λ n ts h few. subst (λ (c : Linear). VarsBelow (all_variables s) c.terms) (sym (at_least-within (2 ^ 40) 0 (all_variables s) n ts h.rises)) (below_within (2 ^ 40) 0 (all_variables s) ts h.rises))
+    (λ n ts h few. subst (λ (c : Linear). VarsBelow (all_variables s) c.terms) (sym (at_least_within (2 ^ 40) 0 (all_variables s) n ts h.rises)) (below_within (2 ^ 40) 0 (all_variables s) ts h.rises))

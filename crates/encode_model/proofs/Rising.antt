@@ -8,8 +8,8 @@ use Rattle.std.proofs.lemmas.Bool.{lt-ltb, ltb-true, ltb-false, cases_lt}
 use Rattle.pb_rules.specs.declared.Term.{Term}
 use Rattle.pb_rules.specs.Linear.{Linear, IsNormal, VarsBelow, total}
 use Rattle.spec_model.specs.Spec.{below, those}
-use Rattle.spec_model.proofs.Those.{those-more, below-more, flat_map-below_more}
-use Rattle.pb_rules.proofs.Rising.{From, from-pairs}
+use Rattle.spec_model.proofs.Those.{those_more, below_more, flat_map-below_more}
+use Rattle.pb_rules.proofs.Rising.{From, from_pairs}
 use Rattle.spec_model.proofs.Joined.{All-those}
 use Rattle.encode_model.specs.Encoding.{weighted, has_weight, put, by_variable, at_least}
 use Rattle.encode_model.specs.Rising.{RisesWithin, IsTermFrom, TermsWithin, IsRising}
@@ -23,12 +23,12 @@ joined a b c [] ws h g = wider b c a c ws h (omega arith) g
 joined a b c (v ∷ vs) ws h g = (h.0, joined (v + 1) b c vs ws h.1 g)
 
 -- the values of a rising function at those that pass
-pub rises-those : (g : ℕ → ℕ) (p : ℕ → Bool) (n a b : ℕ) → a ≤ b → ((i : ℕ) → i < n → (a ≤ g i) × (g i < b)) → ((i j : ℕ) → i < j → j < n → g i < g j) → RisesWithin a b (map g (those p n))
-rises-those g p zero a b le within up = le
-rises-those g p (suc n) a b le within up =
-    subst (λ (k : ℕ). RisesWithin a b (map g (those p k))) (add-one n) (subst (λ (xs : List ℕ). RisesWithin a b (map g xs)) (sym (those-more p n)) (last (p n)
-    (rises-those g p n a (g n) (within n (omega arith)).0 (λ i l. ((within i (omega arith)).0, up i n l (omega arith))) (λ i j l k. up i j l (omega arith)))
-    (rises-those g p n a b le (λ i l. within i (omega arith)) (λ i j l k. up i j l (omega arith)))))
+pub rises_those : (g : ℕ → ℕ) (p : ℕ → Bool) (n a b : ℕ) → a ≤ b → ((i : ℕ) → i < n → (a ≤ g i) × (g i < b)) → ((i j : ℕ) → i < j → j < n → g i < g j) → RisesWithin a b (map g (those p n))
+rises_those g p zero a b le within up = le
+rises_those g p (suc n) a b le within up =
+    subst (λ (k : ℕ). RisesWithin a b (map g (those p k))) (add-one n) (subst (λ (xs : List ℕ). RisesWithin a b (map g xs)) (sym (those_more p n)) (last (p n)
+    (rises_those g p n a (g n) (within n (omega arith)).0 (λ i l. ((within i (omega arith)).0, up i n l (omega arith))) (λ i j l k. up i j l (omega arith)))
+    (rises_those g p n a b le (λ i l. within i (omega arith)) (λ i j l k. up i j l (omega arith)))))
   where
     spread : (c : ℕ) (xs ys : List ℕ) → (u : ℕ) → RisesWithin u c (map g xs) → RisesWithin c b (map g ys) → RisesWithin u b (map g (xs ++ ys))
     spread c [] ys u h k = wider c b u b (map g ys) h (omega arith) k
@@ -44,25 +44,25 @@ always i = true
 those_all : (n : ℕ) → those always n ≡ below n
 those_all zero = refl
 those_all (suc n) =
-    subst (λ (k : ℕ). those always k ≡ below k) (add-one n) (those-more always n ∙ (ap (λ (xs : List ℕ). xs ++ n ∷ []) (those_all n) ∙ sym (below-more n)))
+    subst (λ (k : ℕ). those always k ≡ below k) (add-one n) (those_more always n ∙ (ap (λ (xs : List ℕ). xs ++ n ∷ []) (those_all n) ∙ sym (below_more n)))
 
-pub rises-below : (g : ℕ → ℕ) (n a b : ℕ) → a ≤ b → ((i : ℕ) → i < n → (a ≤ g i) × (g i < b)) → ((i j : ℕ) → i < j → j < n → g i < g j) → RisesWithin a b (map g (below n))
-rises-below g n a b le within up = subst (λ (xs : List ℕ). RisesWithin a b (map g xs)) (those_all n) (rises-those g always n a b le within up)
+pub rises_below : (g : ℕ → ℕ) (n a b : ℕ) → a ≤ b → ((i : ℕ) → i < n → (a ≤ g i) × (g i < b)) → ((i j : ℕ) → i < j → j < n → g i < g j) → RisesWithin a b (map g (below n))
+rises_below g n a b le within up = subst (λ (xs : List ℕ). RisesWithin a b (map g xs)) (those_all n) (rises_those g always n a b le within up)
 
 map_same : (xs : List ℕ) → map (λ x. x) xs ≡ xs
 map_same [] = refl
 map_same (x ∷ xs) = ap (λ (ys : List ℕ). x ∷ ys) (map_same xs)
 
 -- those that pass rise
-pub rises-numbers : (p : ℕ → Bool) (n : ℕ) → RisesWithin 0 n (those p n)
-rises-numbers p n = subst (λ (xs : List ℕ). RisesWithin 0 n xs) (map_same (those p n)) (rises-those (λ x. x) p n 0 n (omega arith) (λ i l. (omega arith, l)) (λ i j l k. l))
+pub rises_numbers : (p : ℕ → Bool) (n : ℕ) → RisesWithin 0 n (those p n)
+rises_numbers p n = subst (λ (xs : List ℕ). RisesWithin 0 n xs) (map_same (those p n)) (rises_those (λ x. x) p n 0 n (omega arith) (λ i l. (omega arith, l)) (λ i j l k. l))
 
 -- pieces that follow one another
-pub rises-pieces : (g : ℕ → List ℕ) (c : ℕ → ℕ) (n : ℕ) → ((i : ℕ) → i < n → RisesWithin (c i) (c (i + 1)) (g i)) → RisesWithin (c 0) (c n) (flat_map g (below n))
-rises-pieces g c zero h = omega arith
-rises-pieces g c (suc n) h =
+pub rises_pieces : (g : ℕ → List ℕ) (c : ℕ → ℕ) (n : ℕ) → ((i : ℕ) → i < n → RisesWithin (c i) (c (i + 1)) (g i)) → RisesWithin (c 0) (c n) (flat_map g (below n))
+rises_pieces g c zero h = omega arith
+rises_pieces g c (suc n) h =
     subst (λ (k : ℕ). RisesWithin (c 0) (c k) (flat_map g (below k))) (add-one n) (subst (λ (xs : List ℕ). RisesWithin (c 0) (c (n + 1)) xs) (sym (flat_map-below_more g n))
-    (joined (c 0) (c n) (c (n + 1)) (flat_map g (below n)) (g n) (rises-pieces g c n (λ i l. h i (omega arith))) (h n (omega arith))))
+    (joined (c 0) (c n) (c (n + 1)) (flat_map g (below n)) (g n) (rises_pieces g c n (λ i l. h i (omega arith))) (h n (omega arith))))
 
 -- a literal with coefficient 1
 abbrev pub literal : Bool → ℕ → Term
@@ -143,9 +143,9 @@ sorted_each P [] h = h
 sorted_each P (t ∷ ts) h = put_each P t (by_variable ts) (All-head P t ts h) (sorted_each P ts (All-tail P t ts h))
 
 -- what holds of each term holds of each of the constraint
-pub at_least-each : (P : Term → Type 0) (n : ℕ) (ts : List Term) → All P ts → All P (at_least n ts).terms
+pub at_least_each : (P : Term → Type 0) (n : ℕ) (ts : List Term) → All P ts → All P (at_least n ts).terms
 unfolding at_least
-at_least-each P n ts h = sorted_each P ts h
+at_least_each P n ts h = sorted_each P ts h
 
 -- the variables that have a weight, each with it
 weights_within : (weight : ℕ → ℕ) (sign : Bool) (a b : ℕ) (xs : List ℕ) → RisesWithin a b xs → All (λ x. (0 < weight x) × (weight x ≤ 2 ^ 40)) xs
@@ -160,13 +160,13 @@ weights_within weight sign a b (x ∷ xs) h small =
 pub weights_rise : (weight : ℕ → ℕ) (sign : Bool) (n : ℕ) → ((x : ℕ) → weight x ≤ 2 ^ 40) → TermsWithin (2 ^ 40) 0 n (map (weighted weight sign) (those (has_weight weight) n))
 unfolding has_weight
 weights_rise weight sign n small =
-    weights_within weight sign 0 n (those (has_weight weight) n) (rises-numbers (has_weight weight) n)
+    weights_within weight sign 0 n (those (has_weight weight) n) (rises_numbers (has_weight weight) n)
     (All-those (λ (x : ℕ). (0 < weight x) × (weight x ≤ 2 ^ 40)) (has_weight weight) n (λ x l e. (ltb-true 0 (weight x) e, small x)))
 
 -- a constraint whose terms are in order, and one of which the first was put in its place
-pub at_least-within : (c a b m : ℕ) (ts : List Term) → TermsWithin c a b ts → at_least m ts ≡ record { terms = ts; degree = m }
+pub at_least_within : (c a b m : ℕ) (ts : List Term) → TermsWithin c a b ts → at_least m ts ≡ record { terms = ts; degree = m }
 unfolding at_least
-at_least-within c a b m ts h = ap (λ (us : List Term). make us) (sorted_already c a b ts h)
+at_least_within c a b m ts h = ap (λ (us : List Term). make us) (sorted_already c a b ts h)
   where
     make : List Term → Linear
     make us = record { terms = us; degree = m }
@@ -190,7 +190,7 @@ some_each c a b (t ∷ ts) h (suc k) d l = some_each c (t.lit.var + 1) b ts h.1 
 
 -- terms within bounds, with a small sum and degree, are in normal form
 pub normal_within : (c a b m : ℕ) (ts : List Term) → TermsWithin c a b ts → total ts < 2 ^ 63 → m < 2 ^ 63 → IsNormal ts m
-normal_within c a b m ts h few small = record { positive = some_each c a b ts h; rising = from-pairs a ts (from_of c a b ts h); small = few; small_degree = small }
+normal_within c a b m ts h few small = record { positive = some_each c a b ts h; rising = from_pairs a ts (from_of c a b ts h); small = few; small_degree = small }
 
 -- terms within bounds are below the upper one
 pub below_within : (c a b : ℕ) (ts : List Term) → TermsWithin c a b ts → VarsBelow b ts

@@ -6,7 +6,7 @@ use Rattle.std.proofs.lemmas.Nat.{mul-add-lt, row_fits, same_from_place}
 use Rattle.spec_model.specs.Spec.{SpecValue, those, message_at, arc_at, base, further, design_variables, all_variables, arc_var, resource_var, link_var, step_var, covered_var}
 use Rattle.spec_model.specs.Rules.{of_task, of_task_on, options_of, goes_into, leaves, of_link, arcs_into, arcs_from, arcs_of, sender_of}
 use Rattle.spec_model.specs.WellFormed.{IsWellFormed}
-use Rattle.spec_model.proofs.Numbers.{base-more, design_variables-le, step_place-lt, step_var-lt, covered_var-lt}
+use Rattle.spec_model.proofs.Numbers.{base_more, design_variables-le, step_place_lt, step_var-lt, covered_var-lt}
 use Rattle.spec_model.proofs.Along.{arc_var-lt}
 use Rattle.spec_model.proofs.InRange.{arc_in}
 use Rattle.spec_model.proofs.Those.{cases_suc}
@@ -14,7 +14,7 @@ use Rattle.encode_model.specs.Encoding.{at_least, carries, has_cause, positive, 
 use Rattle.pb_rules.specs.declared.Term.{Term}
 use Rattle.pb_rules.specs.Linear.{Linear}
 use Rattle.encode_model.specs.Rising.{RisesWithin, TermsWithin, IsRising}
-use Rattle.encode_model.proofs.Rising.{wider, rises-those, rises-below, rises-numbers, rises-pieces, literal, literal_from, literals, small_wider, terms_joined, terms_put, put_first, sorted_already, at_least-put, LacksVariable}
+use Rattle.encode_model.proofs.Rising.{wider, rises_those, rises_below, rises_numbers, rises_pieces, literal, literal_from, literals, small_wider, terms_joined, terms_put, put_first, sorted_already, at_least-put, LacksVariable}
 
 base-ge : (s : SpecValue) (m : ℕ) → design_variables s ≤ base s m
 unfolding base
@@ -32,7 +32,7 @@ pub options : (s : SpecValue) (t : ℕ) (y : Bool) → IsRising (all_variables s
 options s t y =
     record {
       rises = literals 0 (all_variables s) y (options_of s t) (wider 0 (length s.options) 0 (all_variables s) (options_of s t) (omega arith) (omega (arith, design_variables-le s))
-          (rises-numbers (of_task s t) (length s.options)));
+          (rises_numbers (of_task s t) (length s.options)));
     }
 
 module _ (s : SpecValue) (m : ℕ) (hm : m < length s.messages) where
@@ -40,7 +40,7 @@ module _ (s : SpecValue) (m : ℕ) (hm : m < length s.messages) where
   pub start : (r : ℕ) (y z : Bool) → r < length s.resources → IsRising (all_variables s) (map (literal y) (option_on s (sender_of s m) r) ++ literal z (step_var s m r 0) ∷ [])
   start r y z hr = record {
     rises = one_more (length s.options) (all_variables s) (step_var s m r 0) z (map (literal y) (option_on s (sender_of s m) r)) (omega (arith, base-ge s m))
-        (step_var-lt s m r 0 hm hr (omega arith)) (literals 0 (length s.options) y (option_on s (sender_of s m) r) (rises-numbers (of_task_on s (sender_of s m) r) (length s.options)));
+        (step_var-lt s m r 0 hm hr (omega arith)) (literals 0 (length s.options) y (option_on s (sender_of s m) r) (rises_numbers (of_task_on s (sender_of s m) r) (length s.options)));
   }
 
   -- an option and what it covers,
@@ -50,12 +50,12 @@ module _ (s : SpecValue) (m : ℕ) (hm : m < length s.messages) where
   steps_rise : (r from : ℕ) → r < length s.resources → from ≤ 1 → RisesWithin (step_var s m r 0) (step_var s m r 0 + ((message_at s m).limit + 1)) (steps_from s m r from)
   unfolding step_after
   steps_rise r from hr hf =
-      rises-below (step_after s m r from) ((message_at s m).limit + 1 - from) (step_var s m r 0) (step_var s m r 0 + ((message_at s m).limit + 1)) (omega arith)
+      rises_below (step_after s m r from) ((message_at s m).limit + 1 - from) (step_var s m r 0) (step_var s m r 0 + ((message_at s m).limit + 1)) (omega arith)
       (λ i l. (omega arith, omega (arith, l, hf)))
       (λ i j l k. omega (arith, l))
 
   row_end : (r : ℕ) → r < length s.resources → step_var s m r 0 + ((message_at s m).limit + 1) ≤ covered_var s m 0
-  row_end r hr = omega (arith, step_place-lt r (message_at s m).limit (length s.resources) (message_at s m).limit hr (omega arith))
+  row_end r hr = omega (arith, step_place_lt r (message_at s m).limit (length s.resources) (message_at s m).limit hr (omega arith))
 
   -- the steps on a resource and whether it is covered,
   pub steps_cover : (r : ℕ) (y z : Bool) → r < length s.resources → IsRising (all_variables s) (map (literal y) (steps_from s m r 0) ++ literal z (covered_var s m r) ∷ [])
@@ -68,7 +68,7 @@ module _ (s : SpecValue) (m : ℕ) (hm : m < length s.messages) where
 
   arcs_rise : (p : ℕ → Bool) → RisesWithin (arc_var s m 0) (arc_var s m 0 + length s.arcs) (arc_vars s m (those p (length s.arcs)))
   arcs_rise p =
-      rises-those (arc_var s m) p (length s.arcs) (arc_var s m 0) (arc_var s m 0 + length s.arcs) (omega arith) (λ i l. (omega arith, omega (arith, l))) (λ i j l k. omega (arith, l))
+      rises_those (arc_var s m) p (length s.arcs) (arc_var s m 0) (arc_var s m 0 + length s.arcs) (omega arith) (λ i l. (omega arith, omega (arith, l))) (λ i j l k. omega (arith, l))
 
   arcs_end : arc_var s m 0 + length s.arcs ≤ design_variables s
   arcs_end = omega (arith, mul-row hm)
@@ -121,7 +121,7 @@ module _ (s : SpecValue) (m : ℕ) (hm : m < length s.messages) where
   pub earlier_rise : (q t : ℕ) → t < (message_at s m).limit → IsRising (all_variables s) (positives (map (step_at s m t) (neighbours s q)))
   unfolding step_at
   earlier_rise q t ht = record {
-    rises = literals 0 (all_variables s) true (map (step_at s m t) (neighbours s q)) (rises-those (step_at s m t) (leads_to s q) (length s.resources) 0 (all_variables s) (omega arith)
+    rises = literals 0 (all_variables s) true (map (step_at s m t) (neighbours s q)) (rises_those (step_at s m t) (leads_to s q) (length s.resources) 0 (all_variables s) (omega arith)
         (λ i l. (omega arith, step_var-lt s m i t hm l (omega (arith, ht)))) (λ i j l k. omega (arith, row_fits i ((message_at s m).limit + 1) j ((message_at s m).limit + 1) l (omega arith))));
   }
 
@@ -129,7 +129,7 @@ module _ (s : SpecValue) (m : ℕ) (hm : m < length s.messages) where
   pub end_literals : (r : ℕ) → r < length s.resources → IsRising (all_variables s) (positives (receiver_options s m r) ++ positives (arc_vars s m (arcs_from s r)) ++ positive (step_var s m r 0)
       ∷ (negative (covered_var s m r) ∷ []))
   end_literals r hr =
-      let ros = literals 0 (length s.options) true (receiver_options s m r) (rises-numbers (for_receiver s m r) (length s.options)) in
+      let ros = literals 0 (length s.options) true (receiver_options s m r) (rises_numbers (for_receiver s m r) (length s.options)) in
       let us = small_wider (arc_var s m 0) (arc_var s m 0 + length s.arcs) (length s.options) (design_variables s) (positives (arc_vars s m (arcs_from s r))) (omega arith) arcs_end
       (literals (arc_var s m 0) (arc_var s m 0 + length s.arcs) true (arc_vars s m (arcs_from s r)) (arcs_rise (leaves s r))) in
       record {
@@ -177,7 +177,7 @@ cause s m q t wf hm hq ht = record {
 base_up : (s : SpecValue) (i j : ℕ) → i ≤ j → j ≤ length s.messages → base s i ≤ base s j
 base_up s i zero h l = let e : i ≡ 0 = omega (arith, h) in subst (λ (k : ℕ). base s k ≤ base s 0) (sym e) (omega arith)
 base_up s i (suc j) h l =
-    let next : base s (suc j) ≡ base s j + further s (message_at s j) = subst (λ (k : ℕ). base s k ≡ base s j + further s (message_at s j)) (add-one j) (base-more s j l) in
+    let next : base s (suc j) ≡ base s j + further s (message_at s j) = subst (λ (k : ℕ). base s k ≡ base s j + further s (message_at s j)) (add-one j) (base_more s j l) in
     elim (cases_suc i (suc j) (omega (arith, h))) [
       | inl e ↦ subst (λ (k : ℕ). base s k ≤ base s (suc j)) (sym e) (omega arith)
       | inr k ↦ omega (arith, next, base_up s i j (omega (arith, k)) (omega (arith, l)))
@@ -186,15 +186,15 @@ base_up s i (suc j) h l =
 pub covers_rise : (s : SpecValue) (r : ℕ) → r < length s.resources → RisesWithin (design_variables s) (all_variables s) (map (cover_of s r) (messages_of s))
 unfolding cover_of
 covers_rise s r hr =
-    rises-below (cover_of s r) (length s.messages) (design_variables s) (all_variables s) (design_variables-le s)
+    rises_below (cover_of s r) (length s.messages) (design_variables s) (all_variables s) (design_variables-le s)
     (λ m l. (omega (arith, base-ge s m), covered_var-lt s m r l hr))
-    (λ i j l k. omega (arith, hr, base-more s i (omega (arith, l, k)), base_up s (i + 1) j (omega (arith, l)) (omega (arith, k))))
+    (λ i j l k. omega (arith, hr, base_more s i (omega (arith, l, k)), base_up s (i + 1) j (omega (arith, l)) (omega (arith, k))))
 
 -- what uses a resource,
 pub resource_uses : (s : SpecValue) (r : ℕ) → r < length s.resources → IsRising (all_variables s) (positives (options_on s r) ++ negative (resource_var s r)
     ∷ positives (map (cover_of s r) (messages_of s)))
 resource_uses s r hr =
-    let os = literals 0 (length s.options) true (options_on s r) (rises-numbers (on_resource s r) (length s.options)) in
+    let os = literals 0 (length s.options) true (options_on s r) (rises_numbers (on_resource s r) (length s.options)) in
     let cs = literals (design_variables s) (all_variables s) true (map (cover_of s r) (messages_of s)) (covers_rise s r hr) in
     record {
       rises = terms_joined (2 ^ 40) 0 (length s.options) (all_variables s) (positives (options_on s r)) (negative (resource_var s r) ∷ positives (map (cover_of s r) (messages_of s))) os (
@@ -209,7 +209,7 @@ pub link_uses : (s : SpecValue) (l : ℕ) → l < length s.links → IsRising (a
 unfolding link_arcs
 link_uses s l hl =
     let vs = flat_map (link_arcs s l) (messages_of s) in
-    let rise : RisesWithin (arc_var s 0 0) (arc_var s (length s.messages) 0) vs = rises-pieces (link_arcs s l) (λ m. arc_var s m 0) (length s.messages)
+    let rise : RisesWithin (arc_var s 0 0) (arc_var s (length s.messages) 0) vs = rises_pieces (link_arcs s l) (λ m. arc_var s m 0) (length s.messages)
     (λ m hm. wider (arc_var s m 0) (arc_var s m 0 + length s.arcs) (arc_var s m 0) (arc_var s (m + 1) 0) (arc_vars s m (arcs_of s l)) (omega arith) (omega (arith, next m))
     (arcs_rise s m hm (of_link s l))) in
     record {

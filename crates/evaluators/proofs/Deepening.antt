@@ -8,7 +8,7 @@ use Rattle.spec_model.specs.Spec.{SpecValue, below, those}
 use Rattle.spec_model.specs.Rules.{sender_of}
 use Rattle.spec_model.specs.WellFormed.{IsWellFormed}
 use Rattle.spec_model.specs.Schedule.{goes_to, ends_chain, depth, has_depth, tasks_of_depth, placing}
-use Rattle.spec_model.proofs.Those.{those-more, flat_map-below_more, few_those}
+use Rattle.spec_model.proofs.Those.{those_more, flat_map-below_more, few_those}
 use Rattle.spec_model.proofs.InRange.{message_in}
 use Rattle.evaluators.specs.Marks.{AreChainMarks, AreDepthsBelow, AreDepths, is_marked, sender_marked, is_sent_to, depth_below}
 use Rattle.evaluators.proofs.Greatest.{greatest-those_more}
@@ -41,10 +41,10 @@ depths_end s depths n e all = record { each = all.each; depths_are = λ t l. all
 pub placed_yes : (p : ℕ → Bool) (n : ℕ) (start now : List ℕ) → p n ≡ true → now ≡ start ++ those p n → now ++ n ∷ [] ≡ start ++ those p (n + 1)
 placed_yes p n start now passes e =
     ap (λ (xs : List ℕ). xs ++ n ∷ []) e ∙ (append_assoc start (those p n) (n ∷ []) ∙ ap (λ (xs : List ℕ). start ++ xs)
-    (sym (those-more p n ∙ ap (λ (b : Bool). those p n ++ cond b (n ∷ []) []) passes)))
+    (sym (those_more p n ∙ ap (λ (b : Bool). those p n ++ cond b (n ∷ []) []) passes)))
 
 pub placed_no : (p : ℕ → Bool) (n : ℕ) (start now : List ℕ) → p n ≡ false → now ≡ start ++ those p n → now ≡ start ++ those p (n + 1)
-placed_no p n start now fails e = e ∙ ap (λ (xs : List ℕ). start ++ xs) (sym (those-more p n ∙ (ap (λ (b : Bool). those p n ++ cond b (n ∷ []) []) fails ∙ append-nil (those p n))))
+placed_no p n start now fails e = e ∙ ap (λ (xs : List ℕ). start ++ xs) (sym (those_more p n ∙ (ap (λ (b : Bool). those p n ++ cond b (n ∷ []) []) fails ∙ append-nil (those p n))))
 
 -- a task's depth by the list of depths
 pub depth_test : (s : SpecValue) (depths : List ℕ) (d t : ℕ) → AreDepths s depths → t < length s.tasks → has_depth s d t ≡ nat_eq (get_or depths t 0) d
@@ -60,7 +60,7 @@ less_deep : (a n : ℕ) → cond (nat_lt a n) 1 0 + cond (nat_eq a n) 1 0 ≡ co
 less_deep a n = grind (arith, nat_tests)
 
 length-those_more : (p : ℕ → Bool) (n : ℕ) → length (those p (n + 1)) ≡ length (those p n) + cond (p n) 1 0
-length-those_more p n = ap length (those-more p n) ∙ (length-append (those p n) (cond (p n) (n ∷ []) []) ∙ ap (λ (k : ℕ). length (those p n) + k) (one (p n)))
+length-those_more p n = ap length (those_more p n) ∙ (length-append (those p n) (cond (p n) (n ∷ []) []) ∙ ap (λ (k : ℕ). length (those p n) + k) (one (p n)))
   where
     one : (b : Bool) → length (cond b (n ∷ []) []) ≡ cond b 1 0
     one true = refl

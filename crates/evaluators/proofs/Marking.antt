@@ -8,7 +8,7 @@ use Rattle.std.proofs.lemmas.List.Folds.{list_any-append, list_any_more}
 use Rattle.std.proofs.Math.Bool.{or-false, or-true, or_assoc, and-true, and-false}
 use Rattle.spec_model.specs.Spec.{SpecValue, those, message_at}
 use Rattle.spec_model.specs.Schedule.{goes_to}
-use Rattle.spec_model.proofs.Those.{those-more}
+use Rattle.spec_model.proofs.Those.{those_more}
 use Rattle.spec_graph.specs.declared.numbers.TaskNo.{TaskNo}
 use Rattle.spec_graph.specs.Lists.{task_number}
 use Rattle.evaluators.specs.Marks.{IsBelow, is_marked, sender_marked, is_sent_to}
@@ -47,7 +47,7 @@ mark_task old now ts i x l fits h t =
 
 -- one number more that may pass a test
 pub any-those_more : (q p : ℕ → Bool) (n : ℕ) → list_any q (those p (n + 1)) ≡ (list_any q (those p n) || (p n && q n))
-any-those_more q p n = ap (list_any q) (those-more p n) ∙ (list_any-append q (those p n) (cond (p n) (n ∷ []) []) ∙ ap (λ (b : Bool). list_any q (those p n) || b) (one (p n)))
+any-those_more q p n = ap (list_any q) (those_more p n) ∙ (list_any-append q (those p n) (cond (p n) (n ∷ []) []) ∙ ap (λ (b : Bool). list_any q (those p n) || b) (one (p n)))
   where
     one : (b : Bool) → list_any q (cond b (n ∷ []) []) ≡ (b && q n)
     one true = or-false (q n)

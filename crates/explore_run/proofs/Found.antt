@@ -30,7 +30,7 @@ use Rattle.proof_files.proofs.Refuting.{refute_all}
 use Rattle.run_base.specs.declared.outcome.Outcome.{Outcome}
 use Rattle.explore_run.specs.Tools.{ToolsValue, tags_at, measured_by}
 use Rattle.explore_run.specs.Saying.{explored_text}
-use Rattle.explore_run.specs.Exploring.{WantedValue, Finds, LinesShowEach, seeded}
+use Rattle.explore_run.specs.Exploring.{ExplorationValue, Finds, LinesShowEach, seeded}
 use Rattle.explore_run.specs.Wanting.{ending_of}
 use Rattle.explore_run.proofs.Kept.{IsSized, best_all, rounds_sized}
 
@@ -72,7 +72,7 @@ members_sized s measured start last rounds run Infeasible h = subst (λ (ms : Li
 done_is_feasible : Done ≡ Infeasible → ⊥
 done_is_feasible e = absurd (cc)
 
-pub finds : LegalReadBack → DecodingsStayShown → (s : SpecValue) → IsFrameOf s (cover_frame s) → (wanted : WantedValue) (tools : ToolsValue) (calls : List ℕ) (last : Lcg) (run : Run) (end : End)
+pub finds : LegalReadBack → DecodingsStayShown → (s : SpecValue) → IsFrameOf s (cover_frame s) → (wanted : ExplorationValue) (tools : ToolsValue) (calls : List ℕ) (last : Lcg) (run : Run) (end : End)
     (outcome : Outcome)
     → EndsBy s word_of next_of (measured_by tools wanted.chosen s) (seeded wanted.seed) last run wanted.rounds end → (end ≡ Infeasible) ↔ FindsNone s wanted.rounds → IsLogOf s run.log
     → RoseBy (length run.history) wanted.chosen tools.calls calls
@@ -103,7 +103,7 @@ finds back law s frame wanted tools calls last run Infeasible outcome h causes o
     })
 
 -- the same of what stands for the rounds, the places, the seed's generator and the tags
-pub finds_from : LegalReadBack → DecodingsStayShown → (s : SpecValue) → IsFrameOf s (cover_frame s) → (wanted : WantedValue) (tools : ToolsValue) (calls : List ℕ) (rounds : ℕ) (chosen : List ℕ)
+pub finds_from : LegalReadBack → DecodingsStayShown → (s : SpecValue) → IsFrameOf s (cover_frame s) → (wanted : ExplorationValue) (tools : ToolsValue) (calls : List ℕ) (rounds : ℕ) (chosen : List ℕ)
     (tags : List (List ℕ)) (start last : Lcg) (run : Run) (outcome : Outcome)
     → rounds ≡ wanted.rounds → chosen ≡ wanted.chosen → tags ≡ tools.tags → start ≡ seeded wanted.seed
     → EndsBy s word_of next_of (measured_by tools chosen s) start last run rounds run.end → (run.end ≡ Infeasible) ↔ FindsNone s rounds → IsLogOf s run.log

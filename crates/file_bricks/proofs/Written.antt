@@ -15,7 +15,7 @@ use Rattle.line_words.specs.Numbers.{is_digits, whole_of}
 use Rattle.line_words.specs.Run.{run}
 use Rattle.line_words.specs.Front.{is_lf}
 use Rattle.line_words.proofs.Digits.{own}
-use Rattle.line_words.proofs.Runs.{words_from-run, words_from-blank, words_from-nil}
+use Rattle.line_words.proofs.Runs.{words_from_run, words_from-blank, words_from-nil}
 use Rattle.line_words.proofs.Least.{run-cons, first_broken-append-none}
 
 -- ---- bytes
@@ -81,7 +81,7 @@ run_all (b ∷ w) h =
 pub first_word : (w rest : List ℕ) (at : ℕ) → 0 < length w → IsWritten w → texts (words_from at (w ++ 32 ∷ rest)) ≡ w ∷ texts (words_from (at + length w + 1) rest)
 first_word w rest at some h =
     let n = run_len w rest h in
-    let run = words_from-run (w ++ 32 ∷ rest) at (omega (arith, n, some)) in
+    let run = words_from_run (w ++ 32 ∷ rest) at (omega (arith, n, some)) in
     ap texts run
     ∙ ap (λ (k : ℕ). take k (w ++ 32 ∷ rest) ∷ texts (words_from (at + k) (drop k (w ++ 32 ∷ rest)))) n
     ∙ ap (λ (t : List ℕ). t ∷ texts (words_from (at + length w) (drop (length w) (w ++ 32 ∷ rest)))) (take-append_seam w (32 ∷ rest))
@@ -92,7 +92,7 @@ first_word w rest at some h =
 pub last_word : (w : List ℕ) (at : ℕ) → 0 < length w → IsWritten w → texts (words_from at w) ≡ w ∷ []
 last_word w at some h =
     let n = run_all w h in
-    let run = words_from-run w at (omega (arith, n, some)) in
+    let run = words_from_run w at (omega (arith, n, some)) in
     ap texts run
     ∙ ap (λ (k : ℕ). take k w ∷ texts (words_from (at + k) (drop k w))) n
     ∙ ap (λ (t : List ℕ). t ∷ texts (words_from (at + length w) (drop (length w) w))) (take_all (length w) w (omega arith))
@@ -102,21 +102,21 @@ last_word w at some h =
 -- ---- lines
 
 -- a line with its LF is the first one
-pub lines-line : (l rest : List ℕ) → IsLine l → lines (l ++ 10 ∷ rest) ≡ l ∷ lines rest
+pub lines_line : (l rest : List ℕ) → IsLine l → lines (l ++ 10 ∷ rest) ≡ l ∷ lines rest
 unfolding lines
-lines-line [] rest h = refl
-lines-line (b ∷ l) rest h = rw (not_lf b h.0) (ap (onto_first b) (lines-line l rest h.1))
+lines_line [] rest h = refl
+lines_line (b ∷ l) rest h = rw (not_lf b h.0) (ap (onto_first b) (lines_line l rest h.1))
 
 abbrev is_hash : ℕ → Bool
 is_hash b = eqb b 35
 
-content-line : (l : List ℕ) → IsLine l → content l ≡ l
-content-line [] h = refl
-content-line (b ∷ l) h =
+content_line : (l : List ℕ) → IsLine l → content l ≡ l
+content_line [] h = refl
+content_line (b ∷ l) h =
     let f : is_hash b ≡ false = ne_eqb b 35 h.0.other in
     let n : position_or_len is_hash (b ∷ l) ≡ suc (position_or_len is_hash l) = rw f (omega arith) in
     let cut : content (b ∷ l) ≡ b ∷ content l = rw n refl in
-    cut ∙ ap (λ (t : List ℕ). b ∷ t) (content-line l h.1)
+    cut ∙ ap (λ (t : List ℕ). b ∷ t) (content_line l h.1)
 
 none_bad : (l : List ℕ) → IsLine l → list_any is_bad l ≡ false
 none_bad [] h = refl
@@ -130,7 +130,7 @@ pub record States (line : List ℕ) (ws : Words) : Type 0 where
 -- a short line states its words
 pub line_states : (l w : List ℕ) (ws : Words) → IsLine l → length l ≤ most_line_bytes → texts (words_from 0 l) ≡ w ∷ ws → States l (w ∷ ws)
 line_states l w ws h short are =
-    let same = content-line l h in
+    let same = content_line l h in
     let good : has_bad_byte l ≡ false = ap (λ (t : List ℕ). list_any is_bad t) same ∙ none_bad l h in
     let long : is_long l ≡ false = le-ltb most_line_bytes (length l) short in
     record {

@@ -22,7 +22,7 @@ use Rattle.std.proofs.Math.Bool.{and_assoc}
 use Rattle.clap.specs.declared.error.Error.{Error}
 use Rattle.clap.specs.declared.error.kind.ErrorKind.TheVariants as kind
 use Rattle.form_words.specs.Commands.{ParsesTo, is_nothing as none}
-use Rattle.form_words.specs.Line.{Text, Form, Use, free, uses, line, only_if, has_name, are_new, are_there, value_of}
+use Rattle.form_words.specs.Line.{Text, Form, Use, free, uses, line, only_if, has_name, are_new, are_there, value_under}
 use Rattle.form_words.specs.Served.{HasPlaces, shape}
 use Rattle.form_words.proofs.Walks.{none-or_else, passes, rows_at_end, row, Serves, Agrees, walks}
 
@@ -73,7 +73,7 @@ given_is id (u ∷ us) =
       | false ↦ given_is id us
     ]
 
-pub first_is : (id : Text) (us : List Use) → first_of id (map row us) ≡ value_of id us
+pub first_is : (id : Text) (us : List Use) → first_of id (map row us) ≡ value_under id us
 first_is id [] = refl
 first_is id (u ∷ us) =
     elim (bytes_eq u.0 id) as (λ b. option_and_then (λ r. slice_get r.values 0) (cond b (Some (row u)) (find (λ r. bytes_eq r.id id) (map row us)))

@@ -10,7 +10,7 @@ use Rattle.spec_model.specs.Spec.{SpecValue, Bits, bits_of, below, design_variab
 use Rattle.spec_model.specs.Vectors.{weight, weight_if_true, vector_at, vector_of}
 use Rattle.encode_model.specs.Block.{total_weight, IsWithinWeights}
 use Rattle.spec_model.proofs.Those.{sum_by-below_more}
-use Rattle.block_encode.proofs.Adding.{total-small}
+use Rattle.block_encode.proofs.Adding.{total_small}
 use Rattle.spec_model.specs.WellFormed.{IsWellFormed}
 use Rattle.result_text.specs.Answers.{EntryValue}
 use Rattle.result_text.specs.Fronts.{IsShaped}
@@ -52,7 +52,7 @@ vector_within s f j l =
 vector_small : (s : SpecValue) (f : Bits) → IsWellFormed s → All (λ n. n < 2 ^ 63) (vector_of s f)
 vector_small s f wf j d l =
     let at : get_or (vector_of s f) j d ≡ get_or (vector_of s f) j 0 = get_or_default (vector_of s f) j d 0 l in
-    omega (arith, at, vector_within s f j l, total-small s j wf)
+    omega (arith, at, vector_within s f j l, total_small s j wf)
 
 pub next_is_shaped : (s : SpecValue) (us : List (List ℕ)) (e : EntryValue) → IsWellFormed s → IsNext s us e → IsShaped s e
 next_is_shaped s us e wf next = record {

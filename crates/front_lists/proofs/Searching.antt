@@ -8,7 +8,7 @@ use Rattle.pb_rules.specs.Literal.{Literal}
 use Rattle.pb_rules.specs.Linear.{Linear, IsModel, HasNoModel}
 use Rattle.pb_rules.specs.Order.{IsFirstModel}
 use Rattle.pb_rules.specs.Frames.{Line, derived, cover, blocks_from}
-use Rattle.pb_rules.proofs.Closed.{models-front, models-back}
+use Rattle.pb_rules.proofs.Closed.{models_front, models_back}
 use Rattle.spec_model.specs.Spec.{SpecValue, Bits, bits_of, design_variables}
 use Rattle.spec_model.specs.Vectors.{vector_of, IsAtMost}
 use Rattle.spec_model.specs.Genotypes.{IsSameDesign, IsBefore, natural, plain_gene}
@@ -41,8 +41,8 @@ no_cover_below s m (cover u ∷ ls) b long model v c =
     let block : List Linear = block_of s (b + 1) u in
     let rest : List Linear = blocks_from (cover_frame s) (b + 1) ls in
     elim (split u (covers_of ls) v c) [
-      | inl e ↦ subst (λ (w : List ℕ). ¬ IsAtMost w (vector_of s m)) e (models_are_uncovered s (b + 1) u m (long u (0, omega arith, refl)) (models-front m block rest model))
-      | inr later ↦ no_cover_below s m ls (b + 1) (λ w k. long w (before_all u (covers_of ls) w k)) (models-back m block rest model) v later
+      | inl e ↦ subst (λ (w : List ℕ). ¬ IsAtMost w (vector_of s m)) e (models_are_uncovered s (b + 1) u m (long u (0, omega arith, refl)) (models_front m block rest model))
+      | inr later ↦ no_cover_below s m ls (b + 1) (λ w k. long w (before_all u (covers_of ls) w k)) (models_back m block rest model) v later
     ]
 
 -- ---- the search
@@ -61,8 +61,8 @@ module _ (s : SpecValue) (found : List EntryValue) (ls : List Line) (wf : IsWell
   -- the design of a model is left
   pub model_is_left : (m : Bits) → IsModel (searched s ls) m → IsLeft s us m
   model_is_left m model = record {
-    valid = valid_of_model s m wf (models-front m (encoding s) (blocks_from (cover_frame s) 0 ls) model);
-    uncovered = λ h. no_cover_below s m ls 0 (λ v c. (itself v (found_of v c)).one_each) (models-back m (encoding s) (blocks_from (cover_frame s) 0 ls) model) h.vector
+    valid = valid_of_model s m wf (models_front m (encoding s) (blocks_from (cover_frame s) 0 ls) model);
+    uncovered = λ h. no_cover_below s m ls 0 (λ v c. (itself v (found_of v c)).one_each) (models_back m (encoding s) (blocks_from (cover_frame s) 0 ls) model) h.vector
         (subst (λ (ws : List (List ℕ)). Contains ws h.vector) (sym covers) h.there) h.below;
   }
 

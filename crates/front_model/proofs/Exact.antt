@@ -8,9 +8,9 @@ use Rattle.std.proofs.lemmas.List.FromFn.{length-map-range_with_len}
 use Rattle.pb_rules.specs.declared.Term.{Term}
 use Rattle.pb_rules.specs.Linear.{Linear, Holds, IsModel}
 use Rattle.pb_rules.specs.Frames.{Line, derived, cover, base_of, blocks_by, context_of}
-use Rattle.pb_rules.proofs.Closed.{models-front, models-back}
-use Rattle.pb_rules.proofs.Given.{given-sound, under-holds}
-use Rattle.pb_rules.proofs.Sound.{line-sound}
+use Rattle.pb_rules.proofs.Closed.{models_front, models_back}
+use Rattle.pb_rules.proofs.Given.{given_sound, under_holds}
+use Rattle.pb_rules.proofs.Sound.{line_sound}
 use Rattle.spec_model.specs.Spec.{SpecValue, Bits, bits_of}
 use Rattle.spec_model.specs.Rules.{IsValid}
 use Rattle.spec_model.specs.Vectors.{vector_at, vector_of, IsAtMost, Dominates, IsInFront}
@@ -94,9 +94,9 @@ refuted s us ls x wf r valid none =
     (leaves s us one.model x (same_vector s one.model x one.only.same) none) r.early early in
     let made = all_extend s r.early one.model wf one.only.holds open_each in
     let f = cover_frame s in
-    let given : IsModel r.before.constraints made.values = given-sound made.values f (base_of f) r.before r.early r.legal (models-front made.values f.base (blocks_by f r.early) made.model)
-    (models-back made.values f.base (blocks_by f r.early) made.model) in
-    empty_clash made.values r.clash r.clashes (line-sound made.values (context_of r.before) r.last r.clash (under-holds (Holds made.values) r.before.constraints given) r.gives)
+    let given : IsModel r.before.constraints made.values = given_sound made.values f (base_of f) r.before r.early r.legal (models_front made.values f.base (blocks_by f r.early) made.model)
+    (models_back made.values f.base (blocks_by f r.early) made.model) in
+    empty_clash made.values r.clash r.clashes (line_sound made.values (context_of r.before) r.last r.clash (under_holds (Holds made.values) r.before.constraints given) r.gives)
 
 pub reached : (s : SpecValue) (us : List (List ℕ)) (ls : List Line) (x : Bits) → IsWellFormed s → Refute s us ls → IsValid s x → HasBelow us (vector_of s x)
 reached s us ls x wf r valid =

@@ -10,7 +10,7 @@ use Rattle.pb_rules.specs.declared.Op.{Op}
 use Rattle.pb_rules.specs.Linear.{Linear}
 use Rattle.pb_rules.specs.Operations.{line_gives}
 use Rattle.pb_rules.specs.Frames.{Line, derived, Given, base_of, context_of, with_derived, given_from}
-use Rattle.pb_rules.proofs.Given.{first-line, given-push}
+use Rattle.pb_rules.proofs.Given.{first_line, given-push}
 use Rattle.proof_words.proofs.Legal.{lines_are}
 use Rattle.spec_model.specs.Spec.{SpecValue}
 use Rattle.spec_model.proofs.Joined.{All-left}
@@ -197,7 +197,7 @@ back s us (l ∷ early) last (p ∷ ps) n g before b clash z said may e gives cl
     let rest : x.more ≡ early ++ derived last ∷ [] = let f = x.is in cc in
     let here : line_in p ≡ Some l = x.said ∙ ap (λ (k : Line). Some k) first in
     let others : each_said line_in ps ≡ Some (early ++ derived last ∷ []) = x.others ∙ ap (λ (ls : List Line). Some ls) rest in
-    let m = first-line (cover_frame s) g before l early e in
+    let m = first_line (cover_frame s) g before l early e in
     let y = legal_judged s us g m.0 l (All-head (MayStand s us) l early may) m.1 in
     let stand : Stand = record { given = m.0; closed = y.0 } in
     ap verdict_of (taken s us ps n g b p stand z (piece_judged s us g p l here ∙ y.1))

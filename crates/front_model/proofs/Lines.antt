@@ -13,7 +13,7 @@ use Rattle.pb_rules.specs.Linear.{Linear}
 use Rattle.pb_rules.specs.Operations.{Fault, and_then, only_one, line_gives, small_number}
 use Rattle.pb_rules.specs.Frames.{Line, derived, cover, Given, context_of, with_derived, with_block, given_with}
 use Rattle.pb_rules.proofs.Given.{Goes, by_ops, by_block, goes}
-use Rattle.proof_words.specs.Words.{op_of, number_of}
+use Rattle.proof_words.specs.Words.{op_of, numeral_number}
 use Rattle.proof_words.specs.Legal.{IsWritableLine}
 use Rattle.spec_model.specs.Spec.{SpecValue}
 use Rattle.encode_model.specs.Block.{cover_frame}
@@ -56,11 +56,11 @@ said_derived s us g stand ws e = go (judge_derivation (context_of g) ws) refl e
     go (Err fault) q f = absurd cc
     go (Ok c) q f = let d = derives (context_of g) c ws q in (d.ops, d.said)
 
-said_cover : (s : SpecValue) (us : List (List ℕ)) (g : Given) (stand : Stand) (ws : Words) → after_cover s g (judge_cover s us (each_said number_of ws)) ≡ Ok stand → (v : List ℕ)
-    × (each_said number_of ws ≡ Some v)
-said_cover s us g stand ws e = go (each_said number_of ws) refl e
+said_cover : (s : SpecValue) (us : List (List ℕ)) (g : Given) (stand : Stand) (ws : Words) → after_cover s g (judge_cover s us (each_said numeral_number ws)) ≡ Ok stand → (v : List ℕ)
+    × (each_said numeral_number ws ≡ Some v)
+said_cover s us g stand ws e = go (each_said numeral_number ws) refl e
   where
-    go : (o : Option (List ℕ)) → each_said number_of ws ≡ o → after_cover s g (judge_cover s us o) ≡ Ok stand → (v : List ℕ) × (each_said number_of ws ≡ Some v)
+    go : (o : Option (List ℕ)) → each_said numeral_number ws ≡ o → after_cover s g (judge_cover s us o) ≡ Ok stand → (v : List ℕ) × (each_said numeral_number ws ≡ Some v)
     go None q f = absurd cc
     go (Some v) q f = (v, q)
 
@@ -68,8 +68,8 @@ words_said : (s : SpecValue) (us : List (List ℕ)) (g : Given) (stand : Stand) 
 words_said s us g stand [] e = absurd cc
 words_said s us g stand (k ∷ ws) e = go (bytes_eq k (codes "p")) (bytes_eq k (codes "c")) e
   where
-    go : (a b : Bool) → cond a (after_derived g (judge_derivation (context_of g) ws)) (cond b (after_cover s g (judge_cover s us (each_said number_of ws))) (Err BadStep)) ≡ Ok stand
-        → (l : Line) × (cond a (option_map derived (each_said op_of ws)) (cond b (option_map cover (each_said number_of ws)) None) ≡ Some l)
+    go : (a b : Bool) → cond a (after_derived g (judge_derivation (context_of g) ws)) (cond b (after_cover s g (judge_cover s us (each_said numeral_number ws))) (Err BadStep)) ≡ Ok stand
+        → (l : Line) × (cond a (option_map derived (each_said op_of ws)) (cond b (option_map cover (each_said numeral_number ws)) None) ≡ Some l)
     go true b f = let d = said_derived s us g stand ws f in (derived d.0, ap (option_map derived) d.1)
     go false true f = let d = said_cover s us g stand ws f in (cover d.0, ap (option_map cover) d.1)
     go false false f = absurd cc
@@ -133,8 +133,8 @@ numbers_may s us v w e = go (length v == length s.objectives) (ltb (first_above 
     go true false true p q r e = (cc, record { one_each = eqb-true (length v) (length s.objectives) p; within = within_of s v q; dominated = below_of_any us v r })
 
 -- the numbers of a cover that is judged without fault may stand
-pub cover_may : (s : SpecValue) (us : List (List ℕ)) (w : List ℕ) (ws : Words) → judge_cover s us (each_said number_of ws) ≡ Ok w → MayCover s us w
-cover_may s us w ws e = go (each_said number_of ws) e
+pub cover_may : (s : SpecValue) (us : List (List ℕ)) (w : List ℕ) (ws : Words) → judge_cover s us (each_said numeral_number ws) ≡ Ok w → MayCover s us w
+cover_may s us w ws e = go (each_said numeral_number ws) e
   where
     go : (o : Option (List ℕ)) → judge_cover s us o ≡ Ok w → MayCover s us w
     go None f = absurd cc

@@ -17,7 +17,7 @@ use Rattle.front_search.specs.declared.ending.SearchEnd.{SearchEnd}
 use Rattle.front_search.specs.declared.ending.SearchEnd.TheVariants as ends
 use Rattle.front_search.specs.Searches.{EndSays, is_complete}
 use Rattle.run_base.specs.declared.outcome.Outcome.{Outcome}
-use Rattle.front_run.specs.Fronting.{WantedValue, LinesFind, LinesUseUp, Finds, both_files, complete_text, open_text}
+use Rattle.front_run.specs.Fronting.{WantedFrontValue, LinesFind, LinesUseUp, Finds, both_files, complete_text, open_text}
 use Rattle.front_run.specs.Wanting.{ending_of, said_of}
 
 -- lines that refute are legal
@@ -42,7 +42,7 @@ within_given o budget lines n e within is =
     let same : budget ≡ n = e ∙ ap (λ (p : Option ℕ). unwrap_or p (2 ^ 64 - 1)) is in
     omega (arith, same, within)
 
-pub finds : LegalReadBack → (s : SpecValue) (wanted : WantedValue) (budget : ℕ) (found : List EntryValue) (front : FrontValue) (log : LogValue) (end : SearchEnd) (outcome : Outcome)
+pub finds : LegalReadBack → (s : SpecValue) (wanted : WantedFrontValue) (budget : ℕ) (found : List EntryValue) (front : FrontValue) (log : LogValue) (end : SearchEnd) (outcome : Outcome)
     → budget ≡ unwrap_or wanted.budget (2 ^ 64 - 1) → derived_count log.lines < 2 ^ 63
     → FoundPrefix s found → covers_of log.lines ≡ vectors_in found → AreUndominated found front.entries → front.complete ≡ is_complete end → EndSays s budget found log.lines end
     → (end ≡ ends.Complete → IsFrontOf s front) → (end ≡ ends.Complete → AcceptsTexts s (front_text s front) (proof_text log.lines))

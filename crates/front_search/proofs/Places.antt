@@ -99,8 +99,8 @@ seen_there es i e l is = (i, omega (arith, l, length-map es as_seen), get_or-map
 pub seen-insert : (es : List Entry) (i : ℕ) (e : Entry) → seen (insert es i e) ≡ insert (seen es) i (as_seen e)
 seen-insert es i e = map-insert as_seen es i e
 
-pub seen-more : (es : List Entry) (i : ℕ) (e : Entry) → i < length es → e ≡ get_or es i e → seen (take (i + 1) es) ≡ seen (take i es) ++ as_seen e ∷ []
-seen-more es i e l is =
+pub seen_more : (es : List Entry) (i : ℕ) (e : Entry) → i < length es → e ≡ get_or es i e → seen (take (i + 1) es) ≡ seen (take i es) ++ as_seen e ∷ []
+seen_more es i e l is =
     ap seen (take_more es i e l ∙ ap (λ (x : Entry). take i es ++ x ∷ []) (sym is)) ∙ map-append as_seen (take i es) (e ∷ [])
 
 -- the vectors of a front are as long as those of the found list

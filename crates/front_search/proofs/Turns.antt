@@ -9,7 +9,7 @@ use Rattle.pb_rules.specs.Order.{IsFirstModel}
 use Rattle.pb_rules.specs.Frames.{Line, Given, given_by, base_of, blocks_by, derived_from, derived_by, derived_count}
 use Rattle.pb_rules.specs.Clauses.{contradiction}
 use Rattle.pb_rules.proofs.Given.{derived-append}
-use Rattle.pb_rules.proofs.Closed.{models-front}
+use Rattle.pb_rules.proofs.Closed.{models_front}
 use Rattle.proof_log.specs.Log.{LogValue}
 use Rattle.proof_log.specs.HonestLog.{EndsASolve, AreHonestSolves}
 use Rattle.spec_model.specs.Spec.{SpecValue, bits_of, design_variables, all_variables}
@@ -22,7 +22,7 @@ use Rattle.block_encode.specs.Laws.{variables_to}
 use Rattle.block_encode.proofs.Framing.{blocks_make_frame}
 use Rattle.genotype.specs.Order.{IsOrderOf}
 use Rattle.result_text.specs.Answers.{EntryValue}
-use Rattle.ordered_solver.proofs.Agreeing.{agrees-new}
+use Rattle.ordered_solver.proofs.Agreeing.{agrees_new}
 use Rattle.ordered_solver.specs.Solver.{SolverValue, constraints_of, numbered}
 use Rattle.ordered_solver.specs.Answers.{IsFirst, AnswerSays, CountSays, GoesOnDerived, AnswersInFrames, AreHonestSteps, IsRefutation, new_lines}
 use Rattle.ordered_solver.specs.declared.answer.Answer.{Answer}
@@ -161,7 +161,7 @@ starts_searching s variables cs solver wf ev ec few e =
       variables_are = omega (arith, ev);
       given_are = numbered_back 1 (encoding s) ∙ sym (append-nil (encoding s));
       covers_are = refl;
-      agrees = agrees-new (cover_frame s) variables false (blocks_make_frame s wf) short;
+      agrees = agrees_new (cover_frame s) variables false (blocks_make_frame s wf) short;
       prefix = λ i d l. absurd (omega (arith, l));
     })
 
@@ -174,4 +174,4 @@ starts_unfinished s budget ls some e = subst (IsUnfinished s budget) (sym e) (re
 pub model_encodes : (s : SpecValue) (found : List EntryValue) (old : SolverValue) (order : List Literal) (values : List Bool) → IsSearching s found old
     → IsFirst (constraints_of old.given) order values → IsModel (encoding s) (bits_of values)
 model_encodes s found old order values h first =
-    models-front (bits_of values) (encoding s) (blocks_by (cover_frame s) old.log.lines) (subst (λ (cs : List Linear). IsModel cs (bits_of values)) h.given_are first.first.model)
+    models_front (bits_of values) (encoding s) (blocks_by (cover_frame s) old.log.lines) (subst (λ (cs : List Linear). IsModel cs (bits_of values)) h.given_are first.first.model)

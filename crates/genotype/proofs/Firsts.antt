@@ -60,7 +60,7 @@ own_place genes variables order j u d o within is lt =
     ]
 
 pub first_along : (genes : List GeneValue) (variables : ℕ) (order : List Literal) (v w : ℕ → Bool) → IsOrderOf genes variables order → length genes ≤ variables
-    → AgreeOn order v w ⊎ along.IsBefore order v w → ((k : ℕ) → k < length genes → v k ≡ w k) ⊎ IsBefore genes v w
+    → AgreeOn order v w ⊎ along.IsBeforeAlong order v w → ((k : ℕ) → k < length genes → v k ≡ w k) ⊎ IsBefore genes v w
 first_along genes variables order v w o fits (inl agree) = inl (λ k lt.
     let p = place_of order k o.each_once (omega (arith, o.len, lt, fits)) in
     let d : Literal = record { var = 0; yes = false } in

@@ -15,7 +15,7 @@ use Rattle.line_words.specs.declared.refusals.ReadFault.TheVariants as faults
 use Rattle.line_words.proofs.FirstLine.{lines-nil}
 use Rattle.line_words.proofs.Least.{Outcome, run-nil, run_is}
 use Rattle.file_bricks.specs.Headed.{after_header, end_after_header}
-use Rattle.file_bricks.proofs.Written.{IsWritten, IsLine, States, letter, word_line, line_parts, first_word, last_word, lines-line, line_states, goes_on, decimal_word, whole_of-decimal}
+use Rattle.file_bricks.proofs.Written.{IsWritten, IsLine, States, letter, word_line, line_parts, first_word, last_word, lines_line, line_states, goes_on, decimal_word, whole_of-decimal}
 use Rattle.spec_model.specs.Genotypes.{GeneValue, plain_gene, natural}
 use Rattle.genotype.specs.Genes.{HasPriority}
 use Rattle.genotype.specs.Spelling.{is_plain, phase_digit, gene_line, genes_text, genotype_text}
@@ -168,7 +168,7 @@ genes_read n (g ∷ rest) front number v head done len total few small least so_
           record {
             all = more.all;
             is = ap (λ (t : List ℕ). run (genotype_rules n) number (head ∷ done) (lines t)) text
-                ∙ ap (run (genotype_rules n) number (head ∷ done)) (lines-line (gene_body v g) (genes_text (v + 1) rest) (body_line v g small_v here))
+                ∙ ap (run (genotype_rules n) number (head ∷ done)) (lines_line (gene_body v g) (genes_text (v + 1) rest) (body_line v g small_v here))
                 ∙ goes_on (statement n) end number (head ∷ done) (gene_body v g) (lines (genes_text (v + 1) rest)) (gene_words v g) (gene_states v g small_v here) fine ∙ more.is;
             value = more.value ∙ append_assoc front (g ∷ []) rest;
           }
@@ -210,7 +210,7 @@ text_read genes few small =
     let more = genes_read n genes [] 2 0 head [] refl (omega arith) few small (omega arith) start in
     record {
       all = more.all;
-      is = ap (run (genotype_rules n) 1 []) (lines-line body (genes_text 0 genes) line) ∙ goes_on (statement n) end 1 [] body (lines (genes_text 0 genes)) ws states refl ∙ more.is;
+      is = ap (run (genotype_rules n) 1 []) (lines_line body (genes_text 0 genes) line) ∙ goes_on (statement n) end 1 [] body (lines (genes_text 0 genes)) ws states refl ∙ more.is;
       value = more.value;
     }
 

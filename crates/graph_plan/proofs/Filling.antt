@@ -8,7 +8,7 @@ use Rattle.spec_model.specs.Spec.{Name, SpecValue}
 use Rattle.spec_model.specs.WellFormed.{AreDistinct, IsPlan}
 use Rattle.tgff_reader.specs.Facts.{TgffValue, IsTgff, IsGraph, graph_index, task_count, arc_count}
 use Rattle.tgff_reader.specs.declared.file.Graph.{Graph}
-use Rattle.graph_plan.specs.Graphs.{name_in, task_in, arc_in, message_of, with_graph, with_graphs}
+use Rattle.graph_plan.specs.Graphs.{name_in, task_in, arc_in, planned_message, with_graph, with_graphs}
 use Rattle.graph_plan.specs.Room.{AreNew, HasRoom, IsReady}
 use Rattle.graph_plan.proofs.Naming.{same_name}
 
@@ -68,7 +68,7 @@ pushed clock old gs g p h = record {
   tasks_of = of_more (task_in g.index) (λ t. t.name) gs g p.tasks g.tasks (λ t. refl) (mapped (task_in g.index)) h.tasks_of;
   messages_of = of_more (arc_in g.index) (λ a. a.name) gs g p.message_names g.arcs (λ a. refl) (mapped (arc_in g.index)) h.messages_of;
   tasks = omega (arith, h.tasks, length-append p.tasks (map (task_in g.index) g.tasks), length-map g.tasks (task_in g.index), sum_by_push task_count gs g);
-  messages = omega (arith, h.messages, length-append p.messages (map (message_of (length p.tasks)) g.arcs), length-map g.arcs (message_of (length p.tasks)), sum_by_push arc_count gs g);
+  messages = omega (arith, h.messages, length-append p.messages (map (planned_message (length p.tasks)) g.arcs), length-map g.arcs (planned_message (length p.tasks)), sum_by_push arc_count gs g);
 }
 
 pub filled_more : (clock : ℕ) (old : SpecValue) (gs : List Graph) (i : ℕ) (g : Graph) (p new : SpecValue) → IsFilled clock old (take i gs) p → i < length gs → g ≡ get_or gs i g

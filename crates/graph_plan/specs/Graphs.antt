@@ -23,8 +23,8 @@ arc_in index arc = name_in index arc.name
 
 -- the message that an arc is, where so many tasks stand before those of its graph; its hop limit and its delay are
 -- those of a message for which none is stated
-abbrev pub message_of : ℕ → TgffArc → Message
-message_of first arc = record { sender = first + arc.from; receivers = (first + arc.to) ∷ []; limit = 2 ^ 63 - 1; delay = 0; quantity = 1 }
+abbrev pub planned_message : ℕ → TgffArc → Message
+planned_message first arc = record { sender = first + arc.from; receivers = (first + arc.to) ∷ []; limit = 2 ^ 63 - 1; delay = 0; quantity = 1 }
 
 -- the deadline at the clock's scale, cut toward zero; one below zero counts as 0, and one that is too big as the
 -- greatest number
@@ -36,7 +36,7 @@ abbrev pub with_graph : ℕ → SpecValue → Graph → SpecValue
 with_graph clock p g = record p {
   tasks = p.tasks ++ map (task_in g.index) g.tasks;
   message_names = p.message_names ++ map (arc_in g.index) g.arcs;
-  messages = p.messages ++ map (message_of (length p.tasks)) g.arcs;
+  messages = p.messages ++ map (planned_message (length p.tasks)) g.arcs;
   deadlines = p.deadlines ++ map (deadline_of clock (length p.tasks)) g.deadlines;
 }
 

@@ -17,12 +17,12 @@ pub record HasRoom (p : SpecValue) (g : Graph) : Type 0 where
   pub few_messages : length p.messages + length g.arcs ≤ most_messages
 
 -- a message of a task before a number
-abbrev pub IsBefore : ℕ → Message → Type 0
-IsBefore first m = m.sender < first
+abbrev pub SendsBefore : ℕ → Message → Type 0
+SendsBefore first m = m.sender < first
 
 -- a graph's tasks stand at the plan's end, and its arcs are to follow: no message so far is of these tasks
 pub record IsReady (first : ℕ) (p : SpecValue) (g : Graph) : Type 0 where
   pub tasks : length p.tasks ≡ first + length g.tasks
-  pub before : All (IsBefore first) p.messages
+  pub before : All (SendsBefore first) p.messages
   pub new : AreNew g.index p.message_names
   pub few : length p.messages + length g.arcs ≤ most_messages

@@ -6,7 +6,7 @@ ghost use Rattle.spec_graph.specs.Plan.{with_message};
 ghost use Rattle.spec_graph.specs.Refusals.{ClosesCycle};
 ghost use Rattle.spec_graph.specs.declared.faults.BuildFault.TheVariants.{NoMemory};
 ghost use Rattle.tgff_reader.specs.Facts.{IsName};
-ghost use Rattle.graph_plan.specs.Graphs.{task_in, arc_in, message_of, deadline_of};
+ghost use Rattle.graph_plan.specs.Graphs.{task_in, arc_in, planned_message, deadline_of};
 
 use crate::named::name_in;
 use arch_reader::at_scale;
@@ -59,9 +59,9 @@ pub(crate) fn add_arc(
     requires new { Contains plan.old.message_names (arc_in index arc.now) → ⊥ }
     requires from { first + arc.now.from < length plan.old.tasks }
     requires to { first + arc.now.to < length plan.old.tasks }
-    requires free { ClosesCycle plan.old (message_of first arc.now) → ⊥ }
+    requires free { ClosesCycle plan.old (planned_message first arc.now) → ⊥ }
     requires few { length plan.old.messages < most_messages }
-    ensures { OnOk result (plan.new ≡ with_message plan.old (arc_in index arc.now) (message_of first arc.now)) }
+    ensures { OnOk result (plan.new ≡ with_message plan.old (arc_in index arc.now) (planned_message first arc.now)) }
 {
     let name = name_in(alloc, index, arc.name.list())?;
     plan.facts();

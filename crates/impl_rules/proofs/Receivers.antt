@@ -30,6 +30,6 @@ passes t (x ∷ ts) c =
       | inr later ↦ or_right (has_number t x) (list_any (has_number t) ts) (passes t ts later)
     ]
 
-pub is_receiver-found : (t : ℕ) (ts : List TaskNo) (numbers : List ℕ) (answer : Bool) → map task_number ts ≡ numbers → answer ≡ list_any (has_number t) ts → (answer ≡ true) ↔ Contains numbers t
-is_receiver-found t ts numbers answer e is =
+pub is_receiver_found : (t : ℕ) (ts : List TaskNo) (numbers : List ℕ) (answer : Bool) → map task_number ts ≡ numbers → answer ≡ list_any (has_number t) ts → (answer ≡ true) ↔ Contains numbers t
+is_receiver_found t ts numbers answer e is =
     (λ h. rw (← e) (found t ts (sym is ∙ h)), λ c. is ∙ passes t ts (rw (← e) at c))

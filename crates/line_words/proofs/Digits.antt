@@ -13,9 +13,9 @@ pub own : IsNumeralModel (λ ds. list_all is_ascii_digit ds ≡ true) (digits_va
 own = numerals_by_value _ (search rules)
 
 -- digits that a u64 can't hold are too many for `whole`
-pub whole_of-unread : {E : Type 0} (word : List ℕ) (e : E) → is_digits word ≡ true → ParsesUnsigned 64 10 word (Err e) → whole_of word ≡ Err TooBig
+pub whole_of_unread : {E : Type 0} (word : List ℕ) (e : E) → is_digits word ≡ true → ParsesUnsigned 64 10 word (Err e) → whole_of word ≡ Err TooBig
 unfolding whole_of
-whole_of-unread {E} word e d h =
+whole_of_unread {E} word e d h =
     let parts = and_parts (ltb 0 (length word)) (list_all is_ascii_digit word) d in
     let some : 0 < length word = ltb-true 0 (length word) parts.0 in
     let not_read = parse_digits own 64 word (Err e) h parts.1 in

@@ -2,7 +2,7 @@
 use Rattle.std.proofs.Common.{◌≡◌, ℕ, zero, suc, ◌+◌, ◌<◌, ◌≤◌, Bool, true, false, List, [], ◌∷◌, length, refl, sym, ap, ◌∙◌, subst, arith, All, Any, Contains, Option, None, ⊎_elim}
 use Rattle.std.specs.Prelude.{ℤ}
 use Rattle.std.proofs.lemmas.List.Elements.{All-nil, All-cons, All-push, All-contains, All-weaker}
-use Rattle.names.specs.Names.{number_of}
+use Rattle.names.specs.Names.{number_by_name}
 use Rattle.spec_model.specs.Spec.{Name, Choice, name_at}
 use Rattle.arch_reader.specs.declared.statement.KeyAmount.{KeyAmount}
 use Rattle.arch_reader.specs.declared.statement.Statement.TheVariants.{Objective, Resource, Link, Traffic, Task, Map, Hops}
@@ -87,7 +87,7 @@ message_forward true r l t m k c i sender s few lt next low h =
     let from = task_number r l t m k c sender s (omega (arith, low, lt)) few h in
     let first = task_number r l t m k c i s lt few h in
     let second = task_number r l t m k c (i + 1) s (next refl) few h in
-    let N : Name → ℕ = number_of s.plan.tasks in
+    let N : Name → ℕ = number_by_name s.plan.tasks in
     let Above : ℕ → Type 0 = λ w. N (task_name sender) < w in
     record {
       rises = All-cons Above (N (task_name i)) (N (task_name (i + 1)) ∷ []) (omega (arith, from, first, low))
@@ -98,7 +98,7 @@ message_forward true r l t m k c i sender s few lt next low h =
 message_forward false r l t m k c i sender s few lt next low h =
     let from = task_number r l t m k c sender s (omega (arith, low, lt)) few h in
     let first = task_number r l t m k c i s lt few h in
-    let N : Name → ℕ = number_of s.plan.tasks in
+    let N : Name → ℕ = number_by_name s.plan.tasks in
     let Above : ℕ → Type 0 = λ w. N (task_name sender) < w in
     record {
       rises = All-cons Above (N (task_name i)) [] (omega (arith, from, first, low)) (All-nil Above);

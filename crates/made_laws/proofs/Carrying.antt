@@ -5,7 +5,7 @@ use Rattle.std.specs.List.{range_with_len, enumerate_from}
 use Rattle.std.proofs.lemmas.Bool.{and_parts, ltb-true}
 use Rattle.std.proofs.Math.Nat.{mod-lt}
 use Rattle.line_words.specs.Rules.{Words}
-use Rattle.genotype.specs.Draws.{below as draw}
+use Rattle.genotype.specs.Draws.{draw}
 use Rattle.arch_reader.specs.declared.statement.Statement.TheVariants.{Hops, Task}
 use Rattle.spec_join.specs.Joining.{Joining}
 use Rattle.spec_join.specs.Effects.{effect}

@@ -13,8 +13,8 @@ use Rattle.line_words.specs.declared.refusals.ReadFault.TheVariants.{Refused, No
 use Rattle.spec_model.specs.Spec.{SpecValue, below}
 use Rattle.arch_reader.specs.Shapes.{form_of, keyword_of, objective_form, settings_of, plain}
 use Rattle.arch_reader.specs.Seen.{seen}
-use Rattle.arch_reader.specs.Arch.{ArchValue, arch_rules, lines_in, stated, lines_of, statements_in}
-use Rattle.tgff_reader.specs.Tgff.{tgff_rules, stated as graphs_stated}
+use Rattle.arch_reader.specs.Arch.{ArchValue, arch_rules, lines_in, arch_stated, lines_of, statements_in}
+use Rattle.tgff_reader.specs.Tgff.{tgff_rules, graphs_stated}
 use Rattle.arch_reader.specs.declared.seen.Seen.{Seen}
 use Rattle.arch_reader.specs.declared.statement.Statement.TheVariants.{Objective}
 use Rattle.spec_join.specs.Joining.{Joining, start}
@@ -121,7 +121,7 @@ made_accepted number =
     let side = side_of number in
     let words = words_of_seed number in
     let read = made_read number in
-    let same : made_statements number ≡ lines_of (numbered 2 (later_lines side words)) = ap stated read.stated in
+    let same : made_statements number ≡ lines_of (numbered 2 (later_lines side words)) = ap arch_stated read.stated in
     subst (AreAccepted no_graphs) (sym same) (lines_accepted side words (some_side number) (few_side number) (words_small number))
 
 -- ---- what reading and joining answer
@@ -130,7 +130,7 @@ pub no_bytes : NoBytesAreNoGraphs
 no_bytes tgff reads = reads.1 ∙ ap (λ (ls : List (List ℕ)). graphs_stated (statements tgff_rules ls)) lines-nil
 
 not_refused : (number : ℕ) (reading : Result ArchValue ReadFault) → HasNoFault arch_rules (lines (made_text number))
-    → Reads files.Arch arch_rules lines_in stated (lines (made_text number)) reading
+    → Reads files.Arch arch_rules lines_in arch_stated (lines (made_text number)) reading
     → IsNoRefusal reading
 not_refused number (Ok file) whole reads = tt
 not_refused number (Err NoMemory) whole reads = tt

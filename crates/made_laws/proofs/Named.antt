@@ -7,7 +7,7 @@ use Rattle.std.proofs.lemmas.List.FromFn.{get_or-map-range_with_len, length-map-
 use Rattle.std.proofs.lemmas.List.Sums.{prefix_len_is}
 use Rattle.std.proofs.Math.Nat.{zero-add}
 use Rattle.file_bricks.proofs.Written.{whole_of-decimal}
-use Rattle.names.specs.Names.{number_of}
+use Rattle.names.specs.Names.{number_by_name}
 use Rattle.spec_model.specs.Spec.{Name, below}
 use Rattle.spec_make.specs.Made.{name}
 
@@ -37,7 +37,7 @@ new_name letter n few there =
     let same = name_number letter there.0 n (omega (arith, lt, few)) (omega (arith, few)) (sym (name_at letter n there.0 (name letter n) lt) ∙ there.2) in
     omega (arith, lt, same)
 
-pub number_of_name : (letter n i : ℕ) → i < n → n ≤ 100 → number_of (names letter n) (name letter i) ≡ i
+pub number_of_name : (letter n i : ℕ) → i < n → n ≤ 100 → number_by_name (names letter n) (name letter i) ≡ i
 number_of_name letter n i lt few =
     prefix_len_is (λ (x : Name). not (bytes_eq (name letter i) x)) (names letter n) i [] (omega (arith, names_long letter n, lt)) before here
   where

@@ -5,7 +5,7 @@ use Rattle.std.specs.List.{list_all, range_with_len, enumerate_from}
 use Rattle.std.proofs.lemmas.Bool.{and_parts, ltb-true}
 use Rattle.std.proofs.Math.Nat.{div-lt_iff_lt-mul, mod-lt}
 use Rattle.line_words.specs.Rules.{Words}
-use Rattle.genotype.specs.Draws.{below as draw}
+use Rattle.genotype.specs.Draws.{draw}
 use Rattle.spec_make.specs.Streams.{Stream, later, taking}
 use Rattle.spec_make.specs.Mesh.{resources_of, goes_to_two}
 use Rattle.spec_make.specs.Made.{resource_lines, task_words, message_lines, map_lines, option_words}

@@ -10,7 +10,7 @@ use Rattle.line_words.specs.Limits.{most_file_bytes}
 use Rattle.line_words.specs.Rules.{Words}
 use Rattle.spelled_lines.specs.Lines.{spelled}
 use Rattle.file_bricks.specs.Headed.{after_header, end_after_header}
-use Rattle.genotype.specs.Draws.{below as draw}
+use Rattle.genotype.specs.Draws.{draw}
 use Rattle.spec_model.specs.Spec.{below}
 use Rattle.arch_reader.specs.Shapes.{form_of, keyword_of, objective_form, settings_of}
 use Rattle.arch_reader.specs.Arch.{is_header, later as later_tests, at_end, arch_rules}

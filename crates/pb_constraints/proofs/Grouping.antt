@@ -40,10 +40,10 @@ pushed ps gs x z g h =
     }
 
 -- every group is below a variable beyond the last one
-closed-below : (gs : List Group) (x y : ℕ) (z : ℤ) → All (VarBelow x) gs → x < y → All (VarBelow y) (closed gs x z)
-closed-below gs x y (pos zero) a h = λ k d l. omega (arith, a k d l)
-closed-below gs x y (pos (suc n)) a h = All-push (VarBelow y) gs (record { var = x; sum = pos (suc n) }) (λ k d l. omega (arith, a k d l)) h
-closed-below gs x y (negsuc n) a h = All-push (VarBelow y) gs (record { var = x; sum = negsuc n }) (λ k d l. omega (arith, a k d l)) h
+closed_below : (gs : List Group) (x y : ℕ) (z : ℤ) → All (VarBelow x) gs → x < y → All (VarBelow y) (closed gs x z)
+closed_below gs x y (pos zero) a h = λ k d l. omega (arith, a k d l)
+closed_below gs x y (pos (suc n)) a h = All-push (VarBelow y) gs (record { var = x; sum = pos (suc n) }) (λ k d l. omega (arith, a k d l)) h
+closed_below gs x y (negsuc n) a h = All-push (VarBelow y) gs (record { var = x; sum = negsuc n }) (λ k d l. omega (arith, a k d l)) h
 
 -- one more part of the same variable
 pub grouping_more : (ps : List Part) (gs : List Group) (x : ℕ) (z : ℤ) (p : Part) (y : ℤ) → IsGrouping ps gs x z → p.lit.var ≡ x → y ≡ z +ℤ signed p → neg_ℤ (pos (2 ^ 63)) ≤ℤ signed p
@@ -87,7 +87,7 @@ grouping_next ps gs x z y g h l =
       small = a.small;
       small_last = l;
       rising = a.rising;
-      below = closed-below gs x y z g.below h;
+      below = closed_below gs x y z g.below h;
       same = λ q. omega (arith, ints, a.same q, none (q y));
       bound = omega (arith, a.bound);
     }

@@ -10,7 +10,7 @@ use Rattle.pb_rules.specs.Linear.{Linear, true_weight}
 use Rattle.pb_constraints.specs.declared.parts.Part.{Part}
 use Rattle.pb_constraints.specs.SignedSums.{sum_z, share, signed, is_var, signed_sum, on_negated, negated_sum, when_true, as_part}
 use Rattle.pb_constraints.specs.NormalForm.{or_zero, normal_degree, IsNormalOf, KeepsMeaning}
-use Rattle.pb_constraints.proofs.IntegerSums.{sum_z-plus}
+use Rattle.pb_constraints.proofs.IntegerSums.{sum_z_plus}
 
 -- a part's true coefficient is that of its negation and its share
 when_true_is : (v : ℕ → Bool) (p : Part) → when_true v p ≡ on_negated p +ℤ share v p
@@ -24,7 +24,7 @@ when_true_is v p = go p.lit.yes (v p.lit.var) p.coef
 
 -- the parts hold where the shares of the true variables reach the degree less the negated coefficients
 true_sum_is : (v : ℕ → Bool) (ps : List Part) → sum_z (when_true v) ps ≡ negated_sum ps +ℤ sum_z (share v) ps
-true_sum_is v ps = sum_z-plus (when_true v) on_negated (share v) (when_true_is v) ps
+true_sum_is v ps = sum_z_plus (when_true v) on_negated (share v) (when_true_is v) ps
 
 -- a term's coefficient is that of its part
 pub true_weight_is : (v : ℕ → Bool) (ts : List Term) → pos (true_weight v ts) ≡ sum_z (when_true v) (map as_part ts)

@@ -7,7 +7,7 @@ use Rattle.std.proofs.lemmas.List.Folds.{list_any_at}
 use Rattle.line_words.specs.Rules.{Words, said}
 use Rattle.pb_rules.specs.Linear.{Linear}
 use Rattle.pb_rules.specs.Operations.{Context, Fault, and_then}
-use Rattle.proof_words.specs.Words.{op_of, number_of}
+use Rattle.proof_words.specs.Words.{op_of, numeral_number}
 use Rattle.spelled_lines.specs.Lines.{is_empty}
 use Rattle.result_text.specs.Answers.{EntryValue, as_seen}
 use Rattle.result_text.specs.declared.entries.Entry.{Entry}
@@ -41,11 +41,11 @@ some_empty ws i d l e = sym (any_said is_empty ws ∙ list_any_at (λ (w : Lent)
 
 -- ---- numbers
 
-numbers_more : (ws : Words) (ns : List ℕ) (w : List ℕ) (n : ℕ) → numbers_of ws ≡ Some ns → number_of w ≡ Some n → numbers_of (ws ++ w ∷ []) ≡ Some (ns ++ n ∷ [])
+numbers_more : (ws : Words) (ns : List ℕ) (w : List ℕ) (n : ℕ) → numbers_of ws ≡ Some ns → numeral_number w ≡ Some n → numbers_of (ws ++ w ∷ []) ≡ Some (ns ++ n ∷ [])
 numbers_more [] ns w n e q =
     let none : [] ≡ ns = cc in
     ap (λ (o : Option ℕ). with_said o (Some [])) q ∙ ap (λ (ms : List ℕ). Some (ms ++ n ∷ [])) none
-numbers_more (v ∷ ws) ns w n e q = go (λ ms b. numbers_more ws ms w n b q) (number_of v) (numbers_of ws) refl e
+numbers_more (v ∷ ws) ns w n e q = go (λ ms b. numbers_more ws ms w n b q) (numeral_number v) (numbers_of ws) refl e
   where
     go : ((ms : List ℕ) → numbers_of ws ≡ Some ms → numbers_of (ws ++ w ∷ []) ≡ Some (ms ++ n ∷ [])) → (o : Option ℕ) (p : Option (List ℕ)) → numbers_of ws ≡ p → with_said o p ≡ Some ns
         → with_said o (numbers_of (ws ++ w ∷ [])) ≡ Some (ns ++ n ∷ [])
@@ -55,17 +55,17 @@ numbers_more (v ∷ ws) ns w n e q = go (λ ms b. numbers_more ws ms w n b q) (n
         let is : m ∷ ms ≡ ns = cc in
         ap (onto_said m) (ih ms b) ∙ ap (λ (ks : List ℕ). Some (ks ++ n ∷ [])) is
 
-pub number_taken : (ws : List Lent) (i : ℕ) (d : Lent) (ns next : List ℕ) (n : ℕ) → i < length ws → numbers_of (said (take i ws)) ≡ Some ns → number_of (get_or ws i d).now ≡ Some n
+pub number_taken : (ws : List Lent) (i : ℕ) (d : Lent) (ns next : List ℕ) (n : ℕ) → i < length ws → numbers_of (said (take i ws)) ≡ Some ns → numeral_number (get_or ws i d).now ≡ Some n
     → next ≡ ns ++ n ∷ []
     → numbers_of (said (take (i + 1) ws)) ≡ Some next
 number_taken ws i d ns next n l e q last =
     ap (λ (vs : List Lent). numbers_of (said vs)) (take_more ws i d l) ∙ ap numbers_of (map_push (λ (v : Lent). v.now) (take i ws) (get_or ws i d))
     ∙ (numbers_more (said (take i ws)) ns (get_or ws i d).now n e q ∙ ap (λ (ms : List ℕ). Some ms) (sym last))
 
-pub number_missing : (ws : List Lent) (i : ℕ) (d : Lent) → i < length ws → number_of (get_or ws i d).now ≡ None → numbers_of (said ws) ≡ None
+pub number_missing : (ws : List Lent) (i : ℕ) (d : Lent) → i < length ws → numeral_number (get_or ws i d).now ≡ None → numbers_of (said ws) ≡ None
 number_missing [] i d l q = absurd (omega arith)
 number_missing (v ∷ ws) zero d l q = ap (λ (o : Option ℕ). with_said o (numbers_of (said ws))) q
-number_missing (v ∷ ws) (suc i) d l q = ap (with_said (number_of v.now)) (number_missing ws i d (omega arith) q) ∙ go (number_of v.now)
+number_missing (v ∷ ws) (suc i) d l q = ap (with_said (numeral_number v.now)) (number_missing ws i d (omega arith) q) ∙ go (numeral_number v.now)
   where
     go : (o : Option ℕ) → with_said o None ≡ None
     go None = refl

@@ -13,7 +13,7 @@ use Rattle.pb_rules.specs.Linear.{Linear}
 use Rattle.pb_rules.specs.CuttingPlanes.{axiom_of}
 use Rattle.pb_rules.specs.Operations.{Fault, unknown, no_step, if_known}
 use Rattle.block_encode.specs.Laws.{KnowsBelow}
-use Rattle.proof_words.specs.Words.{op_text, op_of, number_of}
+use Rattle.proof_words.specs.Words.{op_text, op_of, numeral_number}
 use Rattle.proof_words.proofs.Spellings.{says}
 use Rattle.spelled_lines.proofs.Decimals.{decimal_word}
 use Rattle.front_model.specs.Judging.{judge_op}
@@ -41,10 +41,10 @@ op_is_text w bad = go (op_of w) refl
     go (Some op) e = (let s = says w op e in absurd (bad (subst IsUtf8 s.spelling (name_text (op_text op) (op_named op s.writable)))))
 
 -- and so is a numeral
-pub number_is_text : (w : List ℕ) → (IsUtf8 w → ⊥) → number_of w ≡ None
-number_is_text w bad = go (number_of w) refl
+pub number_is_text : (w : List ℕ) → (IsUtf8 w → ⊥) → numeral_number w ≡ None
+number_is_text w bad = go (numeral_number w) refl
   where
-    go : (o : Option ℕ) → number_of w ≡ o → o ≡ None
+    go : (o : Option ℕ) → numeral_number w ≡ o → o ≡ None
     go None e = refl
     go (Some n) e = (let t = numeral_text w n e in absurd (bad (subst IsUtf8 (sym t.0) (name_text _ (decimal_word n t.1)))))
 

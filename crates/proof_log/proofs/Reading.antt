@@ -9,7 +9,7 @@ use Rattle.line_words.specs.Rules.{Words}
 use Rattle.pb_rules.specs.declared.Op.{Op}
 use Rattle.pb_rules.specs.declared.Op.TheVariants.{Id, Axiom, Add, Times, Divide, Saturate, Weaken}
 use Rattle.pb_rules.specs.Frames.{Line, derived, cover, base_of}
-use Rattle.proof_words.specs.Words.{op_text, op_of, number_of, IsWritable}
+use Rattle.proof_words.specs.Words.{op_text, op_of, numeral_number, IsWritable}
 use Rattle.proof_words.specs.Lines.{line_text, derivation_words, cover_words}
 use Rattle.proof_words.specs.Legal.{IsWritableLine}
 use Rattle.proof_words.proofs.Spellings.{read_back}
@@ -28,7 +28,7 @@ use Rattle.proof_log.proofs.Pieces.{Cut, pieces_cut, pieces_join, joined_words}
 -- words say a line: `p` and its operations, or `c` and its numbers
 pub data SaysLine (ws : Words) : Line → Type 0 where
   says_derived : {ops : List Op} (later : Words) → ws ≡ codes "p" ∷ later → each_said op_of later ≡ Some ops → SaysLine ws (derived ops)
-  says_cover : {v : List ℕ} (later : Words) → ws ≡ codes "c" ∷ later → each_said number_of later ≡ Some v → SaysLine ws (cover v)
+  says_cover : {v : List ℕ} (later : Words) → ws ≡ codes "c" ∷ later → each_said numeral_number later ≡ Some v → SaysLine ws (cover v)
 
 derived_said : (ws later : Words) (l : Line) → ws ≡ codes "p" ∷ later → option_map derived (each_said op_of later) ≡ Some l → SaysLine ws l
 derived_said ws later l is e = go (each_said op_of later) refl e
@@ -37,10 +37,10 @@ derived_said ws later l is e = go (each_said op_of later) refl e
     go None q f = absurd cc
     go (Some ops) q f = let same : derived ops ≡ l = cc in subst (SaysLine ws) same (says_derived later is q)
 
-cover_said : (ws later : Words) (l : Line) → ws ≡ codes "c" ∷ later → option_map cover (each_said number_of later) ≡ Some l → SaysLine ws l
-cover_said ws later l is e = go (each_said number_of later) refl e
+cover_said : (ws later : Words) (l : Line) → ws ≡ codes "c" ∷ later → option_map cover (each_said numeral_number later) ≡ Some l → SaysLine ws l
+cover_said ws later l is e = go (each_said numeral_number later) refl e
   where
-    go : (o : Option (List ℕ)) → each_said number_of later ≡ o → option_map cover o ≡ Some l → SaysLine ws l
+    go : (o : Option (List ℕ)) → each_said numeral_number later ≡ o → option_map cover o ≡ Some l → SaysLine ws l
     go None q f = absurd cc
     go (Some v) q f = let same : cover v ≡ l = cc in subst (SaysLine ws) same (says_cover later is q)
 
@@ -48,7 +48,7 @@ words_say : (ws : Words) (l : Line) → line_said ws ≡ Some l → SaysLine ws 
 words_say [] l e = absurd cc
 words_say (k ∷ ws) l e = go (bytes_eq k (codes "p")) (bytes_eq k (codes "c")) refl refl e
   where
-    go : (a b : Bool) → bytes_eq k (codes "p") ≡ a → bytes_eq k (codes "c") ≡ b → cond a (option_map derived (each_said op_of ws)) (cond b (option_map cover (each_said number_of ws)) None)
+    go : (a b : Bool) → bytes_eq k (codes "p") ≡ a → bytes_eq k (codes "c") ≡ b → cond a (option_map derived (each_said op_of ws)) (cond b (option_map cover (each_said numeral_number ws)) None)
         ≡ Some l → SaysLine (k ∷ ws) l
     go true b p q f = derived_said (k ∷ ws) ws l (ap (λ (w : List ℕ). w ∷ ws) ((bytes_eq-Decides k (codes "p")).0 p)) f
     go false true p q f = cover_said (k ∷ ws) ws l (ap (λ (w : List ℕ). w ∷ ws) ((bytes_eq-Decides k (codes "c")).0 q)) f

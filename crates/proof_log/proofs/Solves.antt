@@ -10,7 +10,7 @@ use Rattle.pb_rules.specs.Operations.{small_number}
 use Rattle.pb_rules.specs.Clauses.{IsClause}
 use Rattle.pb_rules.specs.Honest.{AreHonest, IsUnabsorbed}
 use Rattle.pb_rules.specs.Frames.{Line, derived, cover, Frame, Given, base_of, with_block, given_by, given_from, blocks_by, derived_from, is_derived}
-use Rattle.pb_rules.proofs.Given.{given-append, given-front, given-cover, derived-append}
+use Rattle.pb_rules.proofs.Given.{given-append, given_front, given-cover, derived-append}
 use Rattle.proof_log.specs.HonestLog.{AreHonestLines, EndsASolve, AreHonestSolves}
 
 abbrev AllDerived : List Line → Type 0
@@ -18,17 +18,17 @@ AllDerived ls = All (λ l. is_derived l ≡ true) ls
 
 -- ---- lists cut in two ways
 
-take-past : (xs ys : List Line) (r : ℕ) → take (length xs + r) (xs ++ ys) ≡ xs ++ take r ys
-take-past [] ys r = let e : 0 + r ≡ r = omega arith in ap (λ (n : ℕ). take n ys) e
-take-past (x ∷ xs) ys r =
+take_past : (xs ys : List Line) (r : ℕ) → take (length xs + r) (xs ++ ys) ≡ xs ++ take r ys
+take_past [] ys r = let e : 0 + r ≡ r = omega arith in ap (λ (n : ℕ). take n ys) e
+take_past (x ∷ xs) ys r =
     let e : length (x ∷ xs) + r ≡ suc (length xs + r) = omega arith in
-    ap (λ (n : ℕ). take n (x ∷ (xs ++ ys))) e ∙ ap (λ (zs : List Line). x ∷ zs) (take-past xs ys r)
+    ap (λ (n : ℕ). take n (x ∷ (xs ++ ys))) e ∙ ap (λ (zs : List Line). x ∷ zs) (take_past xs ys r)
 
 -- the first of two lists, where the other cut ends later
 front_of : (a b c d : List Line) → a ++ b ≡ c ++ d → length c ≤ length a → a ≡ c ++ take (length a - length c) d
 front_of a b c d e l =
     let n : length c + (length a - length c) ≡ length a = omega (arith, l) in
-    sym (take-append-le (length a) a b (omega arith) ∙ take_all (length a) a (omega arith)) ∙ (ap (take (length a)) e ∙ (ap (λ (k : ℕ). take k (c ++ d)) (sym n) ∙ take-past c d (length a - length c)))
+    sym (take-append-le (length a) a b (omega arith) ∙ take_all (length a) a (omega arith)) ∙ (ap (take (length a)) e ∙ (ap (λ (k : ℕ). take k (c ++ d)) (sym n) ∙ take_past c d (length a - length c)))
 
 read_past : (a b : List Line) (i : ℕ) (d : Line) → length a ≤ i → get_or (a ++ b) i d ≡ get_or b (i - length a) d
 read_past a b i d l =
@@ -47,7 +47,7 @@ honest_front base cs ds h = record {
 
 pub lines_front : (f : Frame) (g : Given) (base : List Linear) (ls ms : List Line) → AreHonestLines f g base (ls ++ ms) → AreHonestLines f g base ls
 lines_front f g base ls ms h =
-    let front = given-front f g h.after ls ms h.legal in
+    let front = given_front f g h.after ls ms h.legal in
     record {
       derived_each = λ k d l. subst (λ (x : Line). is_derived x ≡ true) (get_or_append_left ls ms d k l) (h.derived_each k d (omega (arith, l, length-append ls ms)));
       after = front.0;

@@ -8,8 +8,8 @@ use Rattle.line_words.specs.Rules.{Words}
 use Rattle.line_words.specs.declared.numbers.NumberFault.{NumberFault}
 use Rattle.line_words.proofs.Plain.{decimal_when_read}
 use Rattle.pb_rules.specs.declared.Op.{Op}
-use Rattle.proof_words.specs.Words.{op_text, op_of, IsWritable, number_of}
-use Rattle.proof_words.proofs.Spellings.{says, number_of-decimal}
+use Rattle.proof_words.specs.Words.{op_text, op_of, IsWritable, numeral_number}
+use Rattle.proof_words.proofs.Spellings.{says, numeral_number-decimal}
 use Rattle.proof_log.specs.Files.{onto_said, with_said, each_said}
 
 -- ---- texts that say something one by one
@@ -80,7 +80,7 @@ pub op_text_of : (w : List ℕ) (op : Op) → op_of w ≡ Some op → (w ≡ op_
 op_text_of w op e = let s = says w op e in (sym s.spelling, s.writable)
 
 -- a numeral that is read is the one text of its number
-pub numeral_text : (w : List ℕ) (n : ℕ) → number_of w ≡ Some n → (w ≡ decimal n) × (n < 2 ^ 63)
+pub numeral_text : (w : List ℕ) (n : ℕ) → numeral_number w ≡ Some n → (w ≡ decimal n) × (n < 2 ^ 63)
 numeral_text w n e = go (plain_whole_of w) refl e
   where
     go : (r : Result ℕ NumberFault) → plain_whole_of w ≡ r → result_ok r ≡ Some n → (w ≡ decimal n) × (n < 2 ^ 63)
@@ -90,8 +90,8 @@ numeral_text w n e = go (plain_whole_of w) refl e
 abbrev IsSmall : ℕ → Type 0
 IsSmall n = n < 2 ^ 63
 
-pub numbers_text : (ws : Words) (v : List ℕ) → each_said number_of ws ≡ Some v → AreTexts decimal IsSmall ws v
-numbers_text ws v e = said_texts decimal number_of IsSmall numeral_text ws v e
+pub numbers_text : (ws : Words) (v : List ℕ) → each_said numeral_number ws ≡ Some v → AreTexts decimal IsSmall ws v
+numbers_text ws v e = said_texts decimal numeral_number IsSmall numeral_text ws v e
 
-pub numbers_back : (v : List ℕ) → All (λ n. n < 2 ^ 63) v → each_said number_of (map decimal v) ≡ Some v
-numbers_back v h = said_back decimal number_of IsSmall number_of-decimal v h
+pub numbers_back : (v : List ℕ) → All (λ n. n < 2 ^ 63) v → each_said numeral_number (map decimal v) ≡ Some v
+numbers_back v h = said_back decimal numeral_number IsSmall numeral_number-decimal v h

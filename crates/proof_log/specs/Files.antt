@@ -7,7 +7,7 @@ use Rattle.spelled_lines.specs.Lines.{pieces, lacks_lf, words_of, is_empty}
 use Rattle.pb_rules.specs.Literal.{Literal}
 use Rattle.pb_rules.specs.Frames.{Line, derived, cover, Frame, Given, given_by, derived_by}
 use Rattle.pb_rules.specs.Order.{ShowsFirst}
-use Rattle.proof_words.specs.Words.{op_of, number_of}
+use Rattle.proof_words.specs.Words.{op_of, numeral_number}
 use Rattle.proof_words.specs.Legal.{IsWritableLine}
 use Rattle.proof_log.specs.HonestLog.{IsHonestLog}
 use Rattle.proof_log.specs.Text.{header, proof_text}
@@ -35,7 +35,7 @@ abbrev pub line_said : Words → Option Line
 line_said [] = None
 line_said (k ∷ ws) =
     if bytes_eq k (codes "p") then option_map derived (each_said op_of ws)
-    else (if bytes_eq k (codes "c") then option_map cover (each_said number_of ws)
+    else (if bytes_eq k (codes "c") then option_map cover (each_said numeral_number ws)
     else None)
 
 -- the line of a piece of a text

@@ -11,10 +11,10 @@ use Rattle.pb_rules.specs.Linear.{Linear}
 use Rattle.pb_rules.specs.Operations.{Context, small_number, apply_all}
 use Rattle.pb_rules.specs.Frames.{Line, derived, cover, Frame, Given, context_of, given_from}
 use Rattle.pb_rules.proofs.Carried.{Carried, by_id, by_axiom, by_factor, by_divisor, by_weakening, carried, first_op, line_stack}
-use Rattle.pb_rules.proofs.Given.{Goes, by_ops, by_block, goes, first-line}
-use Rattle.proof_words.specs.Words.{op_text, op_of, number_of, IsWritable}
+use Rattle.pb_rules.proofs.Given.{Goes, by_ops, by_block, goes, first_line}
+use Rattle.proof_words.specs.Words.{op_text, op_of, numeral_number, IsWritable}
 use Rattle.proof_words.specs.Legal.{IsWritableLine, ReadsBack}
-use Rattle.proof_words.proofs.Spellings.{read_back, number_of-decimal}
+use Rattle.proof_words.proofs.Spellings.{read_back, numeral_number-decimal}
 
 -- an operation that was carried out can be written
 carried_is : (context : Context) (after : List Linear) (op : Op) (st : List Linear) → Carried context after op st → IsWritable op
@@ -51,7 +51,7 @@ line_is f g h (cover v) (by_block small is) = numbers_are v small
 pub lines_are : (f : Frame) (before after : Given) (ls : List Line) → given_from f before ls ≡ Some after → All IsWritableLine ls
 lines_are f before after [] e = All-nil IsWritableLine
 lines_are f before after (l ∷ ls) e =
-    let s = first-line f before after l ls e in
+    let s = first_line f before after l ls e in
     All-cons IsWritableLine l ls (line_is f before s.0 l (goes f before s.0 l s.1)) (lines_are f s.0 after ls s.2)
 
 -- what reads back one by one reads back as a list
@@ -62,4 +62,4 @@ each_back {X} write read P back (x ∷ xs) all =
 
 pub line_back : (l : Line) → IsWritableLine l → ReadsBack l
 line_back (derived ops) h = each_back op_text op_of IsWritable read_back ops h
-line_back (cover v) h = each_back decimal number_of (λ n. n < 2 ^ 63) number_of-decimal v h
+line_back (cover v) h = each_back decimal numeral_number (λ n. n < 2 ^ 63) numeral_number-decimal v h

@@ -4,7 +4,7 @@ use Rattle.std.specs.Prelude.{◌==◌, option_map}
 use Rattle.std.proofs.lemmas.Bool.{cases_Bool, eqb-true, eq-eqb}
 use Rattle.line_words.specs.Numbers.{plain_whole_of, whole_of}
 use Rattle.pb_rules.specs.declared.Op.TheVariants.{Id}
-use Rattle.proof_words.specs.Words.{after, number_of, op_of}
+use Rattle.proof_words.specs.Words.{after, numeral_number, op_of}
 
 abbrev some_rest : List ℕ → Option (List ℕ)
 some_rest rest = Some rest
@@ -47,12 +47,12 @@ pub record HasNoMark (word : List ℕ) : Type 0 where
   pub divide : after 47 word ≡ None
   pub weaken : after 119 word ≡ None
 
-empty_says : op_of [] ≡ option_map Id (number_of [])
+empty_says : op_of [] ≡ option_map Id (numeral_number [])
 unfolding plain_whole_of whole_of
 empty_says = refl
 
 -- then the word is a numeral, or nothing
-pub op_of-numeral : (word : List ℕ) → HasNoMark word → op_of word ≡ option_map Id (number_of word)
+pub op_of-numeral : (word : List ℕ) → HasNoMark word → op_of word ≡ option_map Id (numeral_number word)
 op_of-numeral [] h = empty_says
 op_of-numeral (b ∷ more) h =
     rw (

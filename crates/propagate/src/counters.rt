@@ -17,7 +17,7 @@ ghost use Rattle.constraint_store.specs.Live.{new_id};
 ghost use Rattle.trail_state.specs.Trail.{value_in};
 ghost use Rattle.propagate.specs.Attached.{Drops};
 ghost use Rattle.propagate.specs.Forced.{Appends, IsConflict};
-ghost use Rattle.propagate.specs.Counters.{IsQuiet, IsLimited, SlotsBelow, weight_at, TookRooms, GaveRooms, Woke, AreBuilt, AreInStep, AreGivenBack, AreSummed, AreDistinct, taken_off, counted_of, value_of, linear_at, attached_from, occurrences_of, weight_of, IsPut, IsMovedSlot, IsOneMoved, AreMoved, AreCleared};
+ghost use Rattle.propagate.specs.Counters.{IsQuiet, IsLimited, SlotsBelow, weight_at, TookRooms, GaveRooms, Woke, AreBuilt, AreInStep, AreGivenBack, AreSummed, AreDistinct, taken_off, counted_of, value_given, linear_at, attached_from, occurrences_of, weight_of, IsPut, IsMovedSlot, IsOneMoved, AreMoved, AreCleared};
 ghost use Rattle.propagate.specs.Flags.{is_waiting};
 
 use super::filling::{add_all, grow_empty, grow_literals, grow_zeros, remove_all, rename_all};
@@ -179,7 +179,7 @@ impl Counters {
     /// Takes counted literals off until so many are left, and gives what they took back to the rooms.
     fn give_back_to(&mut self, kept: usize)
         requires built { AreBuilt self.old }
-        requires step { AreInStep self.old (value_of (counted_of self.old)) }
+        requires step { AreInStep self.old (value_given (counted_of self.old)) }
         requires fewer { kept ≤ self.old.used }
         ensures built { AreBuilt self.new }
         ensures given { AreGivenBack (taken_off self.old.used self.new) self.new }
@@ -219,7 +219,7 @@ impl Counters {
         requires more { self.old.used ≤ top }
         requires there { top ≤ length self.old.lits.items }
         ensures built { AreBuilt self.new }
-        ensures step { AreInStep self.new (value_of (counted_of self.new)) }
+        ensures step { AreInStep self.new (value_given (counted_of self.new)) }
         ensures lits { self.new.lits ≡ self.old.lits }
         ensures used { self.new.used ≡ self.old.used }
         ensures slots { self.new.slots ≡ self.old.slots }
@@ -235,10 +235,10 @@ impl Counters {
     /// constraints that a literal was forced by then have room enough to stay quiet.
     pub fn uncount_to(&mut self, kept: usize)
         requires built { AreBuilt self.old }
-        requires step { AreInStep self.old (value_of (counted_of self.old)) }
+        requires step { AreInStep self.old (value_given (counted_of self.old)) }
         requires fewer { kept ≤ self.old.used }
         ensures built { AreBuilt self.new }
-        ensures step { AreInStep self.new (value_of (counted_of self.new)) }
+        ensures step { AreInStep self.new (value_given (counted_of self.new)) }
         ensures lits { self.new.lits ≡ self.old.lits }
         ensures used { self.new.used ≡ kept }
         ensures slots { self.new.slots ≡ self.old.slots }
@@ -316,9 +316,9 @@ impl Counters {
     /// Makes room for the slots below this number.
     fn make_slots(&mut self, count: usize) -> Result<(), AllocError>
         requires built { AreBuilt self.old }
-        requires step { AreInStep self.old (value_of (counted_of self.old)) }
+        requires step { AreInStep self.old (value_given (counted_of self.old)) }
         ensures built { AreBuilt self.new }
-        ensures step { AreInStep self.new (value_of (counted_of self.new)) }
+        ensures step { AreInStep self.new (value_given (counted_of self.new)) }
         ensures lits { self.new.lits ≡ self.old.lits }
         ensures used { self.new.used ≡ self.old.used }
         ensures variables { self.new.variables ≡ self.old.variables }
@@ -335,13 +335,13 @@ impl Counters {
     /// Puts a constraint into a slot that is there and empty.
     fn fill(&mut self, slot: usize, c: Ranked, trail: &Trail) -> Result<(), AllocError>
         requires built { AreBuilt self.old }
-        requires step { AreInStep self.old (value_of (counted_of self.old)) }
+        requires step { AreInStep self.old (value_given (counted_of self.old)) }
         requires here { slot < length self.old.slots.items }
         requires free { slice_index_or self.old.slots.items slot None ≡ None }
         requires in_range { VarsBelow self.old.variables c.terms }
         requires counted { counted_of self.old ≡ map (λ e. e.lit) trail.now.entries }
         ensures built { AreBuilt self.new }
-        ensures step { AreInStep self.new (value_of (counted_of self.new)) }
+        ensures step { AreInStep self.new (value_given (counted_of self.new)) }
         ensures lits { self.new.lits ≡ self.old.lits }
         ensures used { self.new.used ≡ self.old.used }
         ensures variables { self.new.variables ≡ self.old.variables }
@@ -359,7 +359,7 @@ impl Counters {
     /// None for no variable.
     pub fn new(alloc: Global) -> Result<Counters, AllocError>
         ensures built { IfOk result AreBuilt }
-        ensures step { IfOk result (λ c. AreInStep c (value_of (counted_of c))) }
+        ensures step { IfOk result (λ c. AreInStep c (value_given (counted_of c))) }
         ensures empty { IfOk result (λ c. c.slots.items ≡ []) }
         ensures counted { IfOk result (λ c. counted_of c ≡ []) }
         ensures variables { IfOk result (λ c. c.variables ≡ 0) }
@@ -379,11 +379,11 @@ impl Counters {
     /// Makes room for so many variables.
     pub fn grow(&mut self, variables: u64) -> Result<(), AllocError>
         requires built { AreBuilt self.old }
-        requires step { AreInStep self.old (value_of (counted_of self.old)) }
+        requires step { AreInStep self.old (value_given (counted_of self.old)) }
         requires more { self.old.variables ≤ variables }
         requires few { variables < 2 ^ 62 }
         ensures built { AreBuilt self.new }
-        ensures step { AreInStep self.new (value_of (counted_of self.new)) }
+        ensures step { AreInStep self.new (value_given (counted_of self.new)) }
         ensures slots { self.new.slots ≡ self.old.slots }
         ensures counted { counted_of self.new ≡ counted_of self.old }
         ensures ok { OnOk result (self.new.variables ≡ variables) }
@@ -405,7 +405,7 @@ impl Counters {
     /// Puts a constraint into an empty slot. An `Err` leaves what is attached and what is counted.
     pub fn attach(&mut self, slot: usize, c: Ranked, trail: &Trail) -> Result<(), AllocError>
         requires built { AreBuilt self.old }
-        requires step { AreInStep self.old (value_of (counted_of self.old)) }
+        requires step { AreInStep self.old (value_given (counted_of self.old)) }
         requires variables { self.old.variables ≡ trail.now.variables }
         requires counted { counted_of self.old ≡ take self.old.used (map (λ e. e.lit) trail.now.entries) }
         requires used { self.old.used ≤ length trail.now.entries }
@@ -413,7 +413,7 @@ impl Counters {
         requires free { slice_index_or self.old.slots.items slot None ≡ None }
         requires in_range { VarsBelow self.old.variables c.terms }
         ensures built { AreBuilt self.new }
-        ensures step { AreInStep self.new (value_of (counted_of self.new)) }
+        ensures step { AreInStep self.new (value_given (counted_of self.new)) }
         ensures variables { self.new.variables ≡ self.old.variables }
         ensures counted { counted_of self.new ≡ take self.new.used (map (λ e. e.lit) trail.now.entries) }
         ensures ok { OnOk result (IsPut slot (Some c) self.old.slots.items self.new.slots.items) }
@@ -435,9 +435,9 @@ impl Counters {
     /// Takes out what stands in a slot.
     pub fn empty(&mut self, slot: usize)
         requires built { AreBuilt self.old }
-        requires step { AreInStep self.old (value_of (counted_of self.old)) }
+        requires step { AreInStep self.old (value_given (counted_of self.old)) }
         ensures built { AreBuilt self.new }
-        ensures step { AreInStep self.new (value_of (counted_of self.new)) }
+        ensures step { AreInStep self.new (value_given (counted_of self.new)) }
         ensures lits { self.new.lits ≡ self.old.lits }
         ensures used { self.new.used ≡ self.old.used }
         ensures variables { self.new.variables ≡ self.old.variables }
@@ -485,9 +485,9 @@ impl Counters {
     /// Takes out what stands in the slots of ids, by one pass over all lists of occurrences.
     pub fn empty_each(&mut self, dropped: &[ConId])
         requires built { AreBuilt self.old }
-        requires step { AreInStep self.old (value_of (counted_of self.old)) }
+        requires step { AreInStep self.old (value_given (counted_of self.old)) }
         ensures built { AreBuilt self.new }
-        ensures step { AreInStep self.new (value_of (counted_of self.new)) }
+        ensures step { AreInStep self.new (value_given (counted_of self.new)) }
         ensures lits { self.new.lits ≡ self.old.lits }
         ensures used { self.new.used ≡ self.old.used }
         ensures variables { self.new.variables ≡ self.old.variables }
@@ -500,12 +500,12 @@ impl Counters {
     /// Moves what stands in a slot to a lower one, which is empty.
     fn move_to(&mut self, from: usize, to: usize)
         requires built { AreBuilt self.old }
-        requires step { AreInStep self.old (value_of (counted_of self.old)) }
+        requires step { AreInStep self.old (value_given (counted_of self.old)) }
         requires apart { to < from }
         requires here { from < length self.old.slots.items }
         requires free { slice_index_or self.old.slots.items to None ≡ None }
         ensures built { AreBuilt self.new }
-        ensures step { AreInStep self.new (value_of (counted_of self.new)) }
+        ensures step { AreInStep self.new (value_given (counted_of self.new)) }
         ensures lits { self.new.lits ≡ self.old.lits }
         ensures used { self.new.used ≡ self.old.used }
         ensures variables { self.new.variables ≡ self.old.variables }
@@ -525,11 +525,11 @@ impl Counters {
     /// Moves what stands in a slot where its id goes, or takes it out where that goes to none.
     fn remap_one(&mut self, slot: usize, moves: &Moves)
         requires built { AreBuilt self.old }
-        requires step { AreInStep self.old (value_of (counted_of self.old)) }
+        requires step { AreInStep self.old (value_given (counted_of self.old)) }
         requires here { slot < length self.old.slots.items }
         requires free { (d : ConId) → new_id moves.now (record { 0 = slot }) ≡ Some d → d ≢ record { 0 = slot } → slice_index_or self.old.slots.items d.0 None ≡ None }
         ensures built { AreBuilt self.new }
-        ensures step { AreInStep self.new (value_of (counted_of self.new)) }
+        ensures step { AreInStep self.new (value_given (counted_of self.new)) }
         ensures lits { self.new.lits ≡ self.old.lits }
         ensures used { self.new.used ≡ self.old.used }
         ensures variables { self.new.variables ≡ self.old.variables }
@@ -549,9 +549,9 @@ impl Counters {
     /// Moves what stands in each slot where its id goes.
     pub fn remap(&mut self, moves: &Moves)
         requires built { AreBuilt self.old }
-        requires step { AreInStep self.old (value_of (counted_of self.old)) }
+        requires step { AreInStep self.old (value_given (counted_of self.old)) }
         ensures built { AreBuilt self.new }
-        ensures step { AreInStep self.new (value_of (counted_of self.new)) }
+        ensures step { AreInStep self.new (value_given (counted_of self.new)) }
         ensures lits { self.new.lits ≡ self.old.lits }
         ensures used { self.new.used ≡ self.old.used }
         ensures variables { self.new.variables ≡ self.old.variables }

@@ -1,6 +1,6 @@
 //! The occurrences of a whole constraint: put in, taken out and renamed. And lists that get longer.
 ghost use Rattle.std.specs.Prelude.{◌≡◌, ◌<◌, ◌≤◌, ◌⊎◌, ℕ, [], All, take, length, slice_index_or, None, OnOk, OnErr};
-ghost use Rattle.propagate.specs.Counters.{number_of, weight_at, weight_of, occurrences_of, Added, Removed, Renamed, attached_from};
+ghost use Rattle.propagate.specs.Counters.{literal_number, weight_at, weight_of, occurrences_of, Added, Removed, Renamed, attached_from};
 
 use super::occurrences::{Occurrence, Occurrences};
 use super::ranked::Ranked;
@@ -9,7 +9,7 @@ use std::alloc::AllocError;
 
 /// Takes out the occurrences of a slot, which are among those of terms.
 pub fn remove_all(lists: &mut Occurrences, terms: &[Term], slot: usize)
-    requires in_range { All (λ t. number_of t.lit < length lists.old) terms.now }
+    requires in_range { All (λ t. literal_number t.lit < length lists.old) terms.now }
     requires few { (k : ℕ) → weight_at slot (occurrences_of lists.old k) ≤ weight_of k terms.now }
     ensures { Removed slot [] lists.old lists.new }
 {
@@ -20,7 +20,7 @@ pub fn remove_all(lists: &mut Occurrences, terms: &[Term], slot: usize)
 
 /// Puts in the occurrences of terms for a slot, which has none. An `Err` leaves it none.
 pub fn add_all(lists: &mut Occurrences, terms: &[Term], slot: usize) -> Result<(), AllocError>
-    requires in_range { All (λ t. number_of t.lit < length lists.old) terms.now }
+    requires in_range { All (λ t. literal_number t.lit < length lists.old) terms.now }
     requires none { (k : ℕ) → weight_at slot (occurrences_of lists.old k) ≡ 0 }
     ensures ok { OnOk result (Added slot terms.now lists.old lists.new) }
     ensures err { OnErr result (Added slot [] lists.old lists.new) }
@@ -75,7 +75,7 @@ pub fn grow_literals(lits: &mut Vec<Lit>, count: usize) -> Result<(), AllocError
 
 /// Makes the occurrences of one slot, which are among those of terms, those of another, which has none.
 pub fn rename_all(lists: &mut Occurrences, terms: &[Term], from: usize, to: usize)
-    requires in_range { All (λ t. number_of t.lit < length lists.old) terms.now }
+    requires in_range { All (λ t. literal_number t.lit < length lists.old) terms.now }
     requires apart { to < from }
     requires few { (k : ℕ) → weight_at from (occurrences_of lists.old k) ≤ weight_of k terms.now }
     requires none { (k : ℕ) → weight_at to (occurrences_of lists.old k) ≡ 0 }

@@ -6,13 +6,13 @@ use Rattle.std.specs.Str.{bytes_eq}
 use Rattle.std.proofs.lemmas.Bool.{cases_Bool, lt-ltb, ltb-true, eqb-true, and_parts, eq-eqb}
 use Rattle.std.proofs.lemmas.List.Sums.{position_or_len_is, passes_at_first}
 use Rattle.std.proofs.lemmas.Slice.Eq.{bytes_eq-Decides}
-use Rattle.names.specs.Names.{number_of}
+use Rattle.names.specs.Names.{number_by_name}
 use Rattle.spec_model.specs.Spec.{Name, Arc, name_at}
 use Rattle.spec_model.specs.WellFormed.{AreDistinct, AreArcsDistinct}
 use Rattle.result_text.specs.Stating.{is_name, is_arc_of}
 
 -- the number of the name at a place
-pub number_of_name : (names : List Name) (i : ℕ) → AreDistinct names → i < length names → number_of names (name_at names i) ≡ i
+pub number_of_name : (names : List Name) (i : ℕ) → AreDistinct names → i < length names → number_by_name names (name_at names i) ≡ i
 number_of_name names i distinct lt =
     position_or_len_is (bytes_eq (name_at names i)) names i [] (omega (arith, lt)) earlier (λ _. (bytes_eq-Decides (name_at names i) (name_at names i)).1 refl)
   where
@@ -24,17 +24,17 @@ number_of_name names i distinct lt =
         ]
 
 pub known_name : (names : List Name) (i : ℕ) → AreDistinct names → i < length names → is_name names (name_at names i) ≡ true
-known_name names i distinct lt = lt-ltb (number_of names (name_at names i)) (length names) (omega (arith, lt, number_of_name names i distinct lt))
+known_name names i distinct lt = lt-ltb (number_by_name names (name_at names i)) (length names) (omega (arith, lt, number_of_name names i distinct lt))
 
 -- the name at the number of a word
-pub name_of_number : (names : List Name) (word : List ℕ) → is_name names word ≡ true → name_at names (number_of names word) ≡ word
+pub name_of_number : (names : List Name) (word : List ℕ) → is_name names word ≡ true → name_at names (number_by_name names word) ≡ word
 name_of_number names word t =
-    let n = number_of names word in
+    let n = number_by_name names word in
     let lt : n < length names = ltb-true n (length names) t in
     sym ((bytes_eq-Decides word (get_or names n [])).0 (passes_at_first (bytes_eq word) names [] lt))
 
-pub known_lt : (names : List Name) (word : List ℕ) → is_name names word ≡ true → number_of names word < length names
-known_lt names word t = ltb-true (number_of names word) (length names) t
+pub known_lt : (names : List Name) (word : List ℕ) → is_name names word ≡ true → number_by_name names word < length names
+known_lt names word t = ltb-true (number_by_name names word) (length names) t
 
 -- ---- arcs
 

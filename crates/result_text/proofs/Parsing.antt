@@ -10,7 +10,7 @@ use Rattle.line_words.specs.Numbers.{plain_whole_of}
 use Rattle.line_words.specs.Rules.{Words, first_broken}
 use Rattle.line_words.proofs.Digits.{own}
 use Rattle.line_words.proofs.Plain.{plain_whole_of-decimal}
-use Rattle.names.specs.Names.{IsName, number_of}
+use Rattle.names.specs.Names.{IsName, number_by_name}
 use Rattle.spec_model.specs.Spec.{SpecValue, Arc, Choice, Name, name_at, option_at, arc_at, arc_var, resource_var, link_var, design_variables, choice}
 use Rattle.spec_model.specs.WellFormed.{IsWellFormed, AreDistinct}
 use Rattle.result_text.specs.Spelling.{bind_words, use_words, alloc_words, wire_words, item_words, vector_words}
@@ -45,7 +45,7 @@ no_option = choice 0 0 0
 abbrev no_arc : Arc
 no_arc = record { link = 0; tail = 0; head = 0 }
 
-bind_fine : (s : SpecValue) (t r n : List ℕ) (task resource o : ℕ) → plain_whole_of n ≡ Ok o → number_of s.tasks t ≡ task → number_of s.resources r ≡ resource → task < length s.tasks
+bind_fine : (s : SpecValue) (t r n : List ℕ) (task resource o : ℕ) → plain_whole_of n ≡ Ok o → number_by_name s.tasks t ≡ task → number_by_name s.resources r ≡ resource → task < length s.tasks
     → resource < length s.resources
     → o < length s.options → (option_at s o).task ≡ task → (option_at s o).resource ≡ resource → (first_broken (bind_tests s t r n) ≡ None) × (number_in n ≡ o)
 bind_fine s t r n task resource o number et er lt lr lo ot or = (
@@ -80,16 +80,16 @@ bind_read s w h o lt =
       variable = fine.1;
     }
 
-use_fine : (s : SpecValue) (m l p q : List ℕ) (message a : ℕ) → number_of s.message_names m ≡ message → message < length s.message_names
-    → number_of s.links l < length s.links → number_of s.resources p < length s.resources → number_of s.resources q < length s.resources → arc_number s l p q ≡ a → a < length s.arcs
-    → (first_broken (use_tests s m l p q) ≡ None) × (arc_var s (number_of s.message_names m) (arc_number s l p q) ≡ arc_var s message a)
+use_fine : (s : SpecValue) (m l p q : List ℕ) (message a : ℕ) → number_by_name s.message_names m ≡ message → message < length s.message_names
+    → number_by_name s.links l < length s.links → number_by_name s.resources p < length s.resources → number_by_name s.resources q < length s.resources → arc_number s l p q ≡ a → a < length s.arcs
+    → (first_broken (use_tests s m l p q) ≡ None) × (arc_var s (number_by_name s.message_names m) (arc_number s l p q) ≡ arc_var s message a)
 use_fine s m l p q message a em lm ll lp lq ea la = (
   rw (
     em,
     lt-ltb message (length s.message_names) lm,
-    lt-ltb (number_of s.links l) (length s.links) ll,
-    lt-ltb (number_of s.resources p) (length s.resources) lp,
-    lt-ltb (number_of s.resources q) (length s.resources) lq,
+    lt-ltb (number_by_name s.links l) (length s.links) ll,
+    lt-ltb (number_by_name s.resources p) (length s.resources) lp,
+    lt-ltb (number_by_name s.resources q) (length s.resources) lq,
     ea,
     lt-leb (length s.arcs) a la,
   ) refl,

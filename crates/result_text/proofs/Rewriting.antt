@@ -14,11 +14,11 @@ use Rattle.line_words.specs.declared.numbers.NumberFault.TheVariants.{BadNumber,
 use Rattle.line_words.specs.declared.refusals.Why.TheVariants as whys
 use Rattle.line_words.proofs.Plain.{decimal_when_read}
 use Rattle.line_words.proofs.Whys.{some, none}
-use Rattle.names.specs.Names.{number_of}
+use Rattle.names.specs.Names.{number_by_name}
 use Rattle.spec_model.specs.Spec.{SpecValue, Arc, name_at, option_at, arc_at, arc_var, resource_var, link_var, design_variables}
 use Rattle.spec_model.specs.WellFormed.{IsWellFormed}
 use Rattle.result_text.specs.Spelling.{item_words}
-use Rattle.result_text.specs.Stating.{is_no_number, is_too_big, is_past, value_of, is_name, is_option_of, is_arc_of, arc_number, bind_tests, use_tests, name_tests, misshapen, item_tests, item_variable, vector_tests, no_number, too_big, number_in}
+use Rattle.result_text.specs.Stating.{is_no_number, is_too_big, is_past, number_given, is_name, is_option_of, is_arc_of, arc_number, bind_tests, use_tests, name_tests, misshapen, item_tests, item_variable, vector_tests, no_number, too_big, number_in}
 use Rattle.result_text.proofs.ItemWords.{item_option, item_arc, item_resource, item_link}
 use Rattle.result_text.proofs.Numbering.{name_of_number, known_lt, arc_passes}
 use Rattle.result_text.proofs.Parsing.{AreSmall}
@@ -49,7 +49,7 @@ misshapen_not e = let c : some whys.BadStatement ≡ none = e in cc
 abbrev ok : ℕ → Result ℕ NumberFault
 ok n = Ok n
 
-number_ok : (m : Result ℕ NumberFault) → is_no_number m ≡ false → is_too_big m ≡ false → m ≡ ok (value_of m)
+number_ok : (m : Result ℕ NumberFault) → is_no_number m ≡ false → is_too_big m ≡ false → m ≡ ok (number_given m)
 number_ok (Ok n) a b = refl
 number_ok (Err BadNumber) a b = absurd (let c : true ≡ false = a in cc)
 number_ok (Err TooBig) a b = absurd (let c : true ≡ false = b in cc)
@@ -61,28 +61,31 @@ pub record IsItemOf (s : SpecValue) (ws : Words) (v : ℕ) : Type 0 where
   pub there : v < design_variables s
   pub words : ws ≡ item_words s v
 
-bind_back : (s : SpecValue) (t r n : List ℕ) → first_broken (bind_tests s t r n) ≡ None → IsItemOf s (codes "bind" ∷ t ∷ r ∷ n ∷ []) (value_of (plain_whole_of n))
+bind_back : (s : SpecValue) (t r n : List ℕ) → first_broken (bind_tests s t r n) ≡ None → IsItemOf s (codes "bind" ∷ t ∷ r ∷ n ∷ []) (number_given (plain_whole_of n))
 bind_back s t r n e =
     let m = plain_whole_of n in
-    let o = value_of m in
+    let o = number_given m in
     let known_t = not (is_name s.tasks t) in
     let known_r = not (is_name s.resources r) in
     let past = is_past (length s.options) m in
     let a = none_of (whys.BadNumber, is_no_number m) ((whys.UnknownName, known_t || known_r || past) ∷ (whys.TooBig, is_too_big m)
-    ∷ (whys.WrongBinding, not (is_option_of s (number_of s.tasks t) (number_of s.resources r) o)) ∷ []) e in
-    let b = none_of (whys.UnknownName, known_t || known_r || past) ((whys.TooBig, is_too_big m) ∷ (whys.WrongBinding, not (is_option_of s (number_of s.tasks t) (number_of s.resources r) o)) ∷ [])
+    ∷ (whys.WrongBinding, not (is_option_of s (number_by_name s.tasks t) (number_by_name s.resources r) o)) ∷ []) e in
+    let b = none_of (whys.UnknownName, known_t || known_r || past) ((whys.TooBig, is_too_big m) ∷ (
+      whys.WrongBinding,
+      not (is_option_of s (number_by_name s.tasks t) (number_by_name s.resources r) o),
+    ) ∷ [])
     a.1 in
-    let d = none_of (whys.TooBig, is_too_big m) ((whys.WrongBinding, not (is_option_of s (number_of s.tasks t) (number_of s.resources r) o)) ∷ []) b.1 in
-    let w = none_of (whys.WrongBinding, not (is_option_of s (number_of s.tasks t) (number_of s.resources r) o)) [] d.1 in
+    let d = none_of (whys.TooBig, is_too_big m) ((whys.WrongBinding, not (is_option_of s (number_by_name s.tasks t) (number_by_name s.resources r) o)) ∷ []) b.1 in
+    let w = none_of (whys.WrongBinding, not (is_option_of s (number_by_name s.tasks t) (number_by_name s.resources r) o)) [] d.1 in
     let outer = or_parts (known_t || known_r) past b.0 in
     let inner = or_parts known_t known_r outer.0 in
     let number : m ≡ ok o = number_ok m a.0 d.0 in
     let text = decimal_when_read n o number in
     let within : leb (length s.options) o ≡ false = sym (ap (is_past (length s.options)) number) ∙ outer.1 in
     let lt : o < length s.options = leb-false (length s.options) o within in
-    let option = and_parts ((option_at s o).task == number_of s.tasks t) ((option_at s o).resource == number_of s.resources r) (not-false _ w.0) in
-    let task : name_at s.tasks (option_at s o).task ≡ t = ap (name_at s.tasks) (eqb-true (option_at s o).task (number_of s.tasks t) option.0) ∙ name_of_number s.tasks t (not-false _ inner.0) in
-    let resource : name_at s.resources (option_at s o).resource ≡ r = ap (name_at s.resources) (eqb-true (option_at s o).resource (number_of s.resources r) option.1)
+    let option = and_parts ((option_at s o).task == number_by_name s.tasks t) ((option_at s o).resource == number_by_name s.resources r) (not-false _ w.0) in
+    let task : name_at s.tasks (option_at s o).task ≡ t = ap (name_at s.tasks) (eqb-true (option_at s o).task (number_by_name s.tasks t) option.0) ∙ name_of_number s.tasks t (not-false _ inner.0) in
+    let resource : name_at s.resources (option_at s o).resource ≡ r = ap (name_at s.resources) (eqb-true (option_at s o).resource (number_by_name s.resources r) option.1)
     ∙ name_of_number s.resources r (not-false _ inner.1) in
     record {
       there = omega (arith, lt);
@@ -93,13 +96,13 @@ abbrev no_arc : Arc
 no_arc = record { link = 0; tail = 0; head = 0 }
 
 use_back : (s : SpecValue) → IsWellFormed s → (m l p q : List ℕ) → first_broken (use_tests s m l p q) ≡ None
-    → IsItemOf s (codes "use" ∷ m ∷ l ∷ p ∷ q ∷ []) (arc_var s (number_of s.message_names m) (arc_number s l p q))
+    → IsItemOf s (codes "use" ∷ m ∷ l ∷ p ∷ q ∷ []) (arc_var s (number_by_name s.message_names m) (arc_number s l p q))
 use_back s w m l p q e =
     let known_m = not (is_name s.message_names m) in
     let known_l = not (is_name s.links l) in
     let known_p = not (is_name s.resources p) in
     let known_q = not (is_name s.resources q) in
-    let message = number_of s.message_names m in
+    let message = number_by_name s.message_names m in
     let a = arc_number s l p q in
     let x = none_of (whys.UnknownName, known_m || known_l || known_p || known_q) ((whys.WrongBinding, leb (length s.arcs) a) ∷ []) e in
     let y = none_of (whys.WrongBinding, leb (length s.arcs) a) [] x.1 in
@@ -108,8 +111,8 @@ use_back s w m l p q e =
     let one = or_parts known_m known_l two.0 in
     let lt : a < length s.arcs = leb-false (length s.arcs) a y.0 in
     let there : message < length s.messages = omega (arith, known_lt s.message_names m (not-false _ one.0), w.plan.named) in
-    let is = arc_passes (number_of s.links l) (number_of s.resources p) (number_of s.resources q) (arc_at s a)
-    (passes_at_first (is_arc_of (number_of s.links l) (number_of s.resources p) (number_of s.resources q)) s.arcs no_arc lt) in
+    let is = arc_passes (number_by_name s.links l) (number_by_name s.resources p) (number_by_name s.resources q) (arc_at s a)
+    (passes_at_first (is_arc_of (number_by_name s.links l) (number_by_name s.resources p) (number_by_name s.resources q)) s.arcs no_arc lt) in
     let link : name_at s.links (arc_at s a).link ≡ l = ap (name_at s.links) is.link ∙ name_of_number s.links l (not-false _ one.1) in
     let tail : name_at s.resources (arc_at s a).tail ≡ p = ap (name_at s.resources) is.tail ∙ name_of_number s.resources p (not-false _ two.1) in
     let head : name_at s.resources (arc_at s a).head ≡ q = ap (name_at s.resources) is.head ∙ name_of_number s.resources q (not-false _ three.1) in
@@ -120,24 +123,24 @@ use_back s w m l p q e =
       words = sym (item_arc s message a there lt ∙ rw (name, link, tail, head) refl);
     }
 
-alloc_back : (s : SpecValue) (r : List ℕ) → first_broken (name_tests s.resources r) ≡ None → IsItemOf s (codes "alloc" ∷ r ∷ []) (resource_var s (number_of s.resources r))
+alloc_back : (s : SpecValue) (r : List ℕ) → first_broken (name_tests s.resources r) ≡ None → IsItemOf s (codes "alloc" ∷ r ∷ []) (resource_var s (number_by_name s.resources r))
 alloc_back s r e =
     let x = none_of (whys.UnknownName, not (is_name s.resources r)) [] e in
     let known = not-false _ x.0 in
     let lt = known_lt s.resources r known in
     record {
       there = omega (arith, lt);
-      words = sym (item_resource s (number_of s.resources r) lt ∙ rw (name_of_number s.resources r known) refl);
+      words = sym (item_resource s (number_by_name s.resources r) lt ∙ rw (name_of_number s.resources r known) refl);
     }
 
-wire_back : (s : SpecValue) (l : List ℕ) → first_broken (name_tests s.links l) ≡ None → IsItemOf s (codes "wire" ∷ l ∷ []) (link_var s (number_of s.links l))
+wire_back : (s : SpecValue) (l : List ℕ) → first_broken (name_tests s.links l) ≡ None → IsItemOf s (codes "wire" ∷ l ∷ []) (link_var s (number_by_name s.links l))
 wire_back s l e =
     let x = none_of (whys.UnknownName, not (is_name s.links l)) [] e in
     let known = not-false _ x.0 in
     let lt = known_lt s.links l known in
     record {
       there = omega (arith, lt);
-      words = sym (item_link s (number_of s.links l) lt ∙ rw (name_of_number s.links l known) refl);
+      words = sym (item_link s (number_by_name s.links l) lt ∙ rw (name_of_number s.links l known) refl);
     }
 
 item_by : (s : SpecValue) (ws us : Words) (v u : ℕ) → ws ≡ us → v ≡ u → IsItemOf s us u → IsItemOf s ws v
@@ -150,13 +153,13 @@ item_back s w (k ∷ a ∷ []) e =
     elim (cases_Bool (bytes_eq k (codes "alloc"))) [
       | inl t ↦
           let tests : item_tests s (k ∷ a ∷ []) ≡ name_tests s.resources a = rw t refl in
-          let variable : item_variable s (k ∷ a ∷ []) ≡ resource_var s (number_of s.resources a) = rw t refl in
+          let variable : item_variable s (k ∷ a ∷ []) ≡ resource_var s (number_by_name s.resources a) = rw t refl in
           item_by s (k ∷ a ∷ []) (codes "alloc" ∷ a ∷ []) _ _ (cons_same k (codes "alloc") (a ∷ []) (a ∷ []) ((bytes_eq-Decides k (codes "alloc")).0 t) refl) variable
           (alloc_back s a (sym (ap first_broken tests) ∙ e))
       | inr f ↦ elim (cases_Bool (bytes_eq k (codes "wire"))) [
         | inl t ↦
             let tests : item_tests s (k ∷ a ∷ []) ≡ name_tests s.links a = rw (f, t) refl in
-            let variable : item_variable s (k ∷ a ∷ []) ≡ link_var s (number_of s.links a) = rw f refl in
+            let variable : item_variable s (k ∷ a ∷ []) ≡ link_var s (number_by_name s.links a) = rw f refl in
             item_by s (k ∷ a ∷ []) (codes "wire" ∷ a ∷ []) _ _ (cons_same k (codes "wire") (a ∷ []) (a ∷ []) ((bytes_eq-Decides k (codes "wire")).0 t) refl) variable
             (wire_back s a (sym (ap first_broken tests) ∙ e))
         | inr g ↦ absurd (let tests : item_tests s (k ∷ a ∷ []) ≡ misshapen = rw (f, g) refl in misshapen_not (sym (ap first_broken tests) ∙ e))

@@ -12,7 +12,7 @@ use Rattle.spec_model.proofs.InRange.{option_in, message_in}
 use Rattle.spec_graph.specs.declared.numbers.TaskNo.{TaskNo}
 use Rattle.spec_graph.specs.Lists.{task_number}
 use Rattle.spec_model.specs.Rules.{of_task, of_task_on, goes_into, leaves, of_link, options_of, arcs_into, arcs_from, arcs_of}
-use Rattle.spec_model.proofs.Those.{those-more, map-below_more}
+use Rattle.spec_model.proofs.Those.{those_more, map-below_more}
 use Rattle.spec_model.proofs.Joined.{All-those}
 use Rattle.encode_model.specs.Encoding.{on_resource, options_on, option_on, is_number, for_receiver, receiver_options, leads_to, neighbours}
 use Rattle.route_encode.specs.Keys.{has_key, with_key, has_arc, joined_to, neighbours_by, is_among, is_receiver, is_for, task_of, resource_of, head_of, tail_of, link_of}
@@ -40,8 +40,8 @@ pub those_agree : (p q : ℕ → Bool) (n : ℕ) → ((i : ℕ) → i < n → p 
 those_agree p q zero h = refl
 those_agree p q (suc n) h =
     subst (λ (k : ℕ). those p k ≡ those q k) (add-one n)
-    (those-more p n ∙ (ap (λ (b : Bool). those p n ++ cond b (n ∷ []) []) (h n (omega arith)) ∙ (ap (λ (xs : List ℕ). xs ++ cond (q n) (n ∷ []) []) (those_agree p q n (λ i l. h i (omega arith)))
-    ∙ sym (those-more q n))))
+    (those_more p n ∙ (ap (λ (b : Bool). those p n ++ cond b (n ∷ []) []) (h n (omega arith)) ∙ (ap (λ (xs : List ℕ). xs ++ cond (q n) (n ∷ []) []) (those_agree p q n (λ i l. h i (omega arith)))
+    ∙ sym (those_more q n))))
 
 maps_agree : (f g : ℕ → List ℕ) (n : ℕ) → ((i : ℕ) → i < n → f i ≡ g i) → map f (below n) ≡ map g (below n)
 maps_agree f g zero h = refl

@@ -12,7 +12,7 @@ use Rattle.spec_model.specs.WellFormed.{IsWellFormed}
 use Rattle.spec_model.proofs.InRange.{limit_in}
 use Rattle.encode_model.specs.Encoding.{put, at_least}
 use Rattle.encode_model.specs.Rising.{TermsWithin, IsRising}
-use Rattle.encode_model.proofs.Rising.{at_least-within, normal_of_rising, below_within}
+use Rattle.encode_model.proofs.Rising.{at_least_within, normal_of_rising, below_within}
 use Rattle.route_encode.specs.Adding.{Adds, goes_first}
 
 within_small : (a b : ℕ) (ts : List Term) → TermsWithin (2 ^ 40) a b ts → b ≤ 2 ^ 20 → All (λ t. t.lit.var < 2 ^ 62) ts
@@ -30,7 +30,7 @@ below_terms n m ts us c ec e h = subst (λ (d : Linear). IsBelow n d) (sym ec) (
 pub added : (a b : SetValue) (n m : ℕ) (ts us : List Term) (c : Linear) → b ≡ record a { constraints = a.constraints ++ c ∷ [] } → c ≡ record { terms = us; degree = m } → us ≡ ts → IsRising n ts
     → Adds a b (at_least m ts ∷ [])
 added a b n m ts us c eb ec e h =
-    let same : c ≡ at_least m ts = ec ∙ (ap (λ (ws : List Term). make ws) e ∙ sym (at_least-within (2 ^ 40) 0 n m ts h.rises)) in
+    let same : c ≡ at_least m ts = ec ∙ (ap (λ (ws : List Term). make ws) e ∙ sym (at_least_within (2 ^ 40) 0 n m ts h.rises)) in
     record {
       constraints = ap (λ (x : SetValue). x.constraints) eb ∙ ap (λ (d : Linear). a.constraints ++ d ∷ []) same;
       variables = ap (λ (x : SetValue). x.variables) eb;

@@ -1,7 +1,7 @@
 -- A request of `explore` has few rounds, and places of tools.
 use Rattle.std.proofs.Common.{◌≡◌, ◌≤◌, ℕ, Bool, true, false, List, Option, Some, None, IfSome, refl, subst, arith, cond, nat_le, codes, length, option_and_then, option_map}
 use Rattle.std.proofs.lemmas.Bool.Decides.{nat_tests}
-use Rattle.form_words.specs.Line.{Text, Use, line, value_of}
+use Rattle.form_words.specs.Line.{Text, Use, line, value_under}
 use Rattle.form_words.specs.Table.{form_of}
 use Rattle.run_words.specs.Numbers.{number_from, number_up_to}
 use Rattle.run_words.specs.Tools.{chosen_if_given}
@@ -62,5 +62,5 @@ fit_explore tags words v e = go (line (form_of explore_table) words) e
     go : (us : Option (List Use)) → option_and_then (explore_of tags) us ≡ Some v → HasFitTools (length tags) v
     go None e = absurd (cc)
     go (Some us) e =
-        fit_with tags (value_of (codes "tgff") us) (value_of (codes "arch") us) (value_of (codes "rounds") us) (value_of (codes "seed") us) (value_of (codes "measure") us)
-        (value_of (codes "proof") us) v e
+        fit_with tags (value_under (codes "tgff") us) (value_under (codes "arch") us) (value_under (codes "rounds") us) (value_under (codes "seed") us) (value_under (codes "measure") us)
+        (value_under (codes "proof") us) v e

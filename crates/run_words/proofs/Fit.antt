@@ -4,7 +4,7 @@ use Rattle.std.specs.Str.{bytes_eq}
 use Rattle.std.specs.Str.Parse.{digits_value}
 use Rattle.std.proofs.lemmas.Bool.Decides.{nat_tests}
 use Rattle.std.proofs.lemmas.Slice.Eq.{bytes_eq-Decides}
-use Rattle.form_words.specs.Line.{Text, Use, line, value_of}
+use Rattle.form_words.specs.Line.{Text, Use, line, value_under}
 use Rattle.form_words.specs.Table.{form_of}
 use Rattle.run_words.specs.Names.{is_file, is_apart}
 use Rattle.run_words.specs.Numbers.{is_whole, number_from, number_if_given}
@@ -71,7 +71,7 @@ fit_decode words d e = go (line (form_of decode_table) words) e
   where
     go : (us : Option (List Use)) → option_and_then decode_of us ≡ Some d → HasFitBudget d
     go None e = absurd (cc)
-    go (Some us) e = fit_with (value_of (codes "tgff") us) (value_of (codes "arch") us) (value_of (codes "geno") us) (value_of (codes "budget") us) (value_of (codes "proof") us) d e
+    go (Some us) e = fit_with (value_under (codes "tgff") us) (value_under (codes "arch") us) (value_under (codes "geno") us) (value_under (codes "budget") us) (value_under (codes "proof") us) d e
 
 -- ---- the files of a front
 
@@ -128,7 +128,8 @@ fit_front words v e = go (line (form_of front_table) words) e
   where
     go : (us : Option (List Use)) → option_and_then front_of us ≡ Some v → HasFitFiles v
     go None e = absurd (cc)
-    go (Some us) e = fit_front_with (value_of (codes "tgff") us) (value_of (codes "arch") us) (value_of (codes "front") us) (value_of (codes "proof") us) (value_of (codes "budget") us) v e
+    go (Some us) e =
+        fit_front_with (value_under (codes "tgff") us) (value_under (codes "arch") us) (value_under (codes "front") us) (value_under (codes "proof") us) (value_under (codes "budget") us) v e
 
 -- ---- each request
 

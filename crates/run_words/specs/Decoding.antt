@@ -1,6 +1,6 @@
 -- The request of the words after `decode`.
 use Rattle.std.specs.Prelude.{◌∷◌, ◌&&◌, [], ℕ, Bool, false, List, Option, Some, None, codes, if◌then◌else◌, is_some, option_and_then, option_map}
-use Rattle.form_words.specs.Line.{Text, Use, line, value_of}
+use Rattle.form_words.specs.Line.{Text, Use, line, value_under}
 use Rattle.form_words.specs.Table.{Table, form_of}
 use Rattle.run_words.specs.Names.{is_name, is_file, is_file_if_named, is_apart}
 use Rattle.run_words.specs.Numbers.{number_if_given}
@@ -48,7 +48,7 @@ decode_with _ _ _ budget proof = None
 
 -- the request of the values of a line
 abbrev pub decode_of : List Use → Option DecodeValue
-decode_of us = decode_with (value_of (codes "tgff") us) (value_of (codes "arch") us) (value_of (codes "geno") us) (value_of (codes "budget") us) (value_of (codes "proof") us)
+decode_of us = decode_with (value_under (codes "tgff") us) (value_under (codes "arch") us) (value_under (codes "geno") us) (value_under (codes "budget") us) (value_under (codes "proof") us)
 
 -- the request of the words
 unfoldable pub decode_request : List Text → Option DecodeValue

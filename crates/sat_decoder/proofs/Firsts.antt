@@ -14,7 +14,7 @@ use Rattle.encode_laws.proofs.Laws.{valid_are_models}
 use Rattle.genotype.specs.Order.{IsOrderOf}
 use Rattle.genotype.proofs.Firsts.{first_along}
 use Rattle.ordered_solver.specs.Answers.{IsFirst}
-use Rattle.ordered_solver.proofs.Orders.{order-covers}
+use Rattle.ordered_solver.proofs.Orders.{order_covers}
 use Rattle.sat_decoder.specs.Decoding.{IsFirstDesign, ShowsFirstDesign}
 use Rattle.sat_decoder.specs.Models.{IsPartOf}
 
@@ -81,7 +81,7 @@ pub shows_design : (s : SpecValue) (genes : List GeneValue) (order : List Litera
 shows_design s genes order values design cs few o part shows v lt other p closed before =
     let d : Literal = record { var = 0; yes = false } in
     let at : (w : ℕ) → w < length genes → bits_of values w ≡ bits_of design w = λ w l. part_reads s values design w part (omega (arith, l, few)) in
-    let place = order-covers order (all_variables s) o.each_once o.len v (omega (arith, lt, few, design_variables-le s)) in
+    let place = order_covers order (all_variables s) o.each_once o.len v (omega (arith, lt, few, design_variables-le s)) in
     let i : ℕ = place.0 in
     let own : i < length genes = own_place genes (all_variables s) order i v o place.1 place.2 lt in
     let l : Literal = get_or order i d in

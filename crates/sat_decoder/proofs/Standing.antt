@@ -16,7 +16,7 @@ use Rattle.ordered_solver.specs.declared.answer.Answer.{Answer}
 use Rattle.ordered_solver.specs.declared.answer.Answer.TheVariants as answers
 use Rattle.ordered_solver.specs.Answers.{IsFirst, AnswerSays, AnswersInFrames, CountSays, GoesOnDerived, LinesSay, new_lines}
 use Rattle.ordered_solver.specs.Solver.{SolverValue, Agrees, constraints_of, numbered}
-use Rattle.ordered_solver.proofs.Agreeing.{agrees-new}
+use Rattle.ordered_solver.proofs.Agreeing.{agrees_new}
 use Rattle.ordered_solver.proofs.Numbered.{numbered_back}
 use Rattle.sat_decoder.specs.declared.decoded.Decoded.{Decoded}
 use Rattle.sat_decoder.specs.declared.decoded.Decoded.TheVariants.{First, Nothing, Budget}
@@ -132,7 +132,7 @@ solver_over variables cs = record { variables = variables; given = numbered 1 cs
 agrees_first : (s : SpecValue) (f : Frame) → IsFrameOf s f → length (encoding s) + 1 < 2 ^ 62 → Agrees f (solver_over (all_variables s) (encoding s))
 agrees_first s f h few =
     let short : length f.base + 1 < 2 ^ 62 = subst (λ (cs : List Linear). length cs + 1 < 2 ^ 62) (sym h.base_is) few in
-    subst (λ (cs : List Linear). Agrees f (solver_over (all_variables s) cs)) h.base_is (agrees-new f (all_variables s) false h.frame short)
+    subst (λ (cs : List Linear). Agrees f (solver_over (all_variables s) cs)) h.base_is (agrees_new f (all_variables s) false h.frame short)
 
 solver_first : (s : SpecValue) → length (encoding s) + 1 < 2 ^ 62 → IsSolverOf s (solver_over (all_variables s) (encoding s))
 solver_first s few = record {

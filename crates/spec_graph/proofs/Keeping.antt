@@ -5,17 +5,17 @@ use Rattle.std.proofs.lemmas.Bool.{cases_lt}
 use Rattle.std.proofs.lemmas.List.{get_or-map, length-map, map-append, append-nil, take-set-le, take_more_set, length-set}
 use Rattle.spec_model.specs.Spec.{Message, Name, name_at, those}
 use Rattle.spec_model.specs.WellFormed.{AreDistinct}
-use Rattle.spec_model.proofs.Those.{those-more}
+use Rattle.spec_model.proofs.Those.{those_more}
 use Rattle.spec_model.proofs.Joined.{All-those}
 use Rattle.spec_graph.specs.Lists.{message_in}
 use Rattle.spec_graph.specs.Merged.{is_unlisted, unlisted, messages_at, IsNameOfOther}
 
 -- those below n + 1, where n passes or doesn't
 pub those_yes : (p : ℕ → Bool) (n : ℕ) → p n ≡ true → those p (n + 1) ≡ those p n ++ n ∷ []
-those_yes p n e = those-more p n ∙ ap (λ (b : Bool). those p n ++ cond b (n ∷ []) []) e
+those_yes p n e = those_more p n ∙ ap (λ (b : Bool). those p n ++ cond b (n ∷ []) []) e
 
 pub those_no : (p : ℕ → Bool) (n : ℕ) → p n ≡ false → those p (n + 1) ≡ those p n
-those_no p n e = those-more p n ∙ (ap (λ (b : Bool). those p n ++ cond b (n ∷ []) []) e ∙ append-nil (those p n))
+those_no p n e = those_more p n ∙ (ap (λ (b : Bool). those p n ++ cond b (n ∷ []) []) e ∙ append-nil (those p n))
 
 -- the messages before m that pass stand at the front, and those from m on where they were
 pub record Keeping (p : ℕ → Bool) (old now : List Message) (kept m : ℕ) : Type 0 where

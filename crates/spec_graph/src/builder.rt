@@ -27,9 +27,9 @@ impl Model for SpecBuilder {
     ghost Value = { SpecValue };
 
     ghost use Rattle.spec_graph.specs.Builder.{HoldsPlan};
-    ghost use Rattle.spec_graph.specs.Held.{value_of};
+    ghost use Rattle.spec_graph.specs.Held.{held_spec};
 
-    ghost view = { λ b. value_of b.held };
+    ghost view = { λ b. held_spec b.held };
 
     ghost invariant = { HoldsPlan };
 }

@@ -4,7 +4,7 @@ ghost use Rattle.std.specs.Prelude.{◌≡◌, ◌<◌, ◌≤◌, length, Conta
 ghost use Rattle.spec_model.specs.Spec.{empty_spec, message_at};
 ghost use Rattle.spec_model.specs.Limits.{most_tasks, most_messages, most_resources, most_links};
 ghost use Rattle.names.specs.Names.{IsNumberOf};
-ghost use Rattle.spec_graph.specs.Held.{value_of};
+ghost use Rattle.spec_graph.specs.Held.{held_spec};
 
 use crate::choices::Choices;
 use crate::messages::Message;
@@ -47,7 +47,7 @@ pub struct Held {
 impl Held {
     /// Empty lists. They take no memory.
     pub fn none(alloc: Global) -> Held
-        ensures { value_of result ≡ empty_spec }
+        ensures { held_spec result ≡ empty_spec }
     {
         Held {
             tasks: Names::new(alloc),
@@ -113,7 +113,7 @@ impl Held {
     /// The task that sends a message.
     pub fn sender(&self, m: MsgNo) -> TaskNo
         requires { m.0 < length self.now.messages.items }
-        ensures { result.0 ≡ (message_at (value_of self.now) m.0).sender }
+        ensures { result.0 ≡ (message_at (held_spec self.now) m.0).sender }
     {
         let message = &self.messages[m.0 as usize];
         message.sender

@@ -28,9 +28,9 @@ impl Model for Spec {
     ghost Value = { SpecValue };
 
     ghost use Rattle.spec_graph.specs.Finished.{HoldsSpec};
-    ghost use Rattle.spec_graph.specs.Held.{value_of};
+    ghost use Rattle.spec_graph.specs.Held.{held_spec};
 
-    ghost view = { λ s. value_of s.held };
+    ghost view = { λ s. held_spec s.held };
 
     ghost invariant = { HoldsSpec };
 }

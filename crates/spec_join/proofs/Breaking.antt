@@ -22,7 +22,7 @@ use Rattle.spec_join.specs.Joining.{Joining, start}
 use Rattle.spec_join.specs.Effects.{effect}
 use Rattle.tgff_reader.specs.Facts.{TgffValue}
 use Rattle.table_cells.specs.Least.{IsLeast}
-use Rattle.spec_join.specs.Refusals.{IsPast, Breaks, BreaksPlain}
+use Rattle.spec_join.specs.Refusals.{IsPast, StatementBreaks, BreaksPlain}
 use Rattle.spec_join.specs.Reading.{after, after_all, statement_at, NoneBreaks, IsJoined, JoinReads}
 use Rattle.spec_join.specs.Stops.{IsFirst, IsAccepted, Accepts, Refuses, RefusesEnd, AcceptsEnd, IsRefused}
 
@@ -91,7 +91,7 @@ none_plain s st a (Limit what) h = a.room what h
 none_plain s st a _ h = h
 
 -- what a statement is refused for is the lowest of what it breaks
-least_refused : (s : Joining) (st : Statement) (why : Why) → Refuses s st (Broken why) → IsLeast (Breaks s st) why
+least_refused : (s : Joining) (st : Statement) (why : Why) → Refuses s st (Broken why) → IsLeast (StatementBreaks s st) why
 least_refused s (Table name index resource keys weights_at) why r = r
 least_refused s (QuantityTable name index column rows) why r = r
 least_refused s (Objective name scale floor) why r = first_least s (Objective name scale floor) why r
@@ -109,7 +109,7 @@ least_refused s (Delay message amount) why r = first_least s (Delay message amou
 least_refused s (Deadline task at) why r = first_least s (Deadline task at) why r
 
 -- a statement that is accepted breaks nothing
-none_breaks : (s : Joining) (st : Statement) → Accepts s st → (why : Why) → Breaks s st why → ⊥
+none_breaks : (s : Joining) (st : Statement) → Accepts s st → (why : Why) → StatementBreaks s st why → ⊥
 none_breaks s (Table name index resource keys weights_at) a = a
 none_breaks s (QuantityTable name index column rows) a = a
 none_breaks s (Objective name scale floor) a = none_plain s (Objective name scale floor) a
@@ -151,11 +151,11 @@ none_more tgff ls k l old lt e eo none a = λ i why x b. go i why b (cases_lt i 
     at : Accepts (after tgff sts k) (statement_at sts k)
     at = subst (λ (st : Statement). Accepts (after tgff sts k) st) (sym (stands ls k l lt e)) (subst (λ (s : Joining). Accepts s l.statement) eo a)
 
-    go : (i : ℕ) (why : Why) → Breaks (after tgff sts i) (statement_at sts i) why → (i < k) ⊎ (k ≤ i) → i < k + 1 → ⊥
+    go : (i : ℕ) (why : Why) → StatementBreaks (after tgff sts i) (statement_at sts i) why → (i < k) ⊎ (k ≤ i) → i < k + 1 → ⊥
     go i why b (inl y) x = none i why y b
     go i why b (inr y) x =
         let same : i ≡ k = omega (arith, x, y) in
-        none_breaks (after tgff sts k) (statement_at sts k) at why (subst (λ (j : ℕ). Breaks (after tgff sts j) (statement_at sts j) why) same b)
+        none_breaks (after tgff sts k) (statement_at sts k) at why (subst (λ (j : ℕ). StatementBreaks (after tgff sts j) (statement_at sts j) why) same b)
 
 -- a statement that is refused stops joining at its line
 pub stopped : (tgff : TgffValue) (ls : List ArchLine) (k : ℕ) (l : ArchLine) (old : Joining) (stop : Stop) → k < length ls → l ≡ get_or ls k l → old ≡ after tgff (statements_in ls) k

@@ -16,7 +16,7 @@ use Rattle.tgff_reader.specs.Facts.{TgffValue}
 use Rattle.arch_reader.specs.Tests.{objective_called, is_declared, is_above, weights_of}
 use Rattle.arch_reader.specs.Arch.{AllPass, Passes, statement_of, statements_in}
 use Rattle.arch_reader.specs.declared.statement.ArchLine.{ArchLine}
-use Rattle.arch_reader.proofs.Places.{before_place, passes_at, seen_at-more}
+use Rattle.arch_reader.proofs.Places.{before_place, passes_at, seen_at_more}
 use Rattle.arch_reader.specs.declared.seen.Objective.{Objective as Declared}
 use Rattle.arch_reader.specs.declared.seen.Seen.{Seen}
 use Rattle.arch_reader.specs.declared.statement.Statement.{Statement}
@@ -173,4 +173,4 @@ declared_at ls k l old new lt e eo en =
     ∙ ap (λ (x : SettingsValue). with_declared x l.statement) eo
     ∙ more_declared s l.statement
     ∙ ap (λ (x : ArchLine). settings_of (seen_after s x.statement)) e
-    ∙ ap settings_of (sym (seen_at-more ls k l lt))
+    ∙ ap settings_of (sym (seen_at_more ls k l lt))

@@ -6,7 +6,7 @@ use Rattle.std.proofs.lemmas.Bool.{cases_lt, false≢true}
 use Rattle.std.proofs.lemmas.List.{get_or_default}
 use Rattle.std.proofs.lemmas.List.Elements.{All-nil, All-cons, All-append, All-weaker}
 use Rattle.std.proofs.lemmas.List.Sums.{fold_more}
-use Rattle.names.specs.Names.{number_of}
+use Rattle.names.specs.Names.{number_by_name}
 use Rattle.spec_model.specs.Spec.{Name, SpecValue, Choice, choice}
 use Rattle.spec_graph.specs.Refusals.{IsOfPair, IsMapped, HasBig, HasBigOption, IsOptionRefused}
 use Rattle.spec_graph.specs.declared.faults.BuildFault.{BuildFault}
@@ -75,23 +75,23 @@ key_fits s row keys i k name amount l e en t ea known h =
 
 -- a key that names an objective sets its weight from the cell
 objective_key : (s : Joining) (row : Row) (weights : List ℕ) (k : KeyColumn) → is_table_key k.key ≡ false
-    → weighed_from s row weights k ≡ set weights (number_of s.plan.objectives k.key) (weight_of s.scales (number_of s.plan.objectives k.key) (amount_in (cell_of row k.column)))
+    → weighed_from s row weights k ≡ set weights (number_by_name s.plan.objectives k.key) (weight_of s.scales (number_by_name s.plan.objectives k.key) (amount_in (cell_of row k.column)))
 objective_key s row weights k t =
-    ap (λ (b : Bool). cond b weights (set weights (number_of s.plan.objectives k.key) (weight_of s.scales (number_of s.plan.objectives k.key) (amount_in (cell_of row k.column))))) t
+    ap (λ (b : Bool). cond b weights (set weights (number_by_name s.plan.objectives k.key) (weight_of s.scales (number_by_name s.plan.objectives k.key) (amount_in (cell_of row k.column))))) t
 
 -- one more key's weight is set, in what the code has of it
 pub weighed_more : (s : Joining) (row : Row) (keys : List KeyColumn) (i : ℕ) (k : KeyColumn) (name : Name) (amount : ℤ) (weights new : List ℕ) (objective value : ℕ) → i < length keys
     → k ≡ get_or keys i k → name ≡ k.key → is_table_key name ≡ false → amount ≡ amount_in (cell_of row k.column)
-    → objective ≡ number_of s.plan.objectives name → value ≡ weight_of s.scales (number_of s.plan.objectives name) amount → new ≡ set weights objective value
+    → objective ≡ number_by_name s.plan.objectives name → value ≡ weight_of s.scales (number_by_name s.plan.objectives name) amount → new ≡ set weights objective value
     → weights ≡ fold (weighed_from s row) (no_weights s) (take i keys) → new ≡ fold (weighed_from s row) (no_weights s) (take (i + 1) keys)
 weighed_more s row keys i k name amount weights new objective value l e en t ea eo ev es v =
     let before : List ℕ = fold (weighed_from s row) (no_weights s) (take i keys) in
     es
     ∙ ap (λ (ws : List ℕ). set ws objective value) v
     ∙ ap (λ (j : ℕ). set before j value) eo
-    ∙ ap (λ (w : ℕ). set before (number_of s.plan.objectives name) w) ev
-    ∙ ap (λ (a : ℤ). set before (number_of s.plan.objectives name) (weight_of s.scales (number_of s.plan.objectives name) a)) ea
-    ∙ ap (λ (n : Name). set before (number_of s.plan.objectives n) (weight_of s.scales (number_of s.plan.objectives n) (amount_in (cell_of row k.column)))) en
+    ∙ ap (λ (w : ℕ). set before (number_by_name s.plan.objectives name) w) ev
+    ∙ ap (λ (a : ℤ). set before (number_by_name s.plan.objectives name) (weight_of s.scales (number_by_name s.plan.objectives name) a)) ea
+    ∙ ap (λ (n : Name). set before (number_by_name s.plan.objectives n) (weight_of s.scales (number_by_name s.plan.objectives n) (amount_in (cell_of row k.column)))) en
     ∙ sym (objective_key s row before k (subst (λ (n : Name). is_table_key n ≡ false) en t))
     ∙ ap (weighed_from s row before) e
     ∙ sym (fold_more (weighed_from s row) (no_weights s) keys i k l)
@@ -172,7 +172,7 @@ same_time s os ws (Some column) row = refl
 same_choice : (s : Joining) (os : List Choice) (ws : List (List ℕ)) (resource : Name) (keys : List KeyColumn) (t : ℕ) (found : Option Row)
     → one_of (choice_from (with_options s os ws) resource keys t) found ≡ one_of (choice_from s resource keys t) found
 same_choice s os ws resource keys t None = refl
-same_choice s os ws resource keys t (Some row) = ap (λ (x : ℕ). choice t (number_of s.plan.resources resource) x ∷ []) (same_time s os ws (column_of keys (codes "time")) row)
+same_choice s os ws resource keys t (Some row) = ap (λ (x : ℕ). choice t (number_by_name s.plan.resources resource) x ∷ []) (same_time s os ws (column_of keys (codes "time")) row)
 
 -- the option of task t is added
 abbrev with_next : Joining → ℕ → Name → List KeyColumn → ℕ → Joining
@@ -304,7 +304,7 @@ addable old mid n resource keys t l broken free e =
     let ws : List (List ℕ) = old.plan.option_weights ++ made_weights old table keys t in
     let a : IsAddable (with_first old n resource keys t) n resource keys t = record {
       unbroken = λ why x. broken why (t, l, task_breaks old os ws keys (task_row old table keys t) why x);
-      new = λ x. not_mapped old table resource keys t (number_of old.plan.resources resource) (λ y. free RepeatedName (t, l, (x.0, y))) x.1;
+      new = λ x. not_mapped old table resource keys t (number_by_name old.plan.resources resource) (λ y. free RepeatedName (t, l, (x.0, y))) x.1;
       room = has_room old table resource keys t (length old.task_kinds) l (free (Limit Options));
     } in
     subst (λ (s : Joining). IsAddable s n resource keys t) (sym e) a

@@ -1,7 +1,7 @@
 -- What the builder refuses is what a statement is refused for.
 use Rattle.std.proofs.Common.{◌≡◌, ◌≢◌, ℕ, ℤ, Bool, List, Option, sym, ap, subst, ◌∙◌, arith, All, Contains, get_or, ◌≤◌, ◌^◌, inl, inr, Result, Ok, Err, OnOk}
 use Rattle.std.proofs.lemmas.List.{get_or_default}
-use Rattle.names.specs.Names.{IsNumberOf, number_of}
+use Rattle.names.specs.Names.{IsNumberOf, number_by_name}
 use Rattle.spec_model.specs.Spec.{Name, name_at, choice}
 use Rattle.spec_graph.specs.Refusals.{HasBig, HasBigLink, HasBigOption, IsMapped, IsTaskRefused, IsTaskAccepted, IsResourceRefused, IsLinkRefused, IsOptionRefused, IsOptionAccepted, IsDeadlineRefused}
 use Rattle.spec_graph.specs.declared.faults.BuildFault.{BuildFault}
@@ -75,12 +75,12 @@ none_big_option time row x r (inr h) = none_big row r h
 
 -- a pair by its numbers or by its names
 mapped_of : (s : Joining) (task resource : Name) (n m : ℕ) → IsNumberOf s.plan.tasks task n → IsNumberOf s.plan.resources resource m → IsMapped s.plan n m
-    → IsMapped s.plan (number_of s.plan.tasks task) (number_of s.plan.resources resource)
-mapped_of s task resource n m x y h = subst (λ (k : ℕ). IsMapped s.plan (number_of s.plan.tasks task) k) y.first (subst (λ (k : ℕ). IsMapped s.plan k m) x.first h)
+    → IsMapped s.plan (number_by_name s.plan.tasks task) (number_by_name s.plan.resources resource)
+mapped_of s task resource n m x y h = subst (λ (k : ℕ). IsMapped s.plan (number_by_name s.plan.tasks task) k) y.first (subst (λ (k : ℕ). IsMapped s.plan k m) x.first h)
 
 mapped_by : (s : Joining) (task resource : Name) (n m : ℕ) → IsNumberOf s.plan.tasks task n → IsNumberOf s.plan.resources resource m
-    → IsMapped s.plan (number_of s.plan.tasks task) (number_of s.plan.resources resource) → IsMapped s.plan n m
-mapped_by s task resource n m x y h = subst (λ (k : ℕ). IsMapped s.plan n k) (sym y.first) (subst (λ (k : ℕ). IsMapped s.plan k (number_of s.plan.resources resource)) (sym x.first) h)
+    → IsMapped s.plan (number_by_name s.plan.tasks task) (number_by_name s.plan.resources resource) → IsMapped s.plan n m
+mapped_by s task resource n m x y h = subst (λ (k : ℕ). IsMapped s.plan n k) (sym y.first) (subst (λ (k : ℕ). IsMapped s.plan k (number_by_name s.plan.resources resource)) (sym x.first) h)
 
 pub map_refused : (s : Joining) (task resource : Name) (time : Option ℤ) (ws : List KeyAmount) (n m x : ℕ) (row : List ℕ) (fault : BuildFault) → IsOptionRefused s.plan (choice n m x) row fault
     → IsNumberOf s.plan.tasks task n → IsNumberOf s.plan.resources resource m → x ≤ 2 ^ 40 → AreSmall row → Refuses s (Map task resource time ws) (stop_for fault)

@@ -1,8 +1,8 @@
 -- What the builder refuses of a message is what its statement is refused for.
 use Rattle.std.proofs.Common.{◌≡◌, ℕ, List, map, ap, subst, ◌∙◌, arith, All, Contains, ◌≤◌, ◌^◌, inl, inr}
-use Rattle.names.specs.Names.{IsNumberOf, number_of}
+use Rattle.names.specs.Names.{IsNumberOf, number_by_name}
 use Rattle.spec_model.specs.Spec.{Name, Message as MessageValue}
-use Rattle.spec_graph.specs.Lists.{task_number, message_of}
+use Rattle.spec_graph.specs.Lists.{task_number, numbered_message}
 use Rattle.spec_graph.specs.declared.numbers.TaskNo.{TaskNo}
 use Rattle.spec_graph.specs.Refusals.{HasBigMessage, IsMessageRepeated, IsMessageRefused, IsMessageAccepted}
 use Rattle.spec_graph.specs.declared.faults.BuildFault.{BuildFault}
@@ -27,7 +27,7 @@ pub record IsResolved (s : Joining) (sender : Name) (receivers : List Name) (m :
 
 pub resolved : (j s : Joining) (sender : Name) (receivers : List Name) (from : TaskNo) (items passed : List TaskNo) → j ≡ s → passed ≡ items → IsNumberOf s.plan.tasks sender from.0
     → All (Contains s.plan.tasks) receivers
-    → map task_number items ≡ map (number_of s.plan.tasks) receivers → j.delay ≤ 2 ^ 40 → IsResolved s sender receivers (message_of from passed j.hops j.delay 1)
+    → map task_number items ≡ map (number_by_name s.plan.tasks) receivers → j.delay ≤ 2 ^ 40 → IsResolved s sender receivers (numbered_message from passed j.hops j.delay 1)
 resolved j s sender receivers from items passed e p n known numbers small = record {
   from = there_of s.plan.tasks sender from.0 n;
   to = known;
@@ -35,7 +35,7 @@ resolved j s sender receivers from items passed e p n known numbers small = reco
   is =
       ap (λ (x : Joining). made from.0 (map task_number passed) x.hops x.delay) e
       ∙ ap (λ (k : ℕ). made k (map task_number passed) s.hops s.delay) n.first
-      ∙ ap (λ (xs : List ℕ). made (number_of s.plan.tasks sender) xs s.hops s.delay) (ap (map task_number) p ∙ numbers);
+      ∙ ap (λ (xs : List ℕ). made (number_by_name s.plan.tasks sender) xs s.hops s.delay) (ap (map task_number) p ∙ numbers);
 }
 
 known_of : (s : Joining) (name sender : Name) (receivers : List Name) → Contains s.plan.tasks sender → All (Contains s.plan.tasks) receivers → IsUnknown s (Message name sender receivers) → ⊥

@@ -9,7 +9,7 @@ use Rattle.std.specs.Str.{bytes_eq}
 use Rattle.std.proofs.lemmas.Slice.Eq.{bytes_eq-Decides}
 use Rattle.std.proofs.lemmas.Bool.{false≢true, false_from_ne_true, ltb-false}
 use Rattle.std.proofs.lemmas.List.Folds.{list_any_at, Any-from_list_any}
-use Rattle.names.specs.Names.{number_of}
+use Rattle.names.specs.Names.{number_by_name}
 use Rattle.spec_model.specs.Spec.{Name}
 use Rattle.spec_model.specs.Limits.{most_number}
 use Rattle.arch_reader.specs.Numbers.{at_scale}
@@ -44,13 +44,13 @@ not_above scale amount h = ltb-false most_number (at_scale scale amount) h
 -- a key among objectives, and the amount at the scale of the first one of that name
 record IsFound (os : List Declared) (key : Name) (amount : ℤ) : Type 0 where
   known : Contains (map objective_name os) key
-  small : at_scale (get_or (map objective_scale os) (number_of (map objective_name os) key) 0) amount ≤ 2 ^ 40
+  small : at_scale (get_or (map objective_scale os) (number_by_name (map objective_name os) key) 0) amount ≤ 2 ^ 40
 
 here : (o : Declared) (os : List Declared) (key : Name) (amount : ℤ) → bytes_eq o.name key ≡ true → is_above o.scale amount ≡ false → IsFound (o ∷ os) key amount
 here o os key amount e h =
     let same : o.name ≡ key = (bytes_eq-Decides o.name key).0 e in
     let t : bytes_eq key o.name ≡ true = (bytes_eq-Decides key o.name).1 (sym same) in
-    let n : number_of (map objective_name (o ∷ os)) key ≡ 0 = ap (λ (b : Bool). cond (not b) (1 + number_of (map objective_name os) key) 0) t in
+    let n : number_by_name (map objective_name (o ∷ os)) key ≡ 0 = ap (λ (b : Bool). cond (not b) (1 + number_by_name (map objective_name os) key) 0) t in
     record {
       known = (0, omega arith, same);
       small = subst (λ (k : ℕ). at_scale (get_or (map objective_scale (o ∷ os)) k 0) amount ≤ 2 ^ 40) (sym n) (not_above o.scale amount h);
@@ -59,8 +59,8 @@ here o os key amount e h =
 further : (o : Declared) (os : List Declared) (key : Name) (amount : ℤ) → bytes_eq o.name key ≡ false → IsFound os key amount → IsFound (o ∷ os) key amount
 further o os key amount e f =
     let t : bytes_eq key o.name ≡ false = false_from_ne_true (bytes_eq key o.name) (λ x. false≢true (sym e ∙ (bytes_eq-Decides o.name key).1 (sym ((bytes_eq-Decides key o.name).0 x)))) in
-    let m : ℕ = number_of (map objective_name os) key in
-    let n : number_of (map objective_name (o ∷ os)) key ≡ 1 + m = ap (λ (b : Bool). cond (not b) (1 + m) 0) t in
+    let m : ℕ = number_by_name (map objective_name os) key in
+    let n : number_by_name (map objective_name (o ∷ os)) key ≡ 1 + m = ap (λ (b : Bool). cond (not b) (1 + m) 0) t in
     let up : 1 + m ≡ suc m = omega arith in
     record {
       known = (suc f.known.0, omega (arith, f.known.1), f.known.2);

@@ -1,6 +1,6 @@
 -- What is kept of a statement of a file that was read, said of what the statements before it made.
 use Rattle.std.specs.Prelude.{◌≡◌, ◌≢◌, ℕ, ℤ, false, ◌<◌, ◌≤◌, List, Option, length, All, Contains}
-use Rattle.names.specs.Names.{IsName, number_of}
+use Rattle.names.specs.Names.{IsName, number_by_name}
 use Rattle.spec_model.specs.Spec.{Name}
 use Rattle.spec_model.specs.Limits.{most_resources, most_links, most_objectives, most_number}
 use Rattle.arch_reader.specs.Numbers.{at_scale}
@@ -14,7 +14,7 @@ use Rattle.spec_join.specs.Joining.{Joining, SettingsValue, weight_of, time_at, 
 -- a word `OBJ=D` names an objective, and its weight isn't too big
 pub record IsWeighable (objectives : List Name) (scales : List ℕ) (w : KeyAmount) : Type 0 where
   pub known : Contains objectives w.key
-  pub small : weight_of scales (number_of objectives w.key) w.amount ≤ most_number
+  pub small : weight_of scales (number_by_name objectives w.key) w.amount ≤ most_number
 
 abbrev pub AreWeighable : Joining → List KeyAmount → Type 0
 AreWeighable s ws = All (IsWeighable s.plan.objectives s.scales) ws

@@ -1,7 +1,7 @@
 -- What a statement is refused for, after what the statements before it made: one condition for each cause. What an
 -- architecture file was read for already isn't asked again.
 use Rattle.std.specs.Prelude.{◌≡◌, ◌≢◌, ℕ, ◌<◌, ◌≤◌, ◌⊎◌, List, Option, None, Some, length, Any, Contains}
-use Rattle.names.specs.Names.{number_of}
+use Rattle.names.specs.Names.{number_by_name}
 use Rattle.spec_model.specs.Spec.{Name, SpecValue, name_at, all_variables}
 use Rattle.spec_model.specs.WellFormed.{size}
 use Rattle.spec_model.specs.Limits.{most_tasks, most_messages, most_options, most_variables, most_terms}
@@ -75,7 +75,7 @@ abbrev pub IsRepeated : Joining → Statement → Type 0
 IsRepeated s (Task name) = Contains s.plan.tasks name
 IsRepeated s (Message name sender receivers) = Contains s.plan.message_names name ⊎ IsListedTwice receivers
 IsRepeated s (Merge name messages) = IsListedTwice messages ⊎ IsOfOther s.plan name messages
-IsRepeated s (Map task resource time weights) = IsMapped s.plan (number_of s.plan.tasks task) (number_of s.plan.resources resource)
+IsRepeated s (Map task resource time weights) = IsMapped s.plan (number_by_name s.plan.tasks task) (number_by_name s.plan.resources resource)
 IsRepeated s _ = ⊥
 
 -- Cyclic: the message closes a cycle of tasks
@@ -100,10 +100,10 @@ BreaksPlain s st (Limit what) = IsPast s st what
 BreaksPlain s st _ = ⊥
 
 -- a statement is to be refused for this
-abbrev pub Breaks : Joining → Statement → Why → Type 0
-Breaks s (Table name index resource keys weights_at) why = TableBreaks s (table_called s.tables name index) resource keys weights_at why
-Breaks s (QuantityTable name index column rows) why = QuantityTableBreaks s (table_called s.tables name index) column rows why
-Breaks s st why = BreaksPlain s st why
+abbrev pub StatementBreaks : Joining → Statement → Why → Type 0
+StatementBreaks s (Table name index resource keys weights_at) why = TableBreaks s (table_called s.tables name index) resource keys weights_at why
+StatementBreaks s (QuantityTable name index column rows) why = QuantityTableBreaks s (table_called s.tables name index) column rows why
+StatementBreaks s st why = BreaksPlain s st why
 
 -- the plan breaks a rule at the end
 abbrev pub BreaksEnd : SpecValue → Why → Type 0

@@ -3,7 +3,7 @@
 
 ghost use Rattle.std.specs.Prelude.{◌≡◌, ◌<◌, ◌≤◌, ◌++◌, length, true, is_some, Any, All, Contains, IfOk, OnOk, IfErr};
 ghost use Rattle.spec_model.specs.Limits.{most_options, most_number};
-ghost use Rattle.names.specs.Names.{number_of};
+ghost use Rattle.names.specs.Names.{number_by_name};
 ghost use Rattle.spec_graph.specs.Refusals.{IsMapped};
 ghost use Rattle.tgff_reader.specs.Looking.{table_at, row_at};
 ghost use Rattle.spec_join.specs.Effects.{effect, with_plan, with_option};
@@ -78,7 +78,7 @@ impl Joiner<'_> {
         requires task { t < length self.old.task_kinds }
         requires known { All (IsKnownKey self.old.plan.objectives) keys.now }
         requires unbroken { (why : Why) → ValuesBreak self.old keys.now (row_at (table_at self.old.tables table) row) why → ⊥ }
-        requires new { IsMapped self.old.plan t (number_of self.old.plan.resources resource.now) → ⊥ }
+        requires new { IsMapped self.old.plan t (number_by_name self.old.plan.resources resource.now) → ⊥ }
         requires room { length self.old.plan.options < most_options }
         ensures { OnOk result (self.new ≡ with_plan self.old (with_option self.old.plan (choice_from self.old resource.now keys.now t (row_at (table_at self.old.tables table) row)) (weights_from self.old keys.now (row_at (table_at self.old.tables table) row)))) }
     {

@@ -2,7 +2,7 @@
 
 ghost use Rattle.std.specs.Prelude.{◌≡◌, ◌<◌, ◌≤◌, length, replicate, IfOk, All};
 ghost use Rattle.spec_model.specs.Limits.{most_number};
-ghost use Rattle.names.specs.Names.{number_of};
+ghost use Rattle.names.specs.Names.{number_by_name};
 ghost use Rattle.spec_join.specs.Joining.{weight_of, no_weights, weights_of};
 ghost use Rattle.spec_join.specs.Fits.{IsWeighable, AreWeighable};
 
@@ -21,9 +21,9 @@ impl Joiner<'_> {
     /// An amount as a weight for an objective.
     pub(crate) fn weight_for(&self, objective: &str, amount: i128) -> Weight
         requires { IsWeighable self.now.plan.objectives self.now.scales (record { key = objective.now; amount = amount }) }
-        ensures objective { result.objective ≡ number_of self.now.plan.objectives objective.now }
+        ensures objective { result.objective ≡ number_by_name self.now.plan.objectives objective.now }
         ensures there { result.objective < length self.now.plan.objectives }
-        ensures value { result.value ≡ weight_of self.now.scales (number_of self.now.plan.objectives objective.now) amount }
+        ensures value { result.value ≡ weight_of self.now.scales (number_by_name self.now.plan.objectives objective.now) amount }
         ensures small { result.value ≤ most_number }
     {
         match self.plan.find_objective(objective) {
@@ -38,9 +38,9 @@ impl Joiner<'_> {
     /// The weight that a word states.
     pub(crate) fn weight(&self, word: &KeyAmount) -> Weight
         requires { IsWeighable self.now.plan.objectives self.now.scales word.now }
-        ensures objective { result.objective ≡ number_of self.now.plan.objectives word.now.key }
+        ensures objective { result.objective ≡ number_by_name self.now.plan.objectives word.now.key }
         ensures there { result.objective < length self.now.plan.objectives }
-        ensures value { result.value ≡ weight_of self.now.scales (number_of self.now.plan.objectives word.now.key) word.now.amount }
+        ensures value { result.value ≡ weight_of self.now.scales (number_by_name self.now.plan.objectives word.now.key) word.now.amount }
         ensures small { result.value ≤ most_number }
     {
         self.weight_for(word.key.list(), word.amount)

@@ -7,7 +7,7 @@ use Rattle.std.proofs.lemmas.List.FromFn.{map-range_with_len_more}
 use Rattle.std.proofs.lemmas.List.Concat.{flat_map-append}
 use Rattle.line_words.specs.Rules.{Words}
 use Rattle.spelled_lines.specs.Lines.{spelled}
-use Rattle.genotype.specs.Draws.{below as draw, after_words}
+use Rattle.genotype.specs.Draws.{draw, after_words}
 use Rattle.spec_make.specs.Streams.{Stream, stream_of, later, taking}
 use Rattle.spec_make.specs.Made.{option_words, map_words}
 

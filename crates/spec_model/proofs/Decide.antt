@@ -17,12 +17,12 @@ passes_some p (suc n) e = at (p n) refl e (passes_some p n)
     at false pn e before = let x = before e in (x.0, omega (arith, x.1), x.2)
 
 -- where one passes, some do
-pub some_passes-from : (p : ℕ → Bool) (n i : ℕ) → i < n → p i ≡ true → some_passes p n ≡ true
-some_passes-from p zero i h e = absurd (omega (arith, h))
-some_passes-from p (suc n) i h e =
+pub some_passes_from : (p : ℕ → Bool) (n i : ℕ) → i < n → p i ≡ true → some_passes p n ≡ true
+some_passes_from p zero i h e = absurd (omega (arith, h))
+some_passes_from p (suc n) i h e =
     elim (cases_suc i n h) [
       | inl same ↦ ap (λ (b : Bool). cond b true (some_passes p n)) (subst (λ (k : ℕ). p k ≡ true) same e)
-      | inr l ↦ ap (λ (b : Bool). cond (p n) true b) (some_passes-from p n i l e) ∙ either (p n)
+      | inr l ↦ ap (λ (b : Bool). cond (p n) true b) (some_passes_from p n i l e) ∙ either (p n)
     ]
   where
     either : (b : Bool) → cond b true true ≡ true
@@ -36,9 +36,9 @@ IsOn-from_test s f t r e =
     let q = and_parts _ _ p.1 in
     record { choice = x.0; in_range = x.1; chosen = p.0; of_task = eqb-true _ _ q.0; on_resource = eqb-true _ _ q.1 }
 
-pub on_test-from : (s : SpecValue) (f : Bits) (t r : ℕ) → IsOn s f t r → on_test s f t r ≡ true
-on_test-from s f t r x =
-    some_passes-from (puts s f t r) (length s.options) x.choice x.in_range (and_from _ _ x.chosen (and_from _ _ (eq-eqb _ _ x.of_task) (eq-eqb _ _ x.on_resource)))
+pub on_test_from : (s : SpecValue) (f : Bits) (t r : ℕ) → IsOn s f t r → on_test s f t r ≡ true
+on_test_from s f t r x =
+    some_passes_from (puts s f t r) (length s.options) x.choice x.in_range (and_from _ _ x.chosen (and_from _ _ (eq-eqb _ _ x.of_task) (eq-eqb _ _ x.on_resource)))
 
 -- a test of a walk says that there is one,
 pub Walk-from_test : (s : SpecValue) (f : Bits) (m n r : ℕ) → walk_test s f m n r ≡ true → Walk s f m r n
@@ -50,8 +50,8 @@ Walk-from_test s f m (suc n) r e =
     (x.0, record { in_range = x.1; bit = p.0 }, eqb-true _ _ q.0, Walk-from_test s f m n (arc_at s x.0).tail q.1)
 
 -- and says so wherever there is
-pub walk_test-from : (s : SpecValue) (f : Bits) (m n r : ℕ) → Walk s f m r n → walk_test s f m n r ≡ true
-walk_test-from s f m zero r w = on_test-from s f (sender_of s m) r w
-walk_test-from s f m (suc n) r w =
-    some_passes-from (λ a. f (arc_var s m a) && (nat_eq (arc_at s a).head r && walk_test s f m n (arc_at s a).tail)) (length s.arcs) w.0 w.1.in_range
-    (and_from _ _ w.1.bit (and_from _ _ (eq-eqb _ _ w.2) (walk_test-from s f m n (arc_at s w.0).tail w.3)))
+pub walk_test_from : (s : SpecValue) (f : Bits) (m n r : ℕ) → Walk s f m r n → walk_test s f m n r ≡ true
+walk_test_from s f m zero r w = on_test_from s f (sender_of s m) r w
+walk_test_from s f m (suc n) r w =
+    some_passes_from (λ a. f (arc_var s m a) && (nat_eq (arc_at s a).head r && walk_test s f m n (arc_at s a).tail)) (length s.arcs) w.0 w.1.in_range
+    (and_from _ _ w.1.bit (and_from _ _ (eq-eqb _ _ w.2) (walk_test_from s f m n (arc_at s w.0).tail w.3)))

@@ -5,7 +5,7 @@ use Rattle.std.specs.List.{flat_map, range_with_len, AllByRecursion}
 use Rattle.std.proofs.lemmas.List.Elements.{All-from_recursion, recursion_from_All, All-append, All-contains}
 use Rattle.plain_lists.proofs.Joined.{All-right}
 use Rattle.spec_model.specs.Spec.{below, those}
-use Rattle.spec_model.proofs.Those.{those-more}
+use Rattle.spec_model.proofs.Those.{those_more}
 
 left_part : {X : Type 0} (P : X → Type 0) (xs ys : List X) → AllByRecursion P (xs ++ ys) → AllByRecursion P xs
 left_part P [] ys h = tt
@@ -111,7 +111,7 @@ All-of_map P g xs x h member = All-contains (λ y. P (g y)) xs x (All-from_recur
 pub All-those : (P : ℕ → Type 0) (p : ℕ → Bool) (n : ℕ) → ((i : ℕ) → i < n → p i ≡ true → P i) → All P (those p n)
 All-those P p zero h = All-from_recursion P [] tt
 All-those P p (suc n) h =
-    subst (λ (k : ℕ). All P (those p k)) (add-one n) (subst (λ (xs : List ℕ). All P xs) (sym (those-more p n))
+    subst (λ (k : ℕ). All P (those p k)) (add-one n) (subst (λ (xs : List ℕ). All P xs) (sym (those_more p n))
     (All-append P (those p n) (cond (p n) (n ∷ []) []) (All-those P p n (λ i l. h i (omega arith))) (last (p n) refl)))
   where
     last : (b : Bool) → p n ≡ b → All P (cond b (n ∷ []) [])

@@ -5,7 +5,7 @@ use Rattle.std.proofs.lemmas.List.Sums.{sum_by-cons, sum_by_more, count_by_more_
 use Rattle.std.proofs.lemmas.List.{length-append, take_all}
 use Rattle.std.proofs.lemmas.List.Elements.{All-head, All-tail}
 use Rattle.spec_model.specs.Spec.{below, those}
-use Rattle.spec_model.proofs.Those.{those-more, sum_by-below_more, map-below_more}
+use Rattle.spec_model.proofs.Those.{those_more, sum_by-below_more, map-below_more}
 
 -- the sum over what is made of entries
 pub sum_by_map : {A B : Type 0} (f : B → ℕ) (g : A → B) (xs : List A) → sum_by f (map g xs) ≡ sum_by (λ x. f (g x)) xs
@@ -27,9 +27,9 @@ length_those p d q xs same (suc n) h = subst (λ (k : ℕ). length (those q k) �
   where
     step : (b : Bool) → p (get_or xs n d) ≡ b → length (those q n) ≡ count_by p (take n xs) → length (those q (n + 1)) ≡ count_by p (take (n + 1) xs)
     step true e before =
-        ap length (those-more q n ∙ ap (λ (b : Bool). those q n ++ cond b (n ∷ []) []) (same n ∙ e)) ∙ (length-append (those q n) (n ∷ []) ∙ omega (arith, before, count_by_more_yes p xs n d h e))
+        ap length (those_more q n ∙ ap (λ (b : Bool). those q n ++ cond b (n ∷ []) []) (same n ∙ e)) ∙ (length-append (those q n) (n ∷ []) ∙ omega (arith, before, count_by_more_yes p xs n d h e))
     step false e before =
-        ap length (those-more q n ∙ ap (λ (b : Bool). those q n ++ cond b (n ∷ []) []) (same n ∙ e)) ∙ (length-append (those q n) [] ∙ omega (arith, before, count_by_more_no p xs n d h e))
+        ap length (those_more q n ∙ ap (λ (b : Bool). those q n ++ cond b (n ∷ []) []) (same n ∙ e)) ∙ (length-append (those q n) [] ∙ omega (arith, before, count_by_more_no p xs n d h e))
 
 -- as many places pass as entries
 pub count_those : {A : Type 0} (p : A → Bool) (d : A) (q : ℕ → Bool) (xs : List A) → ((i : ℕ) → q i ≡ p (get_or xs i d)) → length (those q (length xs)) ≡ count_by p xs

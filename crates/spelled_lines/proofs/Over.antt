@@ -9,7 +9,7 @@ use Rattle.line_words.specs.Run.{Reading, run, unless_broken}
 use Rattle.line_words.specs.declared.refusals.Why.{Why}
 use Rattle.line_words.proofs.Least.{Outcome, run-nil, run-cons, run_is}
 use Rattle.spelled_lines.specs.Lines.{pieces, body_of, lacks_lf}
-use Rattle.spelled_lines.proofs.FirstPiece.{pieces-nil, pieces-first, pieces-last}
+use Rattle.spelled_lines.proofs.FirstPiece.{pieces-nil, pieces_first, pieces_last}
 use Rattle.spelled_lines.proofs.Ended.{piece_ended, no_lf}
 
 abbrev ok : List Statement → Reading
@@ -90,14 +90,14 @@ whole_from rules Kept k (suc fuel) (b ∷ bs) number done text all le h e =
           let n = position_or_len is_lf bytes in
           let piece = take (n + 1) bytes in
           let rest = drop (n + 1) bytes in
-          let step = read_line rules number done piece (pieces rest) all (ap (run rules number done) (sym (pieces-first bytes lt)) ∙ e) in
+          let step = read_line rules number done piece (pieces rest) all (ap (run rules number done) (sym (pieces_first bytes lt)) ∙ e) in
           let next = k.more done text piece number h step.0 (piece_ended bytes lt) in
           let shorter : length rest ≤ fuel = omega (arith, le, length-drop (n + 1) bytes) in
           let tail = whole_from rules Kept k fuel rest (number + 1) (done ++ at_number number (rules.stated piece)) (text ++ piece) all shorter next step.1 in
           subst (IsWhole rules Kept all) (append_assoc text piece rest ∙ ap (λ (x : List ℕ). text ++ x) (take-append-drop (n + 1) bytes)) tail
       | inr ge ↦
           let bytes = b ∷ bs in
-          let step = read_line rules number done bytes (pieces []) all (ap (run rules number done) (sym (pieces-last bytes (omega arith) ge)) ∙ e) in
+          let step = read_line rules number done bytes (pieces []) all (ap (run rules number done) (sym (pieces_last bytes (omega arith) ge)) ∙ e) in
           let lacks : lacks_lf bytes ≡ true = rw (no_lf bytes ge) refl in
           absurd (k.ended done bytes lacks step.0)
     ]

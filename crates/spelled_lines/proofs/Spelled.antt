@@ -10,7 +10,7 @@ use Rattle.std.proofs.lemmas.List.Elements.{All-from_recursion}
 use Rattle.line_words.specs.Front.{is_lf}
 use Rattle.line_words.specs.Rules.{Words}
 use Rattle.spelled_lines.specs.Lines.{pieces, is_bad, is_space, is_empty, lacks_lf, words_of, spelled, is_word_byte, IsWord}
-use Rattle.spelled_lines.proofs.FirstPiece.{pieces-end, pieces-byte}
+use Rattle.spelled_lines.proofs.FirstPiece.{pieces_end, pieces_byte}
 
 -- ---- bytes
 
@@ -39,9 +39,9 @@ no_spaces : (w : List ℕ) → list_all is_word_byte w ≡ true → AllByRecursi
 no_spaces [] h = tt
 no_spaces (b ∷ w) h = let p = and_parts (is_word_byte b) (list_all is_word_byte w) h in (no_space b p.0, no_spaces w p.1)
 
-line-append : (xs ys : List ℕ) → IsLine xs → IsLine ys → IsLine (xs ++ ys)
-line-append [] ys a b = b
-line-append (x ∷ xs) ys a b = (a.0, line-append xs ys a.1 b)
+line_append : (xs ys : List ℕ) → IsLine xs → IsLine ys → IsLine (xs ++ ys)
+line_append [] ys a b = b
+line_append (x ∷ xs) ys a b = (a.0, line_append xs ys a.1 b)
 
 abbrev pub AreWords : Words → Type 0
 AreWords ws = AllByRecursion IsWord ws
@@ -50,7 +50,7 @@ AreWords ws = AllByRecursion IsWord ws
 join_line : (ws : Words) → AreWords ws → IsLine (join_with_byte 32 ws)
 join_line [] h = tt
 join_line (w ∷ []) h = word_line w h.0.bytes
-join_line (w ∷ x ∷ ws) h = line-append w (32 ∷ join_with_byte 32 (x ∷ ws)) (word_line w h.0.bytes) (space, join_line (x ∷ ws) h.1)
+join_line (w ∷ x ∷ ws) h = line_append w (32 ∷ join_with_byte 32 (x ∷ ws)) (word_line w h.0.bytes) (space, join_line (x ∷ ws) h.1)
 
 -- words joined and split
 split_join : (w : List ℕ) (ws : Words) → AreWords (w ∷ ws) → slice_split is_space (join_with_byte 32 (w ∷ ws)) ≡ w ∷ ws
@@ -73,8 +73,8 @@ abbrev ended : List ℕ → List ℕ
 ended l = l ++ 10 ∷ []
 
 pieces_line : (l more : List ℕ) → IsLine l → pieces (ended l ++ more) ≡ ended l ∷ pieces more
-pieces_line [] more h = pieces-end 10 more refl
-pieces_line (b ∷ l) more h = pieces-byte b (ended l ++ more) h.0.no_lf ∙ ap (onto_first b) (pieces_line l more h.1)
+pieces_line [] more h = pieces_end 10 more refl
+pieces_line (b ∷ l) more h = pieces_byte b (ended l ++ more) h.0.no_lf ∙ ap (onto_first b) (pieces_line l more h.1)
 
 none_bad : (l : List ℕ) → IsLine l → list_any is_bad (ended l) ≡ false
 none_bad [] h = refl

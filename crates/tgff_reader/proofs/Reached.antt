@@ -7,7 +7,7 @@ use Rattle.spec_model.specs.Spec.{Message}
 use Rattle.spec_model.specs.WellFormed.{Reaches, Leads, HasCycle}
 use Rattle.spec_model.proofs.Chains.{chain_cases, chain_before, reaches_cases, reaches_from_follows, follows_by, still_none}
 use Rattle.task_order.specs.Order.{is_in, comes_after, is_joined}
-use Rattle.tgff_reader.specs.Reaching.{is_itself, with_arc, with_arcs, reaches, message_of, messages_of, IsOrder}
+use Rattle.tgff_reader.specs.Reaching.{is_itself, with_arc, with_arcs, reaches, arc_message, messages_of, IsOrder}
 use Rattle.tgff_reader.specs.declared.file.TgffArc.{TgffArc}
 use Rattle.file_bricks.proofs.Deciding.{or_or}
 
@@ -57,11 +57,11 @@ tells_none a b = (
 pub among_one : (x y : ℕ) → Contains (x ∷ []) y → x ≡ y
 among_one x y c = let z : c.0 ≡ 0 = omega (arith, c.1) in subst (λ (i : ℕ). get_or (x ∷ []) i y ≡ y) z c.2
 
-tells_more : (r : Way) (ms : List Message) (arc : TgffArc) → Tells r ms → Tells (with_arc r arc) (ms ++ message_of arc ∷ [])
+tells_more : (r : Way) (ms : List Message) (arc : TgffArc) → Tells r ms → Tells (with_arc r arc) (ms ++ arc_message arc ∷ [])
 tells_more r ms arc t a b = (to, from)
   where
     m : Message
-    m = message_of arc
+    m = arc_message arc
 
     along : (r a arc.from ≡ true) × (r arc.to b ≡ true) → Reaches (ms ++ m ∷ []) a b
     along p = reaches_from_follows (ms ++ m ∷ []) a b (follows_by ms m a b ((t a arc.from).0 p.0) (record { start = arc.to; among = (0, omega arith, refl); reaches = (t arc.to b).0 p.1 }))
@@ -82,10 +82,10 @@ tells_more r ms arc t a b = (to, from)
       | inr q ↦ or_right (r a b) (r a arc.from && r arc.to b) (by_arc q.0 q.1)
     ]
 
-tells_all : (r : Way) (ms : List Message) (arcs : List TgffArc) → Tells r ms → Tells (with_arcs r arcs) (ms ++ map message_of arcs)
+tells_all : (r : Way) (ms : List Message) (arcs : List TgffArc) → Tells r ms → Tells (with_arcs r arcs) (ms ++ map arc_message arcs)
 tells_all r ms [] t = subst (Tells r) (sym (append-nil ms)) t
 tells_all r ms (x ∷ arcs) t =
-    subst (Tells (with_arcs (with_arc r x) arcs)) (append_assoc ms (message_of x ∷ []) (map message_of arcs)) (tells_all (with_arc r x) (ms ++ message_of x ∷ []) arcs (tells_more r ms x t))
+    subst (Tells (with_arcs (with_arc r x) arcs)) (append_assoc ms (arc_message x ∷ []) (map arc_message arcs)) (tells_all (with_arc r x) (ms ++ arc_message x ∷ []) arcs (tells_more r ms x t))
 
 -- A task is reached exactly where a chain of messages leads to it.
 pub reaches_tells : (arcs : List TgffArc) → Tells (reaches arcs) (messages_of arcs)
@@ -94,7 +94,7 @@ reaches_tells arcs = tells_all is_itself [] arcs tells_none
 -- an arc whose first task isn't reached from its second one closes no cycle
 pub no_cycle_more : (arcs : List TgffArc) (arc : TgffArc) → ¬ HasCycle (messages_of arcs) → reaches arcs arc.to arc.from ≡ false → ¬ HasCycle (messages_of (arcs ++ arc ∷ []))
 no_cycle_more arcs arc none shut =
-    subst (λ (ms : List Message). ¬ HasCycle ms) (sym (map_push message_of arcs arc)) (still_none (messages_of arcs) (message_of arc) none closed)
+    subst (λ (ms : List Message). ¬ HasCycle ms) (sym (map_push arc_message arcs arc)) (still_none (messages_of arcs) (arc_message arc) none closed)
   where
     closed : ¬ Leads (messages_of arcs) (arc.to ∷ []) arc.from
     closed l =

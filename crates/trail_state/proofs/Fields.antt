@@ -8,8 +8,8 @@ use Rattle.pb_rules.specs.Literal.{Literal}
 use Rattle.pb_constraints.specs.declared.ConId.{ConId}
 use Rattle.trail_state.specs.Trail.{Entry, is_decision, level_of, level_in, value_in, reason_in, IsDistinct, reasoned, with_reason}
 use Rattle.trail_state.specs.Fields.{pair_up, entries_of, IsTrail}
-use Rattle.trail_state.proofs.Entries.{value_in-none, value_in-at, reason_none}
-use Rattle.trail_state.proofs.Levels.{first-at, level_of-with_reason, level_in-with_reason}
+use Rattle.trail_state.proofs.Entries.{value_in-none, value_in_at, reason_none}
+use Rattle.trail_state.proofs.Levels.{first_at, level_of-with_reason, level_in-with_reason}
 
 abbrev none_of_ℕ : Option ℕ
 none_of_ℕ = None
@@ -65,9 +65,9 @@ entries-push ls rs n l r h h' =
     rw (x, y) z
 
 -- one entry more, at the end
-pub entries-more : (ls : List Literal) (rs : List (Option ConId)) (m : ℕ) (d : Entry) → m < length ls → m < length rs
+pub entries_more : (ls : List Literal) (rs : List (Option ConId)) (m : ℕ) (d : Entry) → m < length ls → m < length rs
     → entries_of ls rs (m + 1) ≡ entries_of ls rs m ++ record { lit = get_or ls m d.lit; reason = get_or rs m d.reason } ∷ []
-entries-more ls rs m d h h' =
+entries_more ls rs m d h h' =
     let a = length-take m ls in let b = length-take m rs in
     let c : length (take m ls) ≡ length (take m rs) = omega arith in
     let x = take_more ls m d.lit h in
@@ -99,7 +99,7 @@ value_at ls rs ps n level t x k d r e =
     let lt : k < n = t.within x k e in
     let len = b.entries in
     let at : get_or (entries_of ls rs n) k f ≡ record { lit = get_or ls k d; reason = get_or rs k r } = get_or-entries ls rs n k f b.lits b.reasons lt in
-    let w = value_in-at (entries_of ls rs n) x k f (omega arith) (ap (λ (g : Entry). g.lit.var) at ∙ t.same_var x k d e) (λ j g l q.
+    let w = value_in_at (entries_of ls rs n) x k f (omega arith) (ap (λ (g : Entry). g.lit.var) at ∙ t.same_var x k d e) (λ j g l q.
     let at-j = get_or-entries ls rs n j g b.lits b.reasons (omega arith) in
     let p : get_or ps (get_or ls j g.lit).var None ≡ Some j = t.placed j g.lit (omega arith) in
     let v : (get_or ls j g.lit).var ≡ x = sym (ap (λ (g : Entry). g.lit.var) at-j) ∙ q in
@@ -229,7 +229,7 @@ IsTrail-pop ls rs ps m level d t level' e =
     let lits_room = t.lits_room in
     let reasons_room = t.reasons_room in
     let few = t.few in
-    let more = entries-more ls rs m d (omega arith) (omega arith) in
+    let more = entries_more ls rs m d (omega arith) (omega arith) in
     record {
       few = omega arith;
       lits_room = omega arith;
@@ -259,10 +259,10 @@ IsTrail-pop ls rs ps m level d t level' e =
     }
 
 -- copies of one value, read anywhere, where it is the default too
-pub same-at : {T : Type 0} → (v : T) → (n x : ℕ) → get_or (replicate n v) x v ≡ v
-same-at v zero x = refl
-same-at v (suc n) zero = refl
-same-at v (suc n) (suc x) = same-at v n x
+pub same_at : {T : Type 0} → (v : T) → (n x : ℕ) → get_or (replicate n v) x v ≡ v
+same_at v zero x = refl
+same_at v (suc n) zero = refl
+same_at v (suc n) (suc x) = same_at v n x
 
 abbrev record_at : Literal → Option ConId → Entry
 record_at m o = record { lit = m; reason = o }
@@ -281,7 +281,7 @@ IsTrail-pop_read ls rs ps n level pos t l r el er =
     let lits = b.lits in
     let reasons = b.reasons in
     let more : entries_of ls rs ((n - 1) + 1) ≡ entries_of ls rs (n - 1) ++ record { lit = get_or ls (n - 1) l; reason = get_or rs (n - 1) r } ∷ [] =
-    entries-more ls rs (n - 1) d (omega arith) (omega arith) in
+    entries_more ls rs (n - 1) d (omega arith) (omega arith) in
     let read : record_at (get_or ls (n - 1) l) (get_or rs (n - 1) r) ≡ record_at l r = cc in
     let more' : entries_of ls rs n ≡ entries_of ls rs (n - 1) ++ record_at l r ∷ [] = ap (entries_of ls rs) u ∙ more ∙ ap (λ (e : Entry). entries_of ls rs (n - 1) ++ e ∷ []) read in
     let count : level_of (entries_of ls rs n) ≡ level_of (entries_of ls rs (n - 1)) + cond (is_none r) 1 0 = ap level_of more'
@@ -331,9 +331,9 @@ distinct ls rs ps n level t k d h =
     omega arith)
 
 -- before the last place its variable has no value
-pub none-before_last : (ls : List Literal) (rs : List (Option ConId)) (ps : List (Option ℕ)) (n level : ℕ) → 0 < n → IsTrail ls rs ps n level → (l : Literal) (r : Option ConId)
+pub none_before_last : (ls : List Literal) (rs : List (Option ConId)) (ps : List (Option ℕ)) (n level : ℕ) → 0 < n → IsTrail ls rs ps n level → (l : Literal) (r : Option ConId)
     → l ≡ get_or ls (n - 1) l → r ≡ get_or rs (n - 1) r → value_in (entries_of ls rs (n - 1)) l.var ≡ None
-none-before_last ls rs ps n level pos t l r el er =
+none_before_last ls rs ps n level pos t l r el er =
     let e : Entry = record { lit = l; reason = r } in
     let es : List Entry = entries_of ls rs n in
     let fs : List Entry = entries_of ls rs (n - 1) in
@@ -399,7 +399,7 @@ IsTrail-places ls rs ps n level m t few room-ls room-rs =
     }
   where
     past : (ps : List (Option ℕ)) (m x : ℕ) → get_or (ps ++ replicate m none_of_ℕ) x None ≡ get_or ps x None
-    past [] m x = same-at none_of_ℕ m x
+    past [] m x = same_at none_of_ℕ m x
     past (p ∷ ps) m zero = refl
     past (p ∷ ps) m (suc x) = past ps m x
 
@@ -465,18 +465,18 @@ entries-reason ls rs ps n level t x k r e =
         ]
 
 -- no entry of a variable that has a reason is a decision
-was-pushed : (ls : List Literal) (rs : List (Option ConId)) (ps : List (Option ℕ)) (n level : ℕ) → IsTrail ls rs ps n level → (x : ℕ) → is_none (reason_in (entries_of ls rs n) x) ≡ false
+was_pushed : (ls : List Literal) (rs : List (Option ConId)) (ps : List (Option ℕ)) (n level : ℕ) → IsTrail ls rs ps n level → (x : ℕ) → is_none (reason_in (entries_of ls rs n) x) ≡ false
     → (j : ℕ) (d : Entry) → j < length (entries_of ls rs n) → (get_or (entries_of ls rs n) j d).lit.var ≡ x → is_decision (get_or (entries_of ls rs n) j d) ≡ false
-was-pushed ls rs ps n level t x some j d h v =
+was_pushed ls rs ps n level t x some j d h v =
     let es : List Entry = entries_of ls rs n in
     let P : ℕ → Type 0 = λ y. value_in (take j es) y ≡ None in
-    let first = first-at es x j d h v (subst P v (distinct ls rs ps n level t j d h)) in
+    let first = first_at es x j d h v (subst P v (distinct ls rs ps n level t j d h)) in
     ap is_none (sym first.reason) ∙ some
 
-pub levels-reason : (ls : List Literal) (rs : List (Option ConId)) (ps : List (Option ℕ)) (n level : ℕ) → IsTrail ls rs ps n level → (x k : ℕ) (r : ConId) → get_or ps x None ≡ Some k
+pub levels_reason : (ls : List Literal) (rs : List (Option ConId)) (ps : List (Option ℕ)) (n level : ℕ) → IsTrail ls rs ps n level → (x k : ℕ) (r : ConId) → get_or ps x None ≡ Some k
     → is_none (reason_in (entries_of ls rs n) x) ≡ false → (y : ℕ) → level_in (entries_of ls (set rs k (Some r)) n) y ≡ level_in (entries_of ls rs n) y
-levels-reason ls rs ps n level t x k r e some y =
-    ap (λ (es : List Entry). level_in es y) (entries-reason ls rs ps n level t x k r e) ∙ level_in-with_reason x r (entries_of ls rs n) y (was-pushed ls rs ps n level t x some)
+levels_reason ls rs ps n level t x k r e some y =
+    ap (λ (es : List Entry). level_in es y) (entries-reason ls rs ps n level t x k r e) ∙ level_in-with_reason x r (entries_of ls rs n) y (was_pushed ls rs ps n level t x some)
 
 -- another reason for a literal that has one keeps a trail's fields tied together
 pub IsTrail-reason : (ls : List Literal) (rs : List (Option ConId)) (ps : List (Option ℕ)) (n level : ℕ) → IsTrail ls rs ps n level → (x k : ℕ) (r : ConId) → get_or ps x None ≡ Some k
@@ -493,7 +493,7 @@ IsTrail-reason ls rs ps n level t x k r e some =
       placed = t.placed;
       within = t.within;
       same_var = t.same_var;
-      level_is = t.level_is ∙ sym (ap level_of (entries-reason ls rs ps n level t x k r e) ∙ level_of-with_reason x r es (was-pushed ls rs ps n level t x some));
+      level_is = t.level_is ∙ sym (ap level_of (entries-reason ls rs ps n level t x k r e) ∙ level_of-with_reason x r es (was_pushed ls rs ps n level t x some));
     }
 
 -- a variable with a place is among the first entries where its place is
@@ -502,7 +502,7 @@ pub among_first : (ls : List Literal) (rs : List (Option ConId)) (ps : List (Opt
 among_first ls rs ps n level t x k count e = elim (cases_lt k count) [
   | inl lt ↦ (
       let at : get_or (take count es) k f ≡ get_or es k f = get_or-take count es k f lt in
-      let w = value_in-at (take count es) x k f (omega (arith, length-take count es, here)) (ap (λ (g : Entry). g.lit.var) at ∙ var-is f)
+      let w = value_in_at (take count es) x k f (omega (arith, length-take count es, here)) (ap (λ (g : Entry). g.lit.var) at ∙ var-is f)
       (λ j g l q. only j g (omega (arith, length-take count es, l)) (sym (ap (λ (g : Entry). g.lit.var) (get_or-take count es j g (omega (arith, length-take count es, l)))) ∙ q)) in
       let test : ltb k count ≡ true = grind (arith, nat_tests) in
       test ∙ sym (ap is_some w.0))

@@ -15,18 +15,18 @@ pub level-push : (es : List Entry) (e : Entry) → level_of (es ++ e ∷ []) ≡
 level-push es e = sum_by_push (λ (f : Entry). cond (is_decision f) 1 0) es e
 
 -- the level of one entry more of a trail
-pub level-more : (es : List Entry) (p : ℕ) (d : Entry) → p < length es → level_of (take (p + 1) es) ≡ level_of (take p es) + cond (is_decision (get_or es p d)) 1 0
-level-more es p d h = rw (take_more es p d h) (level-push (take p es) (get_or es p d))
+pub level_more : (es : List Entry) (p : ℕ) (d : Entry) → p < length es → level_of (take (p + 1) es) ≡ level_of (take p es) + cond (is_decision (get_or es p d)) 1 0
+level_more es p d h = rw (take_more es p d h) (level-push (take p es) (get_or es p d))
 
 -- the level at a place is at most that at the end
-pub level-part : (es : List Entry) (p : ℕ) → level_of (take p es) ≤ level_of es
-level-part [] zero = omega arith
-level-part [] (suc p) = omega arith
-level-part (e ∷ es) zero = omega arith
-level-part (e ∷ es) (suc p) =
+pub level_part : (es : List Entry) (p : ℕ) → level_of (take p es) ≤ level_of es
+level_part [] zero = omega arith
+level_part [] (suc p) = omega arith
+level_part (e ∷ es) zero = omega arith
+level_part (e ∷ es) (suc p) =
     let a = level-cons e es in
     let b = level-cons e (take p es) in
-    let ih = level-part es p in omega arith
+    let ih = level_part es p in omega arith
 
 -- there are at most as many levels as entries
 pub level_of-le : (es : List Entry) → level_of es ≤ length es
@@ -42,12 +42,12 @@ none-not-some : (o : Option Bool) (b : Bool) → o ≡ Some b → o ≡ None →
 none-not-some o b h n = cc
 
 -- an entry whose variable had no value before is the one that gave it
-pub first-at : (es : List Entry) (x k : ℕ) (d : Entry) → k < length es → (get_or es k d).lit.var ≡ x → value_in (take k es) x ≡ None → IsAt es x k d
-first-at [] x k d h e n = absurd (omega arith)
-first-at (f ∷ es) x zero d h e n =
+pub first_at : (es : List Entry) (x k : ℕ) (d : Entry) → k < length es → (get_or es k d).lit.var ≡ x → value_in (take k es) x ≡ None → IsAt es x k d
+first_at [] x k d h e n = absurd (omega arith)
+first_at (f ∷ es) x zero d h e n =
     let hit : eqb f.lit.var x ≡ true = grind (arith, nat_tests) in
     record { value = rw hit refl; reason = rw hit refl; level = rw hit (omega arith) }
-first-at (f ∷ es) x (suc k) d h e n = go (eqb f.lit.var x) refl (first-at es x k d (omega arith) e)
+first_at (f ∷ es) x (suc k) d h e n = go (eqb f.lit.var x) refl (first_at es x k d (omega arith) e)
   where
     go : (b : Bool) → eqb f.lit.var x ≡ b → (value_in (take k es) x ≡ None → IsAt es x k d) → IsAt (f ∷ es) x (suc k) d
     go true q ih = absurd (let n' : value_in (f ∷ take k es) x ≡ Some f.lit.yes = rw q refl in none-not-some (value_in (f ∷ take k es) x) f.lit.yes n' n)
@@ -59,11 +59,11 @@ first-at (f ∷ es) x (suc k) d h e n = go (eqb f.lit.var x) refl (first-at es x
         record { value = rw q w.value; reason = rw q w.reason; level = rw q (omega arith) }
 
 -- what is assigned before a place has a level up to there, and the same value in the whole
-pub before-level : (es : List Entry) (x p : ℕ) (b : Bool) → value_in (take p es) x ≡ Some b → (level_in es x ≤ level_of (take p es)) × (value_in es x ≡ Some b)
-before-level [] x zero b h = absurd (cc)
-before-level [] x (suc p) b h = absurd (cc)
-before-level (f ∷ es) x zero b h = absurd (cc)
-before-level (f ∷ es) x (suc p) b h = go (eqb f.lit.var x) refl (before-level es x p b)
+pub before_level : (es : List Entry) (x p : ℕ) (b : Bool) → value_in (take p es) x ≡ Some b → (level_in es x ≤ level_of (take p es)) × (value_in es x ≡ Some b)
+before_level [] x zero b h = absurd (cc)
+before_level [] x (suc p) b h = absurd (cc)
+before_level (f ∷ es) x zero b h = absurd (cc)
+before_level (f ∷ es) x (suc p) b h = go (eqb f.lit.var x) refl (before_level es x p b)
   where
     go : (o : Bool) → eqb f.lit.var x ≡ o → (value_in (take p es) x ≡ Some b → (level_in es x ≤ level_of (take p es)) × (value_in es x ≡ Some b)) → (level_in (f ∷ es) x ≤ level_of (f ∷ take p es))
         × (value_in (f ∷ es) x ≡ Some b)
@@ -103,7 +103,7 @@ level_in-push es e h =
     let len = length_push es e in
     let g : get_or fs (length es) e ≡ e = get_or_push es e e (length es) refl in
     let t : take (length es) fs ≡ es = take-append-le (length es) es (e ∷ []) (omega arith) ∙ take_all (length es) es (omega arith) in
-    let at = first-at fs e.lit.var (length es) e (omega arith) (ap (λ (f : Entry). f.lit.var) g) (ap (λ (us : List Entry). value_in us e.lit.var) t ∙ h) in
+    let at = first_at fs e.lit.var (length es) e (omega arith) (ap (λ (f : Entry). f.lit.var) g) (ap (λ (us : List Entry). value_in us e.lit.var) t ∙ h) in
     at.level ∙ ap (λ (us : List Entry). level_of us + cond (is_decision (get_or fs (length es) e)) 1 0) t ∙ ap (λ (f : Entry). level_of es + cond (is_decision f) 1 0) g ∙ sym (level-push es e)
 
 -- another reason leaves the levels, where no entry of the variable is a decision
@@ -147,20 +147,20 @@ upto_level-push (suc n) (f ∷ es) e h =
     grind (arith, common_steps)
 
 -- at most that many levels: all stay
-pub upto_level-all : (n : ℕ) (es : List Entry) → level_of es ≤ n → upto_level n es ≡ es
-upto_level-all zero [] h = refl
-upto_level-all (suc n) [] h = refl
-upto_level-all zero (f ∷ es) h =
+pub upto_level_all : (n : ℕ) (es : List Entry) → level_of es ≤ n → upto_level n es ≡ es
+upto_level_all zero [] h = refl
+upto_level_all (suc n) [] h = refl
+upto_level_all zero (f ∷ es) h =
     let P : ℕ → Type 0 = λ m. m ≤ 0 in
     let c : cond (is_decision f) 1 0 + level_of es ≤ 0 = subst P (sum_by-cons (λ (f : Entry). cond (is_decision f) 1 0) f es) h in
-    let ih : is_decision f ≡ false → upto_level 0 es ≡ es = λ q. upto_level-all zero es (let c' = rw q at c in omega arith) in
+    let ih : is_decision f ≡ false → upto_level 0 es ≡ es = λ q. upto_level_all zero es (let c' = rw q at c in omega arith) in
     let no : is_decision f ≡ true → ⊥ = λ q. (let c' = rw q at c in omega arith) in
     grind (arith, common_steps)
-upto_level-all (suc n) (f ∷ es) h =
+upto_level_all (suc n) (f ∷ es) h =
     let P : ℕ → Type 0 = λ m. m ≤ suc n in
     let c : cond (is_decision f) 1 0 + level_of es ≤ suc n = subst P (sum_by-cons (λ (f : Entry). cond (is_decision f) 1 0) f es) h in
-    let ih : is_decision f ≡ false → upto_level (suc n) es ≡ es = λ q. upto_level-all (suc n) es (let c' = rw q at c in omega arith) in
-    let ih' : is_decision f ≡ true → upto_level n es ≡ es = λ q. upto_level-all n es (let c' = rw q at c in omega arith) in
+    let ih : is_decision f ≡ false → upto_level (suc n) es ≡ es = λ q. upto_level_all (suc n) es (let c' = rw q at c in omega arith) in
+    let ih' : is_decision f ≡ true → upto_level n es ≡ es = λ q. upto_level_all n es (let c' = rw q at c in omega arith) in
     grind (arith, common_steps)
 
 above : (n : ℕ) (f : Entry) (es : List Entry) (b : Bool) → is_decision f ≡ b → n < level_of (f ∷ es) → n < cond b 1 0 + level_of es
@@ -214,14 +214,14 @@ splits-cons n m f es a ih = record {
 }
 
 -- what stands above a level that isn't the last begins with a decision
-pub upto_level-splits : (n : ℕ) (es : List Entry) → n < level_of es → Splits n es
-upto_level-splits n [] h = absurd (omega arith)
-upto_level-splits zero (f ∷ es) h = go (is_decision f) refl (λ l. upto_level-splits zero es l)
+pub upto_level_splits : (n : ℕ) (es : List Entry) → n < level_of es → Splits n es
+upto_level_splits n [] h = absurd (omega arith)
+upto_level_splits zero (f ∷ es) h = go (is_decision f) refl (λ l. upto_level_splits zero es l)
   where
     go : (b : Bool) → is_decision f ≡ b → (0 < level_of es → Splits 0 es) → Splits 0 (f ∷ es)
     go true e ih = (let a : upto_level 0 (f ∷ es) ≡ [] = rw e refl in record { decision = f; rest = es; parts = ap (λ (us : List Entry). us ++ f ∷ es) (sym a); decided = e })
     go false e ih = (let c = above 0 f es false e h in splits-cons 0 0 f es (rw e refl) (ih (omega arith)))
-upto_level-splits (suc n) (f ∷ es) h = go (is_decision f) refl (λ m l. upto_level-splits m es l)
+upto_level_splits (suc n) (f ∷ es) h = go (is_decision f) refl (λ m l. upto_level_splits m es l)
   where
     go : (b : Bool) → is_decision f ≡ b → ((m : ℕ) → m < level_of es → Splits m es) → Splits (suc n) (f ∷ es)
     go true e ih = (let c = above (suc n) f es true e h in splits-cons (suc n) n f es (rw e refl) (ih n (omega arith)))
@@ -256,20 +256,20 @@ level_of-upto_level (suc n) (e ∷ es) h = go (is_decision e) refl (level_of-upt
         rw q (omega arith)
 
 -- a jump back after a jump back to a higher level
-pub upto_level-twice : (m n : ℕ) (es : List Entry) → m ≤ n → upto_level m (upto_level n es) ≡ upto_level m es
-upto_level-twice m n [] h = refl
-upto_level-twice zero zero (e ∷ es) h = go (is_decision e) refl (upto_level-twice zero zero es h)
+pub upto_level_twice : (m n : ℕ) (es : List Entry) → m ≤ n → upto_level m (upto_level n es) ≡ upto_level m es
+upto_level_twice m n [] h = refl
+upto_level_twice zero zero (e ∷ es) h = go (is_decision e) refl (upto_level_twice zero zero es h)
   where
     go : (b : Bool) → is_decision e ≡ b → upto_level 0 (upto_level 0 es) ≡ upto_level 0 es → upto_level 0 (upto_level 0 (e ∷ es)) ≡ upto_level 0 (e ∷ es)
     go true q ih = rw q refl
     go false q ih = rw (q, q) (ap (λ (us : List Entry). e ∷ us) ih)
-upto_level-twice zero (suc n) (e ∷ es) h = go (is_decision e) refl (upto_level-twice zero (suc n) es h)
+upto_level_twice zero (suc n) (e ∷ es) h = go (is_decision e) refl (upto_level_twice zero (suc n) es h)
   where
     go : (b : Bool) → is_decision e ≡ b → upto_level 0 (upto_level (suc n) es) ≡ upto_level 0 es → upto_level 0 (upto_level (suc n) (e ∷ es)) ≡ upto_level 0 (e ∷ es)
     go true q ih = rw (q, q) refl
     go false q ih = rw (q, q) (ap (λ (us : List Entry). e ∷ us) ih)
-upto_level-twice (suc m) zero (e ∷ es) h = absurd (omega arith)
-upto_level-twice (suc m) (suc n) (e ∷ es) h = go (is_decision e) refl (upto_level-twice m n es (omega arith)) (upto_level-twice (suc m) (suc n) es h)
+upto_level_twice (suc m) zero (e ∷ es) h = absurd (omega arith)
+upto_level_twice (suc m) (suc n) (e ∷ es) h = go (is_decision e) refl (upto_level_twice m n es (omega arith)) (upto_level_twice (suc m) (suc n) es h)
   where
     go : (b : Bool) → is_decision e ≡ b → upto_level m (upto_level n es) ≡ upto_level m es → upto_level (suc m) (upto_level (suc n) es) ≡ upto_level (suc m) es
         → upto_level (suc m) (upto_level (suc n) (e ∷ es)) ≡ upto_level (suc m) (e ∷ es)

@@ -3,7 +3,7 @@ use Rattle.pb_rules.specs.declared.Term.{Term}
 use Rattle.pb_rules.specs.Linear.{Linear, IsNormal, total}
 use Rattle.pb_rules.specs.CuttingPlanes.{merge, add}
 use Rattle.pb_rules.specs.Operations.{excess}
-use Rattle.pb_rules.proofs.Normal.{merge-total, add-normal}
+use Rattle.pb_rules.proofs.Normal.{merge-total, add_normal}
 use Rattle.cutting_planes.proofs.add.Goals as goal
 
 pub accept-requires-clause-sum : goal.accept-requires-clause-sum
@@ -36,4 +36,4 @@ accept-requires-clause-normal c =
     let same : R c.in_ok-merged.merged.terms.items c.saturating_sub-degree.result ≡ add a b = ap (λ (ts : List Term). R ts c.saturating_sub-degree.result) items
     ∙ ap (R (merge a.terms b.terms).terms) degree in
     let P : Linear → Type 0 = λ l. excess l ≡ None → IsNormal l.terms l.degree in
-    subst P (sym same) (add-normal a b c.terms.ensures.normal c.terms-2.ensures.normal)
+    subst P (sym same) (add_normal a b c.terms.ensures.normal c.terms-2.ensures.normal)

@@ -1,13 +1,13 @@
 use Rattle.std.proofs.Common.{ℕ, ◌≡◌, length, map, ap, ◌∙◌, arith, refl}
 use Rattle.spec_model.specs.Spec.{below}
 use Rattle.encode_model.specs.Block.{is_below}
-use Rattle.block_encode.proofs.Adding.{own-more}
+use Rattle.block_encode.proofs.Adding.{own_more}
 use Rattle.block_encode.proofs.Forms.{somewhere_normal, somewhere_is, made}
 use Rattle.block_encode.proofs.bounds.below_somewhere.Goals as goal
 
 pub loop-j-preserved : goal.loop-j-preserved
 loop-j-preserved c =
-    own-more c.args.spec.now c.args.cover_no c.loop-j.j c.below_var.result c.yes.result c.loop-j.terms.items c.push.new.self.items c.loop-j.invariant c.below_var.ensures.variable c.yes.ensures
+    own_more c.args.spec.now c.args.cover_no c.loop-j.j c.below_var.result c.yes.result c.loop-j.terms.items c.push.new.self.items c.loop-j.invariant c.below_var.ensures.variable c.yes.ensures
     c.in_ok-push.ensures.items
 
 pub of_normal-requires : goal.of_normal-requires

@@ -1,7 +1,7 @@
 use Rattle.std.proofs.Common.{◌≡◌, ◌<◌, ◌∙◌, ◌+◌, ◌-◌, ℕ, None, take, length, get_or, sym, ap, arith}
 use Rattle.std.proofs.lemmas.List.{get_or_read}
 use Rattle.constraint_store.specs.Spans.{live_from}
-use Rattle.constraint_store.proofs.LiveSpans.{empty_span, live_from-less}
+use Rattle.constraint_store.proofs.LiveSpans.{empty_span, live_from_less}
 use Rattle.constraint_store.proofs.Parts.{follow_taken}
 use Rattle.constraint_store.proofs.spans.drop_empty.Goals as goal
 
@@ -33,5 +33,5 @@ loop-filled-preserved c =
     record {
       within = omega arith;
       same = c.loop-filled.invariant.same;
-      live = λ ts. live_from-less ts ss n h none ∙ ap (λ (k : ℕ). live_from ts 0 (take k ss)) back ∙ c.loop-filled.invariant.live ts;
+      live = λ ts. live_from_less ts ss n h none ∙ ap (λ (k : ℕ). live_from ts 0 (take k ss)) back ∙ c.loop-filled.invariant.live ts;
     }

@@ -2,7 +2,7 @@ use Rattle.std.proofs.Common.{ℕ, List, [], ◌∷◌, ◌++◌, ◌≡◌, ◌
 use Rattle.std.proofs.lemmas.List.{with_items_is, length-map}
 use Rattle.dominance_lanes.specs.Columns.{Vectors, AreColumns}
 use Rattle.dominance_lanes.specs.Groups.{with_row}
-use Rattle.dominance_lanes.proofs.Rows.{seen, completed_by, rows-with_row, are-with_row}
+use Rattle.dominance_lanes.proofs.Rows.{seen, completed_by, rows-with_row, are_with_row}
 use Rattle.dominance_lanes.proofs.Columns.push.Goals as goal
 use Rattle.plain_lists.proofs.Results.{on_err}
 
@@ -31,7 +31,7 @@ invariant_of-self-2 c =
     subst (λ (cs : List (Vec ℕ Global)). AreColumns (map vec_items cs) c.self.inside.width c.in-Some.len) (sym (with_items_is c.complete.new.columns c.push_row.new.columns long))
     (subst (λ cs. AreColumns cs c.self.inside.width c.in-Some.len) (sym (c.in_ok-push_row.ensures.ok
     ∙ ap (λ (cs : List (Vec ℕ Global)). with_row (map vec_items cs) c.args.v.now) c.deref_mut.ensures.value))
-    (subst (λ n. AreColumns (with_row now c.args.v.now) c.self.inside.width n) (sym plus) (are-with_row now c.args.v.now c.self.inside.width c.self.inside.len whole width done.are.even)))
+    (subst (λ n. AreColumns (with_row now c.args.v.now) c.self.inside.width n) (sym plus) (are_with_row now c.args.v.now c.self.inside.width c.self.inside.len whole width done.are.even)))
 
 pub returns-clause-ok : goal.returns-clause-ok
 returns-clause-ok c =

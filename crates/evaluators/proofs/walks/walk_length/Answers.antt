@@ -4,7 +4,7 @@ use Rattle.spec_model.specs.Spec.{bits_of}
 use Rattle.spec_model.specs.Rules.{IsOn, sender_of}
 use Rattle.spec_model.proofs.Once.{IsOn-elsewhere}
 use Rattle.spec_model.proofs.Back.{IsBack-start, IsBack-step}
-use Rattle.evaluators.proofs.Walking.{walk_length-found, walk_length-none, walk_length-far}
+use Rattle.evaluators.proofs.Walking.{walk_length_found, walk_length-none, walk_length_far}
 use Rattle.evaluators.proofs.walks.walk_length.Goals as goal
 
 pub loop-hops-init : goal.loop-hops-init
@@ -15,7 +15,7 @@ returns-then-eq-clause-length c =
     let f = bits_of c.args.design.now in
     let on : IsOn c.args.spec.now f (sender_of c.args.spec.now c.args.m.0) c.loop-hops.at.0 =
     subst (λ (r : ℕ). IsOn c.args.spec.now f (sender_of c.args.spec.now c.args.m.0) r) (sym (eqb-true _ _ (sym c.eq.ensures ∙ c.if-eq.true))) c.requires.source in
-    sym (walk_length-found _ _ _ _ _ _ c.loop-hops.invariant.1 (omega arith) on)
+    sym (walk_length_found _ _ _ _ _ _ c.loop-hops.invariant.1 (omega arith) on)
 
 pub returns-in-None-clause-length : goal.returns-in-None-clause-length
 returns-in-None-clause-length c =
@@ -32,4 +32,4 @@ loop-hops-preserved c =
     (c.arc.ensures.tail_there, rw c.arc.ensures.tail next)
 
 pub returns-clause-length : goal.returns-clause-length
-returns-clause-length c = sym (walk_length-far _ _ _ _ _ _ c.loop-hops.invariant.1 (omega arith))
+returns-clause-length c = sym (walk_length_far _ _ _ _ _ _ c.loop-hops.invariant.1 (omega arith))

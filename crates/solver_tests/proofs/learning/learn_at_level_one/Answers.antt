@@ -27,8 +27,8 @@ in-range b (suc (suc k)) d l = absurd (omega arith)
 forces : (a : ConId) → Forces (value_in (take 1 (entries a))) (either true) (record { var = 1; yes = true })
 forces a = record { unassigned = refl; coef = 1; there = (1, omega arith, refl); beyond = omega arith }
 
-in-conflict : (a : ConId) → InConflict (value_in (entries a)) (either false)
-in-conflict a = omega arith
+in_conflict : (a : ConId) → InConflict (value_in (entries a)) (either false)
+in_conflict a = omega arith
 
 current : (a : ConId) → HasCurrent (entries a) (either false).terms
 current a = record { term = record { coef = 1; lit = record { var = 0; yes = true } }; there = (0, omega arith, refl); false_there = refl; current = refl }
@@ -75,7 +75,7 @@ meets live n es a b en ee la lb ca cb =
     let H : Linear → Type 0 = λ k. HasCurrent (entries a) k.terms in
     subst P (sym en) (subst Q (sym ee) (record {
       usable = usable live b false lb cb;
-      conflict = subst C (sym cb) (in-conflict a);
+      conflict = subst C (sym cb) (in_conflict a);
       current = subst H (sym cb) (current a);
       forced = forced live a (usable live a true la ca) ca;
     }))

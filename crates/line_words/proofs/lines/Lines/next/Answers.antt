@@ -9,7 +9,7 @@ use Rattle.line_words.specs.declared.lines.Line.{Line}
 use Rattle.line_words.specs.declared.refusals.Refusal1.{Refusal1}
 use Rattle.line_words.proofs.FirstLine.{lines-nil, fine_bytes}
 use Rattle.line_words.proofs.Passing.{passes_one, gives_one, refuses_one, again_end, again_line, again_refused}
-use Rattle.line_words.proofs.Spans.{words_from-no_word}
+use Rattle.line_words.proofs.Spans.{words_from_no_word}
 use Rattle.line_words.proofs.lines.Lines.next.Goals as goal
 
 pub returns-in-Some-clause-again : goal.returns-in-Some-clause-again
@@ -34,7 +34,7 @@ pub loop-self-preserved : goal.loop-self-preserved
 loop-self-preserved c =
     let first = c.first_line-first.ensures in
     let line = line_of c.loop-self.self-inside.rest.now in
-    let no_word : words line ≡ [] = words_from-no_word (content line) 0 (sym first.word ∙ c.if-first.false) in
+    let no_word : words line ≡ [] = words_from_no_word (content line) 0 (sym first.word ∙ c.if-first.false) in
     record {
       passes =
           passes_one c.args.self.now _ line (lines c.first_line-first.result.rest.now) (c.loop-self.self-inside.number + 1) c.loop-self.invariant.passes first.lines refl

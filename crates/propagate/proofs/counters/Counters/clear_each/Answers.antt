@@ -4,9 +4,9 @@ use Rattle.pb_constraints.specs.declared.ConId.{ConId}
 use Rattle.propagate.specs.declared.counters.Counters.{Counters}
 use Rattle.propagate.specs.Counters.{attached_from}
 use Rattle.propagate.proofs.Attaching.{empty}
-use Rattle.propagate.proofs.Attachments.{changes-put}
-use Rattle.propagate.proofs.Dropping.{drops-more}
-use Rattle.propagate.proofs.Emptying.{cleared-more}
+use Rattle.propagate.proofs.Attachments.{changes_put}
+use Rattle.propagate.proofs.Dropping.{drops_more}
+use Rattle.propagate.proofs.Emptying.{cleared_more}
 use Rattle.propagate.proofs.counters.Counters.clear_each.Goals as goal
 
 abbrev none : ConId
@@ -24,7 +24,7 @@ loop-c-preserved c =
     let e = c.clear.ensures in
     let id = get_or ids k none in
     let own : id ≡ get_or ids k id = get_or_default ids k none id h in
-    let put = changes-put m.slots.items n.slots.items id empty e.slots in
+    let put = changes_put m.slots.items n.slots.items id empty e.slots in
     let with_slots : Counters → Counters = λ v. record {
       variables = v.variables;
       slots = n.slots;
@@ -37,7 +37,7 @@ loop-c-preserved c =
       waiting = v.waiting;
     } in
     record {
-      attached = drops-more ids k id (attached_from 0 s.slots.items) (attached_from 0 m.slots.items) (attached_from 0 n.slots.items) h own p.attached put;
-      cleared = cleared-more s.slots.items m.slots.items n.slots.items s.rooms.items m.rooms.items n.rooms.items p.cleared e.cleared;
+      attached = drops_more ids k id (attached_from 0 s.slots.items) (attached_from 0 m.slots.items) (attached_from 0 n.slots.items) h own p.attached put;
+      cleared = cleared_more s.slots.items m.slots.items n.slots.items s.rooms.items m.rooms.items n.rooms.items p.cleared e.cleared;
       same = e.same ∙ ap with_slots p.same;
     }

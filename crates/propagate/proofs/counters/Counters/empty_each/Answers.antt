@@ -3,7 +3,7 @@ use Rattle.pb_rules.specs.Linear.{Linear}
 use Rattle.propagate.specs.declared.occurrences.Occurrence.{Occurrence}
 use Rattle.propagate.specs.declared.counters.Counters.{Counters}
 use Rattle.propagate.specs.Counters.{AreBuilt, is_filled}
-use Rattle.propagate.proofs.Emptying.{built-cleared}
+use Rattle.propagate.proofs.Emptying.{built_cleared}
 use Rattle.propagate.proofs.counters.Counters.empty_each.Goals as goal
 
 pub returns-clause-built : goal.returns-clause-built
@@ -33,7 +33,7 @@ returns-clause-built c =
           v.waiting;
     }) in
     subst P (sym e.same) (record {
-      built = built-cleared s.variables s.slots.items d.slots.items s.limits.items s.rooms.items d.rooms.items s.occurrences new b.built e.cleared is;
+      built = built_cleared s.variables s.slots.items d.slots.items s.limits.items s.rooms.items d.rooms.items s.occurrences new b.built e.cleared is;
       room = record { has_rooms = omega arith; has_limits = omega arith; can_wait = omega arith };
       lits = b.lits;
       used = b.used;

@@ -3,7 +3,7 @@ use Rattle.constraint_store.specs.Live.{new_id}
 use Rattle.propagate.specs.Attached.{Attached, IsMoved}
 use Rattle.propagate.specs.Propagator.{PropagatorView}
 use Rattle.propagate.specs.Counters.{attached_from}
-use Rattle.propagate.proofs.Remapping.{all-moved}
+use Rattle.propagate.proofs.Remapping.{all_moved}
 use Rattle.propagate.proofs.propagator.Propagator.remap.Goals as goal
 
 pub returns-clause-attached : goal.returns-clause-attached
@@ -12,4 +12,4 @@ returns-clause-attached c =
     let new = c.remap.new.self.slots.items in
     let held : attached_from 0 old ≡ c.args.self.now.attached = ap (λ (v : PropagatorView). v.attached) c.self.view_is in
     let P : List Attached → Type 0 = λ us. IsMoved (new_id c.args.moves.now) us (attached_from 0 new) in
-    subst P held (all-moved (new_id c.args.moves.now) old new c.of-first.ensures.one_to_one c.remap.ensures.moved)
+    subst P held (all_moved (new_id c.args.moves.now) old new c.of-first.ensures.one_to_one c.remap.ensures.moved)

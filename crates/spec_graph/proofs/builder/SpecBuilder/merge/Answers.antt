@@ -4,7 +4,7 @@ use Rattle.std.proofs.lemmas.List.{length-map}
 use Rattle.std.proofs.lemmas.List.Elements.{All-map}
 use Rattle.spec_model.specs.Spec.{SpecValue, Message}
 use Rattle.task_order.specs.Order.{IsOrderOf}
-use Rattle.spec_graph.specs.Held.{value_of}
+use Rattle.spec_graph.specs.Held.{held_spec}
 use Rattle.spec_graph.specs.Lists.{message_number}
 use Rattle.spec_graph.specs.Merged.{AreOfOneSender, IsMergeRepeated, IsNameOfOther, merged_message, merged_names, messages_at}
 use Rattle.spec_graph.specs.Refusals.{HasTwice}
@@ -52,8 +52,8 @@ invariant_of-self c =
     c.push_reserved.ensures.items in
     let named : c.in_ok-self-inside.field-0 ≡ merged_names names c.args.name.now listed = c.in_ok-self-inside.ensures ∙ ap (merged_names names c.args.name.now) value in
     record {
-      plan = plan_merged_at (value_of c.self.inside.held) c.args.name.now listed c.in_ok-self-inside.field-0 c.push_reserved.new.self.items named new
-          (plan_merged (value_of c.self.inside.held) c.args.name.now listed c.self.invariant.plan some there one free);
+      plan = plan_merged_at (held_spec c.self.inside.held) c.args.name.now listed c.in_ok-self-inside.field-0 c.push_reserved.new.self.items named new
+          (plan_merged (held_spec c.self.inside.held) c.args.name.now listed c.self.invariant.plan some there one free);
       order = subst (IsOrderOf c.self.inside.order) (sym new) (order_merged c.self.inside.order ms listed there one c.self.invariant.order);
       room = c.self.invariant.room;
     }

@@ -1,6 +1,6 @@
 use Rattle.std.proofs.Common.{length, ◌<◌, ◌≡◌, Contains, sym, ap, ◌∙◌, rules, arith, subst}
 use Rattle.spec_model.specs.Spec.{SpecValue}
-use Rattle.spec_graph.specs.Held.{value_of}
+use Rattle.spec_graph.specs.Held.{held_spec}
 use Rattle.spec_graph.specs.Refusals.{HasBig}
 use Rattle.spec_graph.proofs.Growing.{plan_resource_at, row_added}
 use Rattle.spec_graph.proofs.builder.SpecBuilder.resource.Goals as goal
@@ -14,7 +14,7 @@ invariant_of-self-2 c =
     let rows = row_added c.self.inside.held.resource_weights.items c.reserve.new.self.items c.push_reserved.new.self.items c.in_ok-weights.weights c.args.weights.now c.reserve.ensures.items
     c.push_reserved.ensures.items c.in_ok-weights.ensures in
     record {
-      plan = plan_resource_at (value_of c.self.inside.held) c.args.name.now c.args.weights.now _ _ c.in_ok-number.ensures.added rows c.self.invariant.plan new
+      plan = plan_resource_at (held_spec c.self.inside.held) c.args.name.now c.args.weights.now _ _ c.in_ok-number.ensures.added rows c.self.invariant.plan new
           (c.requires.one_each ∙ sym objectives) small room;
       order = c.self.invariant.order;
       room = c.self.invariant.room;
