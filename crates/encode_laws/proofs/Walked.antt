@@ -1,5 +1,5 @@
 -- The steps and covers of a model are the walks of its design.
-use Rattle.core.specs.Cmp.{both_ways}
+use Rattle.std.specs.Cmp.{both_ways}
 use Rattle.std.proofs.Common.{◌≡◌, ℕ, zero, suc, ◌+◌, ◌<◌, ◌≤◌, true, length, refl, sym, ap, ◌∙◌, subst, arith}
 use Rattle.spec_model.specs.Spec.{SpecValue, Bits, message_at, arc_at, step_var, covered_var}
 use Rattle.spec_model.specs.Rules.{IsOn, Uses, Walk, WalkBelow, sender_of}

@@ -1,6 +1,6 @@
 //! A specification that grows, call by call.
 
-ghost use Rattle.std.specs.Prelude.{◌≡◌, ◌≤◌, length};
+ghost use Rattle.std.specs.Prelude.{◌≡◌, ◌*◌, ◌≤◌, length};
 ghost use Rattle.spec_model.specs.Spec.{empty_spec};
 ghost use Rattle.spec_model.specs.WellFormed.{IsPlan};
 ghost use Rattle.spec_model.specs.Limits.{most_tasks, most_messages, most_resources, most_links, most_options, most_objectives};

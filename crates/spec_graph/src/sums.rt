@@ -2,7 +2,7 @@
 //!
 //! The numbers of options of the tasks are counted once, so that the sum over all receivers is cheap.
 
-ghost use Rattle.std.specs.Prelude.{◌≡◌, ◌<◌, ◌≤◌, ◌^◌, length, All, map, IfOk, sum_by, count_by};
+ghost use Rattle.std.specs.Prelude.{◌≡◌, ◌*◌, ◌<◌, ◌≤◌, ◌^◌, length, All, map, IfOk, sum_by, count_by};
 ghost use Rattle.spec_model.specs.Spec.{below};
 ghost use Rattle.spec_model.specs.Limits.{most_messages, most_resources, most_links, most_options};
 ghost use Rattle.spec_graph.specs.Sums.{kept_further, kept_terms, is_of_task, options_of_task, count_at, IsCounted};
