@@ -1,40 +1,35 @@
 -- Words, numbers and entries that are taken one by one.
-use Rattle.std.proofs.Common.{◌≡◌, ℕ, zero, suc, ◌+◌, ◌<◌, ◌≤◌, Bool, true, List, [], ◌∷◌, ◌++◌, length, map, take, drop, get_or, Option, Some, None, Result, Ok, refl, sym, ap, ◌∙◌, subst, arith, Bor}
+use Rattle.std.proofs.Common.{◌≡◌, ℕ, zero, suc, ◌+◌, ◌<◌, Bool, true, List, [], ◌∷◌, ◌++◌, length, map, take, get_or, Option, Some, None, Result, refl, sym, ap, ◌∙◌, subst, arith, Bor}
 use Rattle.std.specs.Prelude.{All, ◌||◌}
 use Rattle.std.specs.List.{list_any}
-use Rattle.std.proofs.lemmas.List.{drop_more, drop_all, take_more, map_push, get_or-map, length-map}
+use Rattle.std.proofs.lemmas.List.{take_more, map_push, get_or-map, length-map}
 use Rattle.std.proofs.lemmas.List.Folds.{list_any_at}
 use Rattle.line_words.specs.Rules.{Words, said}
-use Rattle.pb_rules.specs.Linear.{Linear}
-use Rattle.pb_rules.specs.Operations.{Context, Fault, and_then}
-use Rattle.proof_words.specs.Words.{op_of, numeral_number}
+use Rattle.pb_rules.specs.Operations.{Fault, and_then}
+use Rattle.proof_words.specs.Words.{numeral_number}
 use Rattle.spelled_lines.specs.Lines.{is_empty}
 use Rattle.result_text.specs.Answers.{EntryValue, as_seen}
 use Rattle.result_text.specs.declared.entries.Entry.{Entry}
 use Rattle.spelled_lines.proofs.Saying.{any_said}
 use Rattle.proof_log.specs.Files.{onto_said, with_said}
-use Rattle.front_model.specs.Judging.{judge_op, judge_words, numbers_of, is_at_most}
+use Rattle.front_model.specs.Judging.{numbers_of, is_at_most}
 use Rattle.spec_model.specs.Spec.{SpecValue}
 use Rattle.result_text.specs.Fronts.{IsShaped}
 use Rattle.proof_checker.specs.Checkers.{vectors_in}
+use Rattle.proof_checker.specs.Answers.{StepHalts}
+use Rattle.proof_checker.specs.declared.faults.StepFault.{StepFault}
 use Rattle.proof_checker.specs.declared.faults.StepFault.TheVariants as steps
 
 abbrev Lent : Type 0
 Lent = Bor (List ℕ)
 
-abbrev Judged : Type 0
-Judged = Result (List Linear) Fault
-
-next_word : (context : Context) (ws : List Lent) (i : ℕ) (d : Lent) (st : List Linear) (whole : Judged) → i < length ws → judge_words context (said (drop i ws)) st ≡ whole
-    → and_then (judge_words context (said (drop (i + 1) ws))) (judge_op context st (op_of (get_or ws i d).now)) ≡ whole
-next_word context ws i d st whole l e = sym (ap (λ (vs : List Lent). judge_words context (said vs) st) (drop_more ws i d l)) ∙ e
-
-pub word_taken : (context : Context) (ws : List Lent) (i : ℕ) (d : Lent) (st new : List Linear) (whole : Judged) → i < length ws → judge_words context (said (drop i ws)) st ≡ whole
-    → judge_op context st (op_of (get_or ws i d).now) ≡ Ok new → judge_words context (said (drop (i + 1) ws)) new ≡ whole
-word_taken context ws i d st new whole l e q = sym (ap (and_then (judge_words context (said (drop (i + 1) ws)))) q) ∙ next_word context ws i d st whole l e
-
-pub words_end : (context : Context) (ws : List Lent) (i : ℕ) (st : List Linear) (whole : Judged) → length ws ≤ i → judge_words context (said (drop i ws)) st ≡ whole → whole ≡ Ok st
-words_end context ws i st whole l e = sym e ∙ ap (λ (vs : List Lent). judge_words context (said vs) st) (drop_all i ws l)
+-- a fault stays one, whatever would follow
+pub halts_on : {X Y : Type 0} (f : X → Result Y Fault) (o : Result X Fault) (fault : StepFault) → StepHalts o fault → StepHalts (and_then f o) fault
+halts_on f o (steps.Unknown n) h = ap (and_then f) h
+halts_on f o steps.ZeroDivisor h = ap (and_then f) h
+halts_on f o (steps.TooLarge n) h = ap (and_then f) h
+halts_on f o steps.NoStep h = ap (and_then f) h
+halts_on f o steps.NoMemory h = tt
 
 pub some_empty : (ws : List Lent) (i : ℕ) (d : Lent) → i < length ws → is_empty (get_or ws i d).now ≡ true → true ≡ list_any is_empty (said ws)
 some_empty ws i d l e = sym (any_said is_empty ws ∙ list_any_at (λ (w : Lent). is_empty w.now) ws i d l e)
