@@ -4,9 +4,9 @@ use Rattle.desk_io.specs.Files.{Files}
 use Rattle.line_words.specs.declared.refusals.ReadFault.{ReadFault}
 use Rattle.line_words.specs.declared.refusals.ReadFault.TheVariants as faults
 use Rattle.run_words.specs.Fit.{IsFit}
-use Rattle.run_words.specs.Values.{RequestValue, decode, explore, front, check}
+use Rattle.run_words.specs.Values.{RequestValue, decode, explore, front, check, make}
 use Rattle.run_base.specs.After.{After, GoesOn}
-use Rattle.run_base.specs.Worlds.{World, NamesValue, AreLoaded, AreLoadedFrom, IsWorldOf}
+use Rattle.run_base.specs.Worlds.{World, NamesValue, AreLoaded}
 use Rattle.run_base.specs.declared.inputs.Inputs.{Inputs}
 use Rattle.run_base.specs.declared.outcome.Ending.{Ending}
 use Rattle.run_base.specs.declared.outcome.Ending.TheVariants as endings
@@ -16,7 +16,8 @@ use Rattle.explore_run.specs.Exploring.{Finds as FindsArchive}
 use Rattle.explore_run.specs.Exploring.{ExplorationValue}
 use Rattle.front_run.specs.Fronting.{WantedFrontValue}
 use Rattle.front_run.specs.Fronting.{Finds as FindsFront}
-use Rattle.dse_run.specs.Commands.{ComesTo, HasBudget, exploration_of, names_of, wanted_of}
+use Rattle.make_run.specs.Making.{Says}
+use Rattle.dse_run.specs.Commands.{AreLoadedFor, ComesTo, HasBudget, exploration_of, names_of, wanted_of}
 use Rattle.dse_run.specs.Decoding.{EvidenceValue, Finds}
 use Rattle.dse_run.specs.Run.{AnswersRequest, AnswersTo, EndsBy, ReplyValue, status_of}
 use Rattle.dse_run.specs.declared.status.Status.TheVariants.{Usage, Budget}
@@ -25,11 +26,11 @@ use Rattle.dse_run.specs.declared.status.Status.TheVariants.{Usage, Budget}
 
 -- what a request comes to over what was loaded is what is answered
 pub answered : (asked : RequestValue) (tools : ToolsValue) (calls : List ℕ) (files now_files : Option Files) (names : NamesValue) (inputs : Inputs) (tried : Result Outcome ReadFault)
-    (reply : ReplyValue) → names ≡ names_of asked → AreLoadedFrom files names inputs → now_files ≡ files
+    (reply : ReplyValue) → names ≡ names_of asked → AreLoadedFor files asked inputs → now_files ≡ files
     → ((world : World) → AreLoaded inputs world → ComesTo asked tools calls now_files world tried) → EndsBy names tried reply → AnswersRequest asked tools calls files reply
 answered asked tools calls files now_files names inputs tried reply names_is loaded files_is comes ends = record {
   world = loaded.world;
-  found = subst (λ (n : NamesValue). IsWorldOf files n loaded.world) names_is loaded.found;
+  found = loaded.found;
   result = tried;
   comes = subst (λ (f : Option Files). ComesTo asked tools calls f loaded.world tried) files_is (comes loaded.world loaded.loaded);
   ends = subst (λ (n : NamesValue). EndsBy n tried reply) names_is ends;
@@ -91,6 +92,12 @@ explores_budget : (wanted : ExplorationValue) (tools : ToolsValue) (calls : List
 explores_budget wanted tools calls outcome e s (inl h) = let q = sym h.ending ∙ e in absurd (cc)
 explores_budget wanted tools calls outcome e s (inr h) = let q = sym h.ending ∙ e in absurd (cc)
 
+-- nothing that is made ends by a budget
+makes_budget : (number : ℕ) (rounds : Option ℕ) (s : _) (e : Ending) (text : _) → Says number rounds s e text → e ≡ endings.Budget → ⊥
+makes_budget number None s e text h b = let q = sym h.0 ∙ b in absurd (cc)
+makes_budget number (Some rounds) s e text (inl h) b = let q = sym h.ending_is ∙ b in absurd (cc)
+makes_budget number (Some rounds) s e text (inr h) b = let q = sym h.ending_is ∙ b in absurd (cc)
+
 ends_by_budget : (e : Ending) → status_of e ≡ Budget → e ≡ endings.Budget
 ends_by_budget endings.Done e = absurd (cc)
 ends_by_budget endings.No e = absurd (cc)
@@ -104,6 +111,7 @@ comes_to_budget n (explore x) tools calls files world outcome fit e h = after_ok
 comes_to_budget n (front f) tools calls files world outcome fit e h = after_ok _ _ outcome (λ s found. fronts_budget (wanted_of f) outcome e s found) h
 comes_to_budget n (check c) tools calls files world outcome fit e h =
     after_ok _ _ outcome (λ s k. after_ok _ _ outcome (λ front judged. elim judged.ends [ inl x ↦ (let q = sym x.0 ∙ e in absurd (cc)) | inr x ↦ (let q = sym x.0 ∙ e in absurd (cc)) ]) k) h.holds
+comes_to_budget n (make m) tools calls files world outcome fit e h = makes_budget m.number m.rounds h.spec outcome.ending outcome.text.items h.says e
 
 request_budget : (n : ℕ) (asked : RequestValue) (tools : ToolsValue) (calls : List ℕ) (files : Option Files) (reply : ReplyValue) (world : World) (result : Result Outcome ReadFault)
     → IsFit n asked → ComesTo asked tools calls files world result → EndsBy (names_of asked) result reply → reply.status ≡ Budget → HasBudget asked

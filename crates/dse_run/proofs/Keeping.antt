@@ -1,7 +1,7 @@
 -- What is left of tools that no command calls.
 use Rattle.std.proofs.Common.{◌≡◌, ◌∙◌, ◌+◌, ◌<◌, ◌++◌, ◌∷◌, [], ℕ, List, Option, Some, None, get_or, length, map, take, refl, sym, ap}
 use Rattle.std.proofs.lemmas.List.{take_more, map_push}
-use Rattle.run_words.specs.Values.{RequestValue, decode, explore, front, check}
+use Rattle.run_words.specs.Values.{RequestValue, decode, explore, front, check, make}
 use Rattle.explore_run.specs.Tools.{ToolsValue}
 use Rattle.dse_run.specs.Commands.{Calls, KeepsTools}
 use Rattle.evo_explore.proofs.Rounds.{none_rose}
@@ -12,6 +12,7 @@ none_called (Some (decode d)) calls = refl
 none_called (Some (explore e)) calls = none_rose e.rounds e.chosen calls
 none_called (Some (front f)) calls = refl
 none_called (Some (check c)) calls = refl
+none_called (Some (make m)) calls = refl
 
 -- nothing is done with them
 pub same_kept : (asked : Option RequestValue) (tools : ToolsValue) → KeepsTools asked tools tools

@@ -13,7 +13,7 @@ ghost use Rattle.file_writes.specs.Writes.{AreWritten, ArePartlyWritten, Leaves}
 ghost use Rattle.dse_run.specs.Commands.{HasBudget, KeepsTools};
 ghost use Rattle.dse_run.specs.Run.{status_of, Answered, AnswersRequest, AnswersTo, EndsBy, IsCut, IsLeft};
 
-use crate::commands::{answer, names_of};
+use crate::commands::{answer, inputs_for, names_of};
 use crate::exploring::tags_of;
 use crate::refusing::put_input;
 use crate::status::Status;
@@ -21,7 +21,7 @@ use desk_io::{Desk, DeskError};
 use evaluators::Evaluator;
 use file_writes::Writes;
 use line_words::ReadFault;
-use run_base::{Ending, Names, Outcome, load_inputs};
+use run_base::{Ending, Names, Outcome};
 use run_words::laws::law_of_requests;
 use run_words::{Request, put_usage, read_words};
 use std::alloc::{AllocError, Global};
@@ -98,7 +98,7 @@ fn reply_to<D: Desk>(
     ensures cause { HasCause (D.faults desk.old) (D.faults desk.new) result }
 {
     let names = names_of(request);
-    let inputs = load_inputs(alloc, desk, &names)?;
+    let inputs = inputs_for(alloc, desk, request, &names)?;
     let tried = answer(alloc, desk, request, &inputs, tools)?;
     let reply = reply_of(alloc, &names, tried)?;
     Ok(reply)

@@ -69,7 +69,8 @@ members_sized s measured start last rounds run Done h =
     (best_all (IsSized s) covers h.entries (rounds_sized s word_of next_of measured [] h.entries start last h.rounds_are))
 members_sized s measured start last rounds run Infeasible h = subst (λ (ms : List Member). All (IsSized s) ms) (sym h.no_members) (All-nil (IsSized s))
 
-done_is_feasible : Done ≡ Infeasible → ⊥
+-- an end with its rounds isn't that of a specification without a design
+pub done_is_feasible : Done ≡ Infeasible → ⊥
 done_is_feasible e = absurd (cc)
 
 pub finds : LegalReadBack → DecodingsStayShown → (s : SpecValue) → IsFrameOf s (cover_frame s) → (wanted : ExplorationValue) (tools : ToolsValue) (calls : List ℕ) (last : Lcg) (run : Run) (end : End)

@@ -9,6 +9,7 @@ use Rattle.run_words.specs.Decoding.{decode_request, decode_table, decode_with}
 use Rattle.run_words.specs.Exploring.{explore_request, explore_table, explore_with}
 use Rattle.run_words.specs.Fronting.{front_request, front_table, front_with}
 use Rattle.run_words.specs.Checking.{check_request, check_table, check_with}
+use Rattle.run_words.specs.Making.{make_request, make_table, make_with}
 
 pub asked_none : (words : List Text) → Reads (form_of decode_table) words None → decode_request words ≡ None
 unfolding decode_request
@@ -49,3 +50,12 @@ pub check_asked : (words : List Text) (m : ArgMatches) → Reads (form_of check_
     (first_value (found_of m) (codes "proof"))
 unfolding check_request
 check_asked words m h = rw (h.1, h.2 (codes "tgff"), h.2 (codes "arch"), h.2 (codes "front"), h.2 (codes "proof")) refl
+
+pub make_asked_none : (words : List Text) → Reads (form_of make_table) words None → make_request words ≡ None
+unfolding make_request
+make_asked_none words e = rw e refl
+
+pub make_asked : (words : List Text) (m : ArgMatches) → Reads (form_of make_table) words (Some m)
+    → make_request words ≡ make_with (first_value (found_of m) (codes "number")) (first_value (found_of m) (codes "arch")) (first_value (found_of m) (codes "rounds"))
+unfolding make_request
+make_asked words m h = rw (h.1, h.2 (codes "number"), h.2 (codes "arch"), h.2 (codes "rounds")) refl

@@ -10,7 +10,7 @@ use Rattle.run_words.specs.Fit.{HasFitTools}
 use Rattle.run_words.proofs.Places.{AreFitPlaces, fit_given}
 
 -- a number that is read is at most the greatest one
-few_up_to : (most : ℕ) (t : Text) → IfSome (number_up_to most t) (λ n. n ≤ most)
+pub few_up_to : (most : ℕ) (t : Text) → IfSome (number_up_to most t) (λ n. n ≤ most)
 few_up_to most t = go (number_from 0 t)
   where
     at : (n : ℕ) (b : Bool) → nat_le n most ≡ b → IfSome (cond b (Some n) None) (λ m. m ≤ most)

@@ -7,15 +7,16 @@ use Rattle.std.proofs.lemmas.Slice.Eq.{bytes_eq-Decides}
 use Rattle.form_words.specs.Line.{Text, Use, line, value_under}
 use Rattle.form_words.specs.Table.{form_of}
 use Rattle.run_words.specs.Names.{is_file, is_apart}
-use Rattle.run_words.specs.Numbers.{is_whole, number_from, number_if_given}
+use Rattle.run_words.specs.Numbers.{is_whole, number_from, number_if_given, number_up_to}
 use Rattle.run_words.specs.Decoding.{DecodeValue, are_taken, is_written, budget_with, decode_named, decode_with, decode_of, decode_request, decode_table}
-use Rattle.run_words.specs.Exploring.{explore_request}
+use Rattle.run_words.specs.Exploring.{explore_request, most_rounds}
 use Rattle.run_words.specs.Fronting.{FrontingValue, are_read, are_written, front_named, front_with, front_of, front_request, front_table}
 use Rattle.run_words.specs.Checking.{check_request}
-use Rattle.run_words.specs.Values.{RequestValue, decode, explore, front, check}
+use Rattle.run_words.specs.Making.{MakingValue, rounds_if_given, make_numbered, make_with, make_of, make_request, make_table}
+use Rattle.run_words.specs.Values.{RequestValue, decode, explore, front, check, make}
 use Rattle.run_words.specs.Requests.{request}
-use Rattle.run_words.specs.Fit.{HasFitBudget, HasFitFiles, IsFit}
-use Rattle.run_words.proofs.Explored.{fit_explore}
+use Rattle.run_words.specs.Fit.{HasFitBudget, HasFitFiles, HasFitRounds, IsFit}
+use Rattle.run_words.proofs.Explored.{few_up_to, fit_explore}
 
 -- a number that is read is at least the least one
 number_above : (least : ℕ) (t : Text) → IfSome (number_from least t) (λ n. least ≤ n)
@@ -131,6 +132,41 @@ fit_front words v e = go (line (form_of front_table) words) e
     go (Some us) e =
         fit_front_with (value_under (codes "tgff") us) (value_under (codes "arch") us) (value_under (codes "front") us) (value_under (codes "proof") us) (value_under (codes "budget") us) v e
 
+-- ---- the rounds of a made specification
+
+few_given : (t : Option Text) → IfSome (rounds_if_given t) (λ n. IfSome n (λ k. k ≤ most_rounds))
+few_given None = tt
+few_given (Some t) = go (number_up_to most_rounds t) (few_up_to most_rounds t)
+  where
+    go : (n : Option ℕ) → IfSome n (λ k. k ≤ most_rounds) → IfSome (option_map (λ k. Some k) n) (λ m. IfSome m (λ k. k ≤ most_rounds))
+    go None h = tt
+    go (Some k) h = h
+
+abbrev numbered : Text → ℕ → Option ℕ → MakingValue
+numbered a n r = record { number = n; arch = a; rounds = r }
+
+fit_numbered : (a : Text) (n : Option ℕ) (r : Option (Option ℕ)) (v : MakingValue) → IfSome r (λ m. IfSome m (λ k. k ≤ most_rounds)) → make_numbered a n r ≡ Some v → HasFitRounds v
+fit_numbered a None r v h e = absurd (cc)
+fit_numbered a (Some n) None v h e = absurd (cc)
+fit_numbered a (Some n) (Some r) v h e = go (is_file a) e
+  where
+    go : (b : Bool) → cond b (Some (numbered a n r)) None ≡ Some v → HasFitRounds v
+    go true e = let q : numbered a n r ≡ v = cc in subst HasFitRounds q h
+    go false e = absurd (cc)
+
+fit_make_with : (n a r : Option Text) (v : MakingValue) → make_with n a r ≡ Some v → HasFitRounds v
+fit_make_with None a r v e = absurd (cc)
+fit_make_with (Some n) None r v e = absurd (cc)
+fit_make_with (Some n) (Some a) r v e = fit_numbered a (number_from 0 n) (rounds_if_given r) v (few_given r) e
+
+fit_make : (words : List Text) (v : MakingValue) → make_request words ≡ Some v → HasFitRounds v
+unfolding make_request
+fit_make words v e = go (line (form_of make_table) words) e
+  where
+    go : (us : Option (List Use)) → option_and_then make_of us ≡ Some v → HasFitRounds v
+    go None e = absurd (cc)
+    go (Some us) e = fit_make_with (value_under (codes "number") us) (value_under (codes "arch") us) (value_under (codes "rounds") us) v e
+
 -- ---- each request
 
 fit_of : {X : Type 0} (tools : ℕ) (made : X → RequestValue) (r : Option X) (asked : RequestValue) → ((x : X) → r ≡ Some x → IsFit tools (made x)) → option_map made r ≡ Some asked → IsFit tools asked
@@ -139,15 +175,17 @@ fit_of tools made (Some x) asked h e = let q : made x ≡ asked = cc in subst (I
 
 pub requests_fit : (tags words : List Text) (asked : RequestValue) → request tags words ≡ Some asked → IsFit (length tags) asked
 requests_fit tags [] asked e = absurd (cc)
-requests_fit tags (name ∷ words) asked e = go (bytes_eq name (codes "decode")) (bytes_eq name (codes "explore")) (bytes_eq name (codes "front")) (bytes_eq name (codes "check")) e
+requests_fit tags (name ∷ words) asked e =
+    go (bytes_eq name (codes "decode")) (bytes_eq name (codes "explore")) (bytes_eq name (codes "front")) (bytes_eq name (codes "check")) (bytes_eq name (codes "make")) e
   where
     n : ℕ
     n = length tags
 
-    go : (d x f c : Bool) → cond d (option_map decode (decode_request words)) (cond x (option_map explore (explore_request tags words))
-        (cond f (option_map front (front_request words)) (cond c (option_map check (check_request words)) None))) ≡ Some asked → IsFit n asked
-    go true x f c e = fit_of n decode (decode_request words) asked (fit_decode words) e
-    go false true f c e = fit_of n explore (explore_request tags words) asked (fit_explore tags words) e
-    go false false true c e = fit_of n front (front_request words) asked (fit_front words) e
-    go false false false true e = fit_of n check (check_request words) asked (λ x q. tt) e
-    go false false false false e = absurd (cc)
+    go : (d x f c m : Bool) → cond d (option_map decode (decode_request words)) (cond x (option_map explore (explore_request tags words))
+        (cond f (option_map front (front_request words)) (cond c (option_map check (check_request words)) (cond m (option_map make (make_request words)) None)))) ≡ Some asked → IsFit n asked
+    go true x f c m e = fit_of n decode (decode_request words) asked (fit_decode words) e
+    go false true f c m e = fit_of n explore (explore_request tags words) asked (fit_explore tags words) e
+    go false false true c m e = fit_of n front (front_request words) asked (fit_front words) e
+    go false false false true m e = fit_of n check (check_request words) asked (λ x q. tt) e
+    go false false false false true e = fit_of n make (make_request words) asked (fit_make words) e
+    go false false false false false e = absurd (cc)

@@ -4,6 +4,7 @@ use Rattle.run_words.specs.Decoding.{DecodeValue}
 use Rattle.run_words.specs.Exploring.{ExploringValue}
 use Rattle.run_words.specs.Fronting.{FrontingValue}
 use Rattle.run_words.specs.Checking.{CheckValue}
+use Rattle.run_words.specs.Making.{MakingValue}
 use Rattle.run_words.specs.declared.request.Request.{Request}
 use Rattle.run_words.specs.declared.request.Request.TheVariants as asks
 
@@ -13,6 +14,7 @@ pub data RequestValue : Type 0 where
   explore : ExploringValue → RequestValue
   front : FrontingValue → RequestValue
   check : CheckValue → RequestValue
+  make : MakingValue → RequestValue
 
 -- what a request says
 abbrev pub request_value : Request → RequestValue
@@ -23,3 +25,4 @@ request_value (asks.Explore tgff arch rounds seed chosen proof_file) =
 request_value (asks.Front tgff arch front_file proof_file budget) =
     front (record { tgff = string_bytes tgff; arch = string_bytes arch; front = string_bytes front_file; proof = string_bytes proof_file; budget = budget })
 request_value (asks.Check tgff arch front_file proof_file) = check (record { tgff = string_bytes tgff; arch = string_bytes arch; front = string_bytes front_file; proof = string_bytes proof_file })
+request_value (asks.Make number arch rounds) = make (record { number = number; arch = string_bytes arch; rounds = rounds })

@@ -8,6 +8,7 @@ use crate::check::{put_check_usage, read_check};
 use crate::decode::{put_decode_usage, read_decode};
 use crate::explore::{put_explore_usage, read_explore};
 use crate::front::{put_front_usage, read_front};
+use crate::make::{put_make_usage, read_make};
 use std::alloc::{AllocError, Global};
 
 /// What a command line asks for.
@@ -69,6 +70,16 @@ pub enum Request {
         /// The proof file.
         proof_file: String,
     },
+    /// `make N --arch FILE [--rounds K]`: the specification that is made from a number, written to a file, and explored
+    /// where rounds are given.
+    Make {
+        /// The number.
+        number: u64,
+        /// The file that the text of the specification is written to.
+        arch: String,
+        /// How many rounds it is explored, at most 65,536, where that is given.
+        rounds: Option<u64>,
+    },
 }
 
 /// The request of the words after a first one.
@@ -91,6 +102,9 @@ fn read_named(
     }
     if name == "check" {
         return read_check(alloc, words);
+    }
+    if name == "make" {
+        return read_make(alloc, words);
     }
     Ok(None)
 }
@@ -119,6 +133,7 @@ fn usage_of(alloc: Global) -> Result<Vec<u8>, AllocError>
     put_explore_usage(&mut text)?;
     put_front_usage(&mut text)?;
     put_check_usage(&mut text)?;
+    put_make_usage(&mut text)?;
     Ok(text)
 }
 
