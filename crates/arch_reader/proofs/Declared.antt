@@ -3,13 +3,15 @@ use Rattle.std.proofs.Common.{◌≡◌, ℕ, Bool, ◌||◌, List, [], ◌∷�
 use Rattle.std.specs.List.{list_any}
 use Rattle.std.specs.Option.{option_or}
 use Rattle.std.proofs.lemmas.List.{flat_map_more}
+use Rattle.std.proofs.Math.Bool.{or-false}
 use Rattle.arch_reader.specs.Seen.{objectives_in, resources_in, links_in, clock_in, clock_of, is_timed, seen, after}
 use Rattle.arch_reader.specs.declared.statement.Statement.{Statement}
 use Rattle.arch_reader.specs.declared.seen.Objective.{Objective}
 use Rattle.arch_reader.specs.declared.seen.Seen.{Seen}
-use Rattle.file_bricks.proofs.Deciding.{or_false, or_or}
+use Rattle.file_bricks.proofs.Deciding.{or_or}
 
-or_none : (o : Option ℕ) → option_or o None ≡ o
+-- what is there already stays where nothing is stated
+pub or_none : (o : Option ℕ) → option_or o None ≡ o
 or_none None = refl
 or_none (Some n) = refl
 
@@ -22,7 +24,7 @@ clock_of-push [] s = or_none (clock_in s)
 clock_of-push (x ∷ ss) s = ap (λ (o : Option ℕ). option_or (clock_in x) o) (clock_of-push ss s) ∙ or_assoc (clock_in x) (clock_of ss) (clock_in s)
 
 timed-push : (ss : List Statement) (s : Statement) → list_any is_timed (ss ++ s ∷ []) ≡ (list_any is_timed ss || is_timed s)
-timed-push [] s = or_false (is_timed s)
+timed-push [] s = or-false (is_timed s)
 timed-push (x ∷ ss) s = ap (λ (b : Bool). is_timed x || b) (timed-push ss s) ∙ or_or (is_timed x) (list_any is_timed ss) (is_timed s)
 
 abbrev made : List Objective → List (List ℕ) → List (List ℕ) → Option ℕ → Bool → Seen

@@ -17,7 +17,7 @@ use Rattle.file_bricks.proofs.Headed.{header_wrong, header_right}
 use Rattle.arch_reader.specs.Shapes.{form_of}
 use Rattle.arch_reader.specs.Seen.{seen}
 use Rattle.arch_reader.specs.Tests.{tests}
-use Rattle.arch_reader.specs.Arch.{is_header, later, at_end, arch_rules, lines_of, statements_in, stated, lines_in, ArchValue}
+use Rattle.arch_reader.specs.Arch.{is_header, later, at_end, arch_rules, lines_of, statements_in, arch_stated, lines_in, ArchValue}
 use Rattle.arch_reader.specs.declared.seen.Seen.{Seen}
 
 abbrev statement : List Line → Words → List Test
@@ -29,18 +29,12 @@ end before = end_after_header at_end before
 -- ---- how many lines there are
 
 -- a line is given: the number past the last line stays
-pub count-gives : (old new : Left) (line : Numbered) → Gives old new line → new.number + length new.lines ≡ old.number + length old.lines
-count-gives old new line g =
+pub count_gives : (old new : Left) (line : Numbered) → Gives old new line → new.number + length new.lines ≡ old.number + length old.lines
+count_gives old new line g =
     let p = g.passes in
     let n = length-append p.passed (g.line ∷ new.lines) in
     let l = ap length p.lines_are in
     omega (arith, n, l, p.number_is, g.number_is)
-
-pub count-passes : (old new : Left) → Passes old new → new.number + length new.lines ≡ old.number + length old.lines
-count-passes old new p =
-    let n = length-append p.passed new.lines in
-    let l = ap length p.lines_are in
-    omega (arith, n, l, p.number_is)
 
 -- ---- the header
 
@@ -76,12 +70,13 @@ stops old new line header done ws s total why g e is so_far broken =
 pub alone : (old new : Left) (before : List Line) (refusal : Refusal1) (total : Reading) → Refuses old new refusal → run arch_rules old.number before old.lines ≡ total → total ≡ Err refusal
 alone old new before refusal total r so_far = refused_alone statement end before old new refusal total r so_far
 
-pub ends : (old new : Left) (header : Line) (done : List Line) (total : Reading) → Passes old new → new.lines ≡ [] → run arch_rules old.number (header ∷ done) old.lines ≡ total → total ≡ Ok (header ∷ done)
+pub ends : (old new : Left) (header : Line) (done : List Line) (total : Reading) → Passes old new → new.lines ≡ [] → run arch_rules old.number (header ∷ done) old.lines ≡ total
+    → total ≡ Ok (header ∷ done)
 ends old new header done total p none so_far = ends_well statement end (header ∷ done) old new total p none so_far refl
 
 -- ---- what the reader answers
 
 -- a refusal of this file
 pub at_fault : (total : Reading) (fault : ReadFault) (line : ℕ) (why : Why) → fault ≡ faults.Refused (record { file = Arch; line = line; why = why })
-    → total ≡ Err (record { line = line; why = why }) → Agrees {X = ArchValue} Arch lines_in stated total (Err fault)
-at_fault total fault line why e t = subst (λ (f : ReadFault). Agrees {X = ArchValue} Arch lines_in stated total (Err f)) (sym e) (refl, t)
+    → total ≡ Err (record { line = line; why = why }) → Agrees {X = ArchValue} Arch lines_in arch_stated total (Err fault)
+at_fault total fault line why e t = subst (λ (f : ReadFault). Agrees {X = ArchValue} Arch lines_in arch_stated total (Err f)) (sym e) (refl, t)

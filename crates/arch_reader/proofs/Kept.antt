@@ -24,9 +24,6 @@ pub record IsTaken (taken : Taken) (done : List Line) : Type 0 where
   pub lines_are : taken.lines ≡ lines_of done
   pub pass : AllPass [] taken.lines
 
-pub none_taken : (taken : Taken) → taken.seen ≡ seen [] → taken.lines ≡ [] → IsTaken taken []
-none_taken taken s l = record { seen_is = s; lines_are = l; pass = subst (AllPass []) (sym l) tt }
-
 -- one more statement passes
 AllPass-push : (before : List Statement) (ls : List ArchLine) (l : ArchLine) → AllPass before ls → Passes (before ++ statements_in ls) l.statement → AllPass before (ls ++ l ∷ [])
 AllPass-push before [] l a p = (subst (λ (b : List Statement). Passes b l.statement) (append-nil before) p, tt)

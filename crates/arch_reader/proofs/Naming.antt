@@ -11,7 +11,7 @@ use Rattle.file_bricks.specs.Numbers.{whole_in, decimal_in}
 use Rattle.file_bricks.specs.Bounds.{IsAmount}
 use Rattle.file_bricks.proofs.Numbered.{whole_small}
 use Rattle.file_bricks.proofs.Bounded.{decimal_small}
-use Rattle.arch_reader.specs.Words.{equals, at_sign, value_of, is_time, are_keyed, are_placed}
+use Rattle.arch_reader.specs.Words.{equals, at_sign, after_mark, is_time, are_keyed, are_placed}
 use Rattle.arch_reader.specs.Numbers.{key_amount, amounts, key_column, columns}
 use Rattle.arch_reader.specs.Formed.{IsFormed, HasAmount, HasColumn}
 use Rattle.arch_reader.specs.Shapes.{plain, settings_of, objective_with, clock_with, link_with, is_two_way, objective_form, clock_form, resource_form, link_form, traffic_form, task_form, message_form, merge_form, map_form, time_in, after_time, table_form, keys_in, after_keys, quantity_form, quantity_table, quantity_table_rows, rows_key, hops_form, delay_form, deadline_form, form_with, keyword_of, form_of}
@@ -33,7 +33,7 @@ AreWords ws = AllByRecursion IsWord ws
 
 whole_keyed : (mark : ℕ) (ws : Words) → AllByRecursion HasColumn (map (key_column mark) ws)
 whole_keyed mark [] = tt
-whole_keyed mark (w ∷ ws) = (whole_small (value_of mark w), whole_keyed mark ws)
+whole_keyed mark (w ∷ ws) = (whole_small (after_mark mark w), whole_keyed mark ws)
 
 columns_whole : (mark : ℕ) (ws : Words) → All HasColumn (columns mark ws).items
 unfolding columns
@@ -41,7 +41,7 @@ columns_whole mark ws = All-from_recursion HasColumn (map (key_column mark) ws) 
 
 small_keyed : (ws : Words) → AllByRecursion HasAmount (map key_amount ws)
 small_keyed [] = tt
-small_keyed (w ∷ ws) = (decimal_small (value_of equals w), small_keyed ws)
+small_keyed (w ∷ ws) = (decimal_small (after_mark equals w), small_keyed ws)
 
 amounts_small : (ws : Words) → All HasAmount (amounts ws).items
 unfolding amounts
@@ -53,7 +53,7 @@ amounts_some w ws = omega arith
 
 time_small : (ws : Words) → IfSome (time_in ws) IsAmount
 time_small [] = tt
-time_small (w ∷ ws) = elim (cases_Bool (is_time w)) [ inl t ↦ rw t (decimal_small (value_of equals w)) | inr f ↦ rw f tt ]
+time_small (w ∷ ws) = elim (cases_Bool (is_time w)) [ inl t ↦ rw t (decimal_small (after_mark equals w)) | inr f ↦ rw f tt ]
 
 -- ---- the names and the numbers of a form
 
@@ -92,7 +92,9 @@ clock_named ws = made clock_with (settings_of ws) (λ (s : Settings). said (cloc
 resource_named : (ws : Words) → AreWords ws → Named (resource_form ws)
 unfolding resource_form
 resource_named [] h = tt
-resource_named (name ∷ ws) h = when (are_keyed ws) (Some (record { statement = statements.Resource name (amounts ws).items; misread = (amounts ws).misread })) (said (statements.Resource name (amounts ws).items) (h.0, tt) (amounts_small ws))
+resource_named (name ∷ ws) h =
+    when (are_keyed ws) (Some (record { statement = statements.Resource name (amounts ws).items; misread = (amounts ws).misread }))
+    (said (statements.Resource name (amounts ws).items) (h.0, tt) (amounts_small ws))
 
 link_named : (ws : Words) → AreWords ws → Named (link_form ws)
 unfolding link_form
@@ -108,7 +110,8 @@ traffic_named : (ws : Words) → AreWords ws → Named (traffic_form ws)
 unfolding traffic_form
 traffic_named [] h = tt
 traffic_named (link ∷ []) h = tt
-traffic_named (link ∷ w ∷ ws) h = when (are_keyed (w ∷ ws)) (Some (record { statement = statements.Traffic link (amounts (w ∷ ws)).items; misread = (amounts (w ∷ ws)).misread })) (said (statements.Traffic link (amounts (w ∷ ws)).items) (h.0, tt) (amounts_some w ws, amounts_small (w ∷ ws)))
+traffic_named (link ∷ w ∷ ws) h = when (are_keyed (w ∷ ws)) (Some (record { statement = statements.Traffic link (amounts (w ∷ ws)).items; misread = (amounts (w ∷ ws)).misread }))
+    (said (statements.Traffic link (amounts (w ∷ ws)).items) (h.0, tt) (amounts_some w ws, amounts_small (w ∷ ws)))
 
 task_named : (ws : Words) → AreWords ws → Named (task_form ws)
 unfolding task_form
@@ -122,7 +125,8 @@ message_named [] h = tt
 message_named (name ∷ []) h = tt
 message_named (name ∷ sender ∷ []) h = tt
 message_named (name ∷ sender ∷ way ∷ []) h = tt
-message_named (name ∷ sender ∷ way ∷ r ∷ rs) h = when (bytes_eq way (codes "->")) (Some (plain (statements.Message name sender (r ∷ rs)))) (said (statements.Message name sender (r ∷ rs)) (h.0, (h.1.0, h.1.1.1)) (omega arith))
+message_named (name ∷ sender ∷ way ∷ r ∷ rs) h =
+    when (bytes_eq way (codes "->")) (Some (plain (statements.Message name sender (r ∷ rs)))) (said (statements.Message name sender (r ∷ rs)) (h.0, (h.1.0, h.1.1.1)) (omega arith))
 
 merge_named : (ws : Words) → AreWords ws → Named (merge_form ws)
 unfolding merge_form
@@ -134,9 +138,15 @@ map_named : (ws : Words) → AreWords ws → Named (map_form ws)
 unfolding map_form
 map_named [] h = tt
 map_named (task ∷ []) h = tt
-map_named (task ∷ resource ∷ ws) h = elim (cases_Bool (are_keyed ws)) [ inl t ↦ rw t (said (statements.Map task resource (time_in ws) (amounts (after_time ws)).items) (h.0, (h.1.0, tt)) (time_small ws, amounts_small (after_time ws))) | inr f ↦ rw f tt ]
+map_named (task ∷ resource ∷ ws) h =
+    elim (cases_Bool (are_keyed ws)) [
+      | inl t ↦ rw t (said (statements.Map task resource (time_in ws) (amounts (after_time ws)).items) (h.0, (h.1.0, tt))
+          (time_small ws, amounts_small (after_time ws)))
+      | inr f ↦ rw f tt
+    ]
 
-said_table : (name index resource : List ℕ) (ws : Words) → AreWords (name ∷ resource ∷ []) → IsSaid (statements.Table name (whole_in index) resource (columns equals (keys_in ws)).items (columns at_sign (after_keys ws)).items)
+said_table : (name index resource : List ℕ) (ws : Words) → AreWords (name ∷ resource ∷ []) → IsSaid (statements.Table name (whole_in index) resource (columns equals (keys_in ws)).items
+    (columns at_sign (after_keys ws)).items)
 said_table name index resource ws n = record {
   named = n;
   formed = record { index_is_whole = whole_small index; keys_are_whole = columns_whole equals (keys_in ws); places_are_whole = columns_whole at_sign (after_keys ws) };
@@ -149,10 +159,10 @@ table_named (name ∷ []) h = tt
 table_named (name ∷ index ∷ []) h = tt
 table_named (name ∷ index ∷ resource ∷ ws) h = elim (cases_Bool (are_placed (after_keys ws))) [ inl t ↦ rw t (said_table name index resource ws (h.0, (h.1.1.0, tt))) | inr f ↦ rw f tt ]
 
-said_rows : (name index column rows : List ℕ) → AreWords (name ∷ []) → IsSaid (statements.QuantityTable name (whole_in index) (whole_in column) (Some (whole_in (value_of equals rows))))
+said_rows : (name index column rows : List ℕ) → AreWords (name ∷ []) → IsSaid (statements.QuantityTable name (whole_in index) (whole_in column) (Some (whole_in (after_mark equals rows))))
 said_rows name index column rows n = record {
   named = n;
-  formed = record { index_is_whole = whole_small index; column_is_whole = whole_small column; rows_are_whole = whole_small (value_of equals rows) };
+  formed = record { index_is_whole = whole_small index; column_is_whole = whole_small column; rows_are_whole = whole_small (after_mark equals rows) };
 }
 
 quantity_named : (ws : Words) → AreWords ws → Named (quantity_form ws)
@@ -161,7 +171,9 @@ quantity_named [] h = tt
 quantity_named (message ∷ []) h = tt
 quantity_named (message ∷ amount ∷ []) h = said (statements.Quantity message (decimal_in amount)) (h.0, tt) (decimal_small amount)
 quantity_named (t ∷ name ∷ index ∷ []) h = tt
-quantity_named (t ∷ name ∷ index ∷ column ∷ []) h = when (bytes_eq t (codes "table")) (quantity_table name index column) (said (statements.QuantityTable name (whole_in index) (whole_in column) None) (h.1.0, tt) (record { index_is_whole = whole_small index; column_is_whole = whole_small column; rows_are_whole = tt }))
+quantity_named (t ∷ name ∷ index ∷ column ∷ []) h = when (bytes_eq t (codes "table")) (quantity_table name index column)
+    (said (statements.QuantityTable name (whole_in index) (whole_in column) None) (h.1.0, tt) (record
+    { index_is_whole = whole_small index; column_is_whole = whole_small column; rows_are_whole = tt }))
 quantity_named (t ∷ name ∷ index ∷ column ∷ rows ∷ []) h =
     when (bytes_eq t (codes "table")) (quantity_table_rows name index column rows) (elim (cases_Bool (rows_key rows)) [ inl k ↦ rw k (said_rows name index column rows (h.1.0, tt)) | inr k ↦ rw k tt ])
 quantity_named (t ∷ name ∷ index ∷ column ∷ rows ∷ w ∷ more) h = tt

@@ -24,9 +24,9 @@ pub passes_at : (ls : List ArchLine) (k : ℕ) (d : ArchLine) → AllPass [] ls 
 passes_at ls k d a lt = passes_after [] ls k d a lt
 
 -- the statements up to a place are those before it, and the one there
-pub before_place-more : (ls : List ArchLine) (k : ℕ) (d : ArchLine) → k < length ls → before_place ls (k + 1) ≡ before_place ls k ++ (get_or ls k d).statement ∷ []
-before_place-more ls k d lt = ap statements_in (take_more ls k d lt) ∙ map_push statement_of (take k ls) (get_or ls k d)
+pub before_place_more : (ls : List ArchLine) (k : ℕ) (d : ArchLine) → k < length ls → before_place ls (k + 1) ≡ before_place ls k ++ (get_or ls k d).statement ∷ []
+before_place_more ls k d lt = ap statements_in (take_more ls k d lt) ∙ map_push statement_of (take k ls) (get_or ls k d)
 
 -- what is declared up to a place
-pub seen_at-more : (ls : List ArchLine) (k : ℕ) (d : ArchLine) → k < length ls → seen (before_place ls (k + 1)) ≡ after (seen (before_place ls k)) (get_or ls k d).statement
-seen_at-more ls k d lt = ap seen (before_place-more ls k d lt) ∙ seen-push (before_place ls k) (get_or ls k d).statement
+pub seen_at_more : (ls : List ArchLine) (k : ℕ) (d : ArchLine) → k < length ls → seen (before_place ls (k + 1)) ≡ after (seen (before_place ls k)) (get_or ls k d).statement
+seen_at_more ls k d lt = ap seen (before_place_more ls k d lt) ∙ seen-push (before_place ls k) (get_or ls k d).statement

@@ -26,6 +26,7 @@ unfolding tests
 form_ranked s None = ranked (rank NoHeader) (tests s None) refl
 form_ranked s (Some f) = ranked (rank NoHeader) (tests s (Some f)) refl
 
+-- the rules of the file stand in the order of their refusals
 pub in_order : AreInOrder arch_rules
 in_order = in_order_headed is_header later at_end (λ header before ws. form_ranked (seen (statements_in (lines_of before))) (form_of ws)) (λ header before. tt)
 

@@ -50,8 +50,8 @@ abbrev pub arch_rules : Rules
 arch_rules = headed_rules is_header later at_end
 
 -- what a file's lines state after the header
-abbrev pub stated : List Line → List ArchLine
-stated ls = lines_of (without_header ls)
+abbrev pub arch_stated : List Line → List ArchLine
+arch_stated ls = lines_of (without_header ls)
 
 -- A statement breaks no rule after the statements before it: it is one that its form allows, its names are words of its
 -- line, and each test by name. A statement that was read has numbers in their places, so no test of that stands here.

@@ -6,7 +6,7 @@ use Rattle.line_words.specs.Rules.{Words}
 use Rattle.line_words.specs.declared.numbers.NumberFault.{NumberFault}
 use Rattle.line_words.specs.declared.numbers.NumberFault.TheVariants.{BadNumber, TooBig}
 use Rattle.file_bricks.specs.Numbers.{whole_in, decimal_in}
-use Rattle.arch_reader.specs.Words.{key_of, value_of, equals}
+use Rattle.arch_reader.specs.Words.{key_of, after_mark, equals}
 use Rattle.arch_reader.specs.declared.numbers.Misread.{Misread}
 use Rattle.arch_reader.specs.declared.numbers.Amounts.{Amounts}
 use Rattle.arch_reader.specs.declared.numbers.Columns.{Columns}
@@ -46,11 +46,11 @@ all_misread f (w ∷ ws) = both (f w) (all_misread f ws)
 
 -- a word `OBJ=D`
 abbrev pub key_amount : List ℕ → KeyAmount
-key_amount word = record { key = key_of equals word; amount = decimal_in (value_of equals word) }
+key_amount word = record { key = key_of equals word; amount = decimal_in (after_mark equals word) }
 
 -- whether its value is a decimal
 abbrev pub amount_misread : List ℕ → Misread
-amount_misread word = decimal_misread (value_of equals word)
+amount_misread word = decimal_misread (after_mark equals word)
 
 -- words `OBJ=D`
 unfoldable pub amounts : Words → Amounts
@@ -58,11 +58,11 @@ amounts ws = record { items = map key_amount ws; misread = all_misread amount_mi
 
 -- a word `KEY=N` or `OBJ@N`, by its mark
 abbrev pub key_column : ℕ → List ℕ → KeyColumn
-key_column mark word = record { key = key_of mark word; column = whole_in (value_of mark word) }
+key_column mark word = record { key = key_of mark word; column = whole_in (after_mark mark word) }
 
 -- whether its value is a whole number
 abbrev pub column_misread : ℕ → List ℕ → Misread
-column_misread mark word = whole_misread (value_of mark word)
+column_misread mark word = whole_misread (after_mark mark word)
 
 -- words `KEY=N`, or words `OBJ@N`
 unfoldable pub columns : ℕ → Words → Columns
@@ -89,7 +89,3 @@ at_scale scale amount = units_in amount / unit_at scale
 -- what is cut off there, in units
 abbrev pub fraction_at : ℕ → ℤ → ℕ
 fraction_at scale amount = units_in amount % unit_at scale
-
--- the greatest weight, time, delay or quantity
-abbrev pub greatest : ℕ
-greatest = 2 ^ 40

@@ -4,7 +4,7 @@ use Rattle.std.specs.List.{prefix_len}
 use Rattle.std.specs.Option.{option_map}
 use Rattle.std.specs.Str.{bytes_eq}
 use Rattle.line_words.specs.Rules.{Words}
-use Rattle.arch_reader.specs.Words.{equals, at_sign, key_of, value_of, is_keyed, are_keyed, are_placed, is_time}
+use Rattle.arch_reader.specs.Words.{equals, at_sign, key_of, after_mark, is_keyed, are_keyed, are_placed, is_time}
 use Rattle.file_bricks.specs.Words.{keyword_in}
 use Rattle.file_bricks.specs.Numbers.{whole_in, decimal_in}
 use Rattle.arch_reader.specs.Numbers.{fine, both, whole_misread, decimal_misread, amounts, columns}
@@ -47,7 +47,8 @@ unfoldable pub settings_of : Words → Option Settings
 settings_of [] = Some (record { scale = None; floor = false; misread = fine })
 settings_of (w ∷ []) = if bytes_eq w (codes "floor") then Some (record { scale = None; floor = true; misread = fine }) else None
 settings_of (w ∷ n ∷ []) = if bytes_eq w (codes "scale") then Some (record { scale = Some (whole_in n); floor = false; misread = whole_misread n }) else None
-settings_of (w ∷ n ∷ f ∷ []) = if bytes_eq w (codes "scale") then (if bytes_eq f (codes "floor") then Some (record { scale = Some (whole_in n); floor = true; misread = whole_misread n }) else None) else None
+settings_of (w ∷ n ∷ f ∷ []) =
+    if bytes_eq w (codes "scale") then (if bytes_eq f (codes "floor") then Some (record { scale = Some (whole_in n); floor = true; misread = whole_misread n }) else None) else None
 settings_of (w ∷ n ∷ f ∷ g ∷ more) = None
 
 -- `objective NAME [scale N] [floor]`
@@ -114,11 +115,11 @@ merge_form (name ∷ m ∷ ms) = Some (plain (Merge name (m ∷ ms)))
 -- the time of a `map` line, where the first of these words is `time=D`
 abbrev pub time_in : Words → Option ℤ
 time_in [] = None
-time_in (w ∷ ws) = if is_time w then Some (decimal_in (value_of equals w)) else None
+time_in (w ∷ ws) = if is_time w then Some (decimal_in (after_mark equals w)) else None
 
 abbrev pub time_misread : Words → Misread
 time_misread [] = fine
-time_misread (w ∷ ws) = if is_time w then decimal_misread (value_of equals w) else fine
+time_misread (w ∷ ws) = if is_time w then decimal_misread (after_mark equals w) else fine
 
 abbrev pub after_time : Words → Words
 after_time [] = []
@@ -128,7 +129,8 @@ after_time (w ∷ ws) = if is_time w then ws else w ∷ ws
 unfoldable pub map_form : Words → Option Form
 map_form [] = None
 map_form (task ∷ []) = None
-map_form (task ∷ resource ∷ ws) = if are_keyed ws then Some (record { statement = Map task resource (time_in ws) (amounts (after_time ws)).items; misread = both (time_misread ws) (amounts (after_time ws)).misread }) else None
+map_form (task ∷ resource ∷ ws) =
+    if are_keyed ws then Some (record { statement = Map task resource (time_in ws) (amounts (after_time ws)).items; misread = both (time_misread ws) (amounts (after_time ws)).misread }) else None
 
 -- the words of a `table` line up to the first one that isn't `KEY=N`, and those from there on
 abbrev pub keys_in : Words → Words
@@ -159,8 +161,8 @@ quantity_table name index column = Some (record { statement = QuantityTable name
 unfoldable pub quantity_table_rows : List ℕ → List ℕ → List ℕ → List ℕ → Option Form
 quantity_table_rows name index column rows = if rows_key rows
     then Some (record {
-      statement = QuantityTable name (whole_in index) (whole_in column) (Some (whole_in (value_of equals rows)));
-      misread = both (whole_misread index) (both (whole_misread column) (whole_misread (value_of equals rows)));
+      statement = QuantityTable name (whole_in index) (whole_in column) (Some (whole_in (after_mark equals rows)));
+      misread = both (whole_misread index) (both (whole_misread column) (whole_misread (after_mark equals rows)));
     })
     else None
 

@@ -14,7 +14,7 @@ use Rattle.file_bricks.specs.Words.{IsWord}
 use Rattle.arch_reader.specs.Shapes.{plain, form_of}
 use Rattle.arch_reader.specs.Seen.{after}
 use Rattle.arch_reader.specs.Tests.{tests}
-use Rattle.arch_reader.specs.Arch.{ArchValue, AllPass, arch_rules, lines_in, stated}
+use Rattle.arch_reader.specs.Arch.{ArchValue, AllPass, arch_rules, lines_in, arch_stated}
 use Rattle.arch_reader.specs.declared.seen.Seen.{Seen}
 use Rattle.arch_reader.specs.declared.statement.Statement.{Statement}
 use Rattle.arch_reader.specs.declared.statement.ArchLine.{ArchLine}
@@ -53,7 +53,7 @@ reading_of left = run arch_rules left.number [] left.lines
 
 -- the file is refused, or there is no memory
 abbrev pub IsRefused : Reading → ReadFault → Type 0
-IsRefused total fault = Agrees {X = ArchValue} Arch lines_in stated total (Err fault)
+IsRefused total fault = Agrees {X = ArchValue} Arch lines_in arch_stated total (Err fault)
 
 -- The header is passed: reading on gives what the file gives.
 pub record Begins (old new : Left) : Type 0 where
@@ -65,5 +65,5 @@ pub record Begins (old new : Left) : Type 0 where
 pub record TakesAll (old : Left) (lines : List ArchLine) : Type 0 where
   pub statements : List Line
   pub gives : reading_of old ≡ Ok statements
-  pub lines_are : lines ≡ stated statements
+  pub lines_are : lines ≡ arch_stated statements
   pub pass : AllPass [] lines

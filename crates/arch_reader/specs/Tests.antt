@@ -3,11 +3,13 @@ use Rattle.std.specs.Prelude.{ℕ, ℤ, List, [], ◌∷◌, length, Bool, true,
 use Rattle.std.specs.List.{list_any}
 use Rattle.std.specs.Option.{option_map_or}
 use Rattle.std.specs.Str.{bytes_eq}
+use Rattle.spec_model.specs.Limits.{most_resources, most_links, most_objectives, most_number}
 use Rattle.line_words.specs.Rules.{Words, Test}
+use Rattle.line_words.specs.Limits.{most_name_bytes}
 use Rattle.line_words.specs.declared.refusals.Why.TheVariants.{BadStatement, BadNumber, UnknownName, RepeatedName, SelfLink, NotWhole, TooBig, Limit}
 use Rattle.line_words.specs.declared.refusals.What.TheVariants.{NameBytes, Objectives, Resources, Links}
 use Rattle.arch_reader.specs.Words.{is_arrow, is_reserved, is_table_key}
-use Rattle.arch_reader.specs.Numbers.{is_negative, at_scale, fraction_at, greatest}
+use Rattle.arch_reader.specs.Numbers.{is_negative, at_scale, fraction_at}
 use Rattle.arch_reader.specs.Seen.{scale_or_0}
 use Rattle.arch_reader.specs.declared.statement.KeyAmount.{KeyAmount}
 use Rattle.arch_reader.specs.declared.statement.KeyColumn.{KeyColumn}
@@ -221,7 +223,7 @@ has_fraction seen s = list_any (is_fraction seen.objectives) (weights_of s)
 
 -- an amount at a scale is above what may stand there
 abbrev pub is_above : ℕ → ℤ → Bool
-is_above scale amount = nat_lt greatest (at_scale scale amount)
+is_above scale amount = nat_lt most_number (at_scale scale amount)
 
 abbrev pub is_above_for : ℤ → Declared → Bool
 is_above_for amount o = is_above o.scale amount
@@ -244,22 +246,22 @@ has_big_scale s = nat_lt 12 (scale_or_0 (scale_of s))
 -- ---- limits
 
 abbrev pub is_long_name : List ℕ → Bool
-is_long_name name = nat_lt 64 (length name)
+is_long_name name = nat_lt most_name_bytes (length name)
 
 abbrev pub has_long_name : Statement → Bool
 has_long_name s = option_map_or is_long_name (declared_name s) false
 
 -- one more objective, resource or link is too many
 abbrev pub is_past_resources : Seen → Statement → Bool
-is_past_resources seen (Resource name weights) = nat_le 256 (length seen.resources)
+is_past_resources seen (Resource name weights) = nat_le most_resources (length seen.resources)
 is_past_resources seen s = false
 
 abbrev pub is_past_links : Seen → Statement → Bool
-is_past_links seen (Link name a b two_way weights) = nat_le 1024 (length seen.links)
+is_past_links seen (Link name a b two_way weights) = nat_le most_links (length seen.links)
 is_past_links seen s = false
 
 abbrev pub is_past_objectives : Seen → Statement → Bool
-is_past_objectives seen (Objective name scale floor) = nat_le 8 (length seen.objectives)
+is_past_objectives seen (Objective name scale floor) = nat_le most_objectives (length seen.objectives)
 is_past_objectives seen s = false
 
 -- ---- all tests, one for each refusal, in the order of their numbers

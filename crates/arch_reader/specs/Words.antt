@@ -25,8 +25,8 @@ abbrev pub key_of : ℕ → List ℕ → List ℕ
 key_of mark word = before_first (is_mark mark) word
 
 -- what stands after the first mark
-abbrev pub value_of : ℕ → List ℕ → List ℕ
-value_of mark word = after_first (is_mark mark) word
+abbrev pub after_mark : ℕ → List ℕ → List ℕ
+after_mark mark word = after_first (is_mark mark) word
 
 -- a word that is cut at `=`
 abbrev pub is_keyed : List ℕ → Bool

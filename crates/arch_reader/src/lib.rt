@@ -22,5 +22,5 @@ mod words;
 pub use file::ArchFile;
 pub use numbers::{at_scale, has_fraction_at};
 pub use reading::read_arch;
-pub use seen::{Objective, Seen, scale_or_0};
+pub use seen::scale_or_0;
 pub use statement::{ArchLine, KeyAmount, KeyColumn, Statement};

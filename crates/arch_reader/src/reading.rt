@@ -5,11 +5,12 @@ ghost use Rattle.line_words.specs.Text.{lines};
 ghost use Rattle.line_words.specs.Refused.{fault_at};
 ghost use Rattle.line_words.specs.Rules.{first_broken, said};
 ghost use Rattle.line_words.specs.Reads.{Reads, Agrees, Stops};
+ghost use Rattle.line_words.specs.Limits.{most_file_bytes};
 ghost use Rattle.line_words.specs.declared.refusals.FileTag.TheVariants.{Arch};
 ghost use Rattle.line_words.specs.declared.refusals.Why.TheVariants.{NoHeader};
 ghost use Rattle.arch_reader.specs.Shapes.{plain, form_of};
 ghost use Rattle.arch_reader.specs.Tests.{tests};
-ghost use Rattle.arch_reader.specs.Arch.{stated, arch_rules, lines_in, AllPass};
+ghost use Rattle.arch_reader.specs.Arch.{arch_stated, arch_rules, lines_in, AllPass};
 ghost use Rattle.arch_reader.specs.Seen.{seen};
 ghost use Rattle.arch_reader.specs.Taking.{Begins, Keeps, Takes, TakesLine, TakesAll, StopsLine, IsRefused, broken_by, reading_of};
 
@@ -81,7 +82,9 @@ fn statement_of(alloc: Global, seen: &Seen, words: &[&str]) -> Result<Statement,
 /// The statements that were read, and what they declare.
 #[derive(Drop)]
 pub struct Taken {
+    /// What the statements declare.
     pub seen: Seen,
+    /// The statements, each with the number of its line.
     pub lines: Items<ArchLine>,
 }
 
@@ -163,7 +166,7 @@ fn take_all(alloc: Global, lines: &mut Lines, taken: &mut Taken) -> Result<(), R
 }
 
 fn read_all(alloc: Global, mut lines: Lines) -> Result<ArchFile, ReadFault>
-    ensures agrees { Agrees Arch lines_in stated (reading_of lines.entry) result }
+    ensures agrees { Agrees Arch lines_in arch_stated (reading_of lines.entry) result }
     ensures end_line { IfOk result (λ file. file.end_line ≡ lines.entry.number + length lines.entry.lines) }
 {
     let mut taken = Taken::none(alloc);
@@ -180,8 +183,8 @@ fn read_all(alloc: Global, mut lines: Lines) -> Result<ArchFile, ReadFault>
 /// for the lowest rule broken there. What needs the tables, or the names of tasks and messages,
 /// isn't tested here.
 pub fn read_arch(alloc: Global, bytes: &[u8]) -> Result<ArchFile, ReadFault>
-    requires { length bytes.now ≤ 16777216 }
-    ensures reads { Reads Arch arch_rules lines_in stated (lines bytes.now) result }
+    requires { length bytes.now ≤ most_file_bytes }
+    ensures reads { Reads Arch arch_rules lines_in arch_stated (lines bytes.now) result }
     ensures end_line { IfOk result (λ file. file.end_line ≡ 1 + length (lines bytes.now)) }
 {
     read_all(alloc, Lines::new(bytes))

@@ -17,7 +17,8 @@ use crate::seen::{Objective, Seen, scale_or_0};
 use crate::statement::{KeyAmount, KeyColumn, Statement};
 use crate::words::{is_arrow, is_reserved, is_table_key};
 use file_bricks::{Text, first_broken};
-use line_words::{What, Why};
+use line_words::{MOST_NAME_BYTES, What, Why};
+use spec_model::{MOST_LINKS, MOST_NUMBER, MOST_OBJECTIVES, MOST_RESOURCES};
 
 fn has_arrow_name(statement: &Statement) -> bool
     ensures { result ≡ tests.has_arrow_name statement.now }
@@ -251,13 +252,10 @@ fn has_fraction(seen: &Seen, statement: &Statement) -> bool
         .any(|word| is_fraction(objectives, word))
 }
 
-/// The greatest weight, time, delay or quantity.
-const GREATEST: u128 = 1 << 40;
-
 fn is_above(scale: u64, amount: i128) -> bool
     ensures { result ≡ tests.is_above scale amount }
 {
-    at_scale(scale, amount) > GREATEST
+    at_scale(scale, amount) > u128::from(MOST_NUMBER)
 }
 
 fn is_big_weight(objectives: &[Objective], word: &KeyAmount) -> bool
@@ -306,7 +304,7 @@ fn has_long_name(statement: &Statement) -> bool
     ensures { result ≡ tests.has_long_name statement.now }
 {
     match declared_name(statement) {
-        Some(name) => name.len() > 64,
+        Some(name) => name.len() > MOST_NAME_BYTES,
         None => false,
     }
 }
@@ -315,7 +313,7 @@ fn is_past_resources(seen: &Seen, statement: &Statement) -> bool
     ensures { result ≡ tests.is_past_resources seen.now statement.now }
 {
     match statement {
-        Statement::Resource { .. } => seen.resources.list().len() >= 256,
+        Statement::Resource { .. } => seen.resources.list().len() >= MOST_RESOURCES,
         _ => false,
     }
 }
@@ -324,7 +322,7 @@ fn is_past_links(seen: &Seen, statement: &Statement) -> bool
     ensures { result ≡ tests.is_past_links seen.now statement.now }
 {
     match statement {
-        Statement::Link { .. } => seen.links.list().len() >= 1024,
+        Statement::Link { .. } => seen.links.list().len() >= MOST_LINKS,
         _ => false,
     }
 }
@@ -333,7 +331,7 @@ fn is_past_objectives(seen: &Seen, statement: &Statement) -> bool
     ensures { result ≡ tests.is_past_objectives seen.now statement.now }
 {
     match statement {
-        Statement::Objective { .. } => seen.objectives.list().len() >= 8,
+        Statement::Objective { .. } => seen.objectives.list().len() >= MOST_OBJECTIVES,
         _ => false,
     }
 }

@@ -1,31 +1,35 @@
 //! What the statements so far declare.
 
 ghost use Rattle.std.specs.Prelude.{◌≡◌, [], OnOk};
-ghost use Rattle.std.specs.Option.{option_map};
 ghost use Rattle.arch_reader.specs.Seen.{scale_or_0, seen, after};
-ghost use Rattle.arch_reader.specs.Tests.{objective_called};
 
-use crate::rules::objective_called;
 use crate::statement::Statement;
 use file_bricks::{Items, Text, text_of};
 use std::alloc::{AllocError, Global};
 
-/// An objective: its scale, and whether the fractions of its weights are cut off.
+/// An objective.
 #[derive(Debug, Drop)]
 pub struct Objective {
+    /// Its name.
     pub name: Text,
+    /// Its weights are taken times ten to this.
     pub scale: u64,
+    /// Whether the fractions of its weights are cut off.
     pub floor: bool,
 }
 
-/// What statements declare: their objectives, resources and links, the scale of their clock, and
-/// whether one of them has times, so that no clock may follow.
+/// What statements declare, in their order.
 #[derive(Debug, Drop)]
 pub struct Seen {
+    /// The objectives.
     pub objectives: Items<Objective>,
+    /// The names of resources.
     pub resources: Items<Text>,
+    /// The names of links.
     pub links: Items<Text>,
+    /// The scale of the clock that comes first, where there is one.
     pub clock: Option<u64>,
+    /// Whether a statement has a time, so that no clock may follow.
     pub is_timed: bool,
 }
 
@@ -83,12 +87,5 @@ impl Seen {
             }
             _ => Ok(()),
         }
-    }
-
-    /// The objective with a name.
-    pub fn objective(&self, name: &str) -> Option<&Objective>
-        ensures { option_map (λ o. o.now) result ≡ objective_called self.now.objectives name.now }
-    {
-        objective_called(self.objectives.list(), name)
     }
 }

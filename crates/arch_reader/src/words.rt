@@ -3,7 +3,7 @@
 ghost use Rattle.std.specs.Prelude.{◌≡◌, ◌<◌, ◌≤◌, length};
 ghost use Rattle.std.specs.List.{list_all, prefix_len};
 ghost use Rattle.line_words.specs.Rules.{said};
-ghost use Rattle.arch_reader.specs.Words.{is_cut, key_of, value_of, is_keyed, is_placed, are_keyed, are_placed, is_time, is_arrow, is_table_key, is_reserved};
+ghost use Rattle.arch_reader.specs.Words.{is_cut, key_of, after_mark, is_keyed, is_placed, are_keyed, are_placed, is_time, is_arrow, is_table_key, is_reserved};
 
 /// Whether a word has a mark, at which it is cut.
 pub(crate) fn is_cut(word: &str, mark: u8) -> bool
@@ -16,7 +16,7 @@ pub(crate) fn is_cut(word: &str, mark: u8) -> bool
 pub(crate) fn cut(word: &str, mark: char) -> (&str, &str)
     requires { mark < 128 }
     ensures key { result.0.now ≡ key_of mark word.now }
-    ensures value { result.1.now ≡ value_of mark word.now }
+    ensures value { result.1.now ≡ after_mark mark word.now }
 {
     match word.split_once(mark) {
         Some((key, value)) => (key, value),

@@ -76,7 +76,8 @@ still_open s f g ls same h k d l = at (get_or ls k d) (h k d l)
     at (derived ops) x = tt
     at (cover v) x = record { one_each = x.one_each; within = x.within; uncovered = subst (λ (u : List ℕ). ¬ IsAtMost v u) (same_vector s f g same) x.uncovered }
 
-extend : (s : SpecValue) (ls : List Line) (b : ℕ) (base : List Linear) (f : Bits) → All (IsBelow (variables_to s b)) base → IsModel base f → All (OfCover (LeavesOpen s f)) ls → IsExtended s base b ls f
+extend : (s : SpecValue) (ls : List Line) (b : ℕ) (base : List Linear) (f : Bits) → All (IsBelow (variables_to s b)) base → IsModel base f → All (OfCover (LeavesOpen s f)) ls
+    → IsExtended s base b ls f
 extend s [] b base f inside m h = record { values = f; agree = λ x l. refl; model = subst (λ (cs : List Linear). IsModel cs f) (sym (append-nil base)) m }
 extend s (derived ops ∷ ls) b base f inside m h =
     let r = extend s ls b base f inside m (All-tail (OfCover (LeavesOpen s f)) (derived ops) ls h) in
@@ -100,13 +101,15 @@ extend s (cover v ∷ ls) b base f inside m h =
       model = subst (λ (cs : List Linear). IsModel cs r.values) (append_assoc base block (blocks_from (cover_frame s) (b + 1) ls)) r.model;
     }
   where
-    agree_at : (values mid : Bits) (y n : ℕ) → n ≡ (b + 1) + covers_in ls → ((z : ℕ) → (z < variables_to s (b + 1)) ⊎ (variables_to s ((b + 1) + covers_in ls) ≤ z) → values z ≡ mid z) → ((z : ℕ) → z < variables_to s b → f z ≡ mid z) → AgreeOutside s (b + 1) mid f
+    agree_at : (values mid : Bits) (y n : ℕ) → n ≡ (b + 1) + covers_in ls → ((z : ℕ) → (z < variables_to s (b + 1)) ⊎ (variables_to s ((b + 1) + covers_in ls) ≤ z) → values z ≡ mid z)
+        → ((z : ℕ) → z < variables_to s b → f z ≡ mid z) → AgreeOutside s (b + 1) mid f
         → (y < variables_to s b) ⊎ (variables_to s n ≤ y) → values y ≡ f y
     agree_at values mid y n e there before outside (inl l) = there y (inl (omega (arith, l, one_more s b))) ∙ sym (before y l)
     agree_at values mid y n e there before outside (inr l) =
         let far : variables_to s ((b + 1) + covers_in ls) ≤ y = subst (λ (k : ℕ). variables_to s k ≤ y) e l in
         there y (inr far) ∙ agrees_after s b f mid outside y (omega (arith, more_later s (b + 1) (covers_in ls), far))
 
+-- a model whose vector no cover covers can be made one of all blocks too
 pub all_extend : AllExtend
 all_extend s ls f wf m h =
     let none : all_variables s ≡ variables_to s 0 = omega arith in

@@ -11,5 +11,6 @@ sized : (s : SpecValue) (b : ℕ) (v : List ℕ) → length (block_of s b v) ≡
 unfolding block_of
 sized s b v = omega (arith, length-map-range_with_len (below_place s b v) 0 (length v))
 
+-- the encoding and the blocks are a frame
 pub blocks_make_frame : BlocksMakeFrame
 blocks_make_frame s wf = record { sized = sized s; base_normal = encoding_normal s wf; block_normal = λ b v. block_normal s b v wf }

@@ -8,6 +8,7 @@ use Rattle.pb_rules.specs.declared.Term.{Term}
 use Rattle.pb_rules.specs.Linear.{Linear, VarsBelow}
 use Rattle.pb_rules.specs.Operations.{mentions}
 use Rattle.pb_rules.specs.Frames.{any_mentions, Line, derived, cover, HasNumbers, CoversHave, blocks_from, blocks_by}
+use Rattle.pb_rules.proofs.Known.{mentions-append}
 use Rattle.pb_constraints.specs.Sets.{IsBelow}
 use Rattle.spec_model.specs.Spec.{SpecValue, below, all_variables}
 use Rattle.spec_model.specs.WellFormed.{IsWellFormed}
@@ -33,14 +34,6 @@ not_known x n [] h l = refl
 not_known x n (c ∷ cs) h l =
     ap (λ (b : Bool). cond b true (any_mentions cs x)) (not_mentioned x n c.terms (All-head (IsBelow n) c cs h) l) ∙ not_known x n cs (All-tail (IsBelow n) c cs h) l
 
-any_mentions-append : (x : ℕ) (cs ds : List Linear) → any_mentions (cs ++ ds) x ≡ cond (any_mentions cs x) true (any_mentions ds x)
-any_mentions-append x [] ds = refl
-any_mentions-append x (c ∷ cs) ds = ap (λ (b : Bool). cond (mentions x c.terms) true b) (any_mentions-append x cs ds) ∙ at (mentions x c.terms)
-  where
-    at : (b : Bool) → cond b true (cond (any_mentions cs x) true (any_mentions ds x)) ≡ cond (cond b true (any_mentions cs x)) true (any_mentions ds x)
-    at true = refl
-    at false = refl
-
 -- the variables of the encoding
 pub encoding_known : (s : SpecValue) → IsWellFormed s → KnowsBelow (encoding s) (all_variables s)
 encoding_known s wf x =
@@ -55,14 +48,19 @@ unfolding block_of is_below
 own_known s b j v l =
     let x : ℕ = below_var s b j in
     let e : 0 + j ≡ j = omega arith in
-    let has : HasVariable x (map (is_below s b) (below (length s.objectives))) = subst (λ (k : ℕ). HasVariable (below_var s b k) (map (is_below s b) (below (length s.objectives)))) e (in_map (is_below s b) (length s.objectives) 0 j l) in
+    let has : HasVariable x (map (is_below s b) (below (length s.objectives))) = subst (λ (k : ℕ). HasVariable (below_var s b k) (map (is_below s b) (below (length s.objectives)))) e
+    (in_map (is_below s b) (length s.objectives) 0 j l) in
     ap (λ (t : Bool). cond t true (any_mentions (map (below_place s b v) (below (length v))) x)) (at_least-mentions x 1 (map (is_below s b) (below (length s.objectives))) has)
 
 -- one block more
-pub block_known : (s : SpecValue) (b : ℕ) (v : List ℕ) (cs : List Linear) → length v ≡ length s.objectives → KnowsBelow cs (variables_to s b) → KnowsBelow (cs ++ block_of s (b + 1) v) (variables_to s (b + 1))
-block_known s b v cs long h x = any_mentions-append x cs (block_of s (b + 1) v) ∙ (ap (λ (t : Bool). cond t true (any_mentions (block_of s (b + 1) v) x)) (h x) ∙ at (cases_lt x (variables_to s b)) (cases_lt x (variables_to s (b + 1))))
+pub block_known : (s : SpecValue) (b : ℕ) (v : List ℕ) (cs : List Linear) → length v ≡ length s.objectives → KnowsBelow cs (variables_to s b)
+    → KnowsBelow (cs ++ block_of s (b + 1) v) (variables_to s (b + 1))
+block_known s b v cs long h x =
+    mentions-append cs (block_of s (b + 1) v) x ∙ (ap (λ (t : Bool). cond t true (any_mentions (block_of s (b + 1) v) x)) (h x)
+    ∙ at (cases_lt x (variables_to s b)) (cases_lt x (variables_to s (b + 1))))
   where
-    at : (x < variables_to s b) ⊎ (variables_to s b ≤ x) → (x < variables_to s (b + 1)) ⊎ (variables_to s (b + 1) ≤ x) → cond (ltb x (variables_to s b)) true (any_mentions (block_of s (b + 1) v) x) ≡ ltb x (variables_to s (b + 1))
+    at : (x < variables_to s b) ⊎ (variables_to s b ≤ x) → (x < variables_to s (b + 1)) ⊎ (variables_to s (b + 1) ≤ x)
+        → cond (ltb x (variables_to s b)) true (any_mentions (block_of s (b + 1) v) x) ≡ ltb x (variables_to s (b + 1))
     at (inl l) k =
         ap (λ (t : Bool). cond t true (any_mentions (block_of s (b + 1) v) x)) (lt-ltb x (variables_to s b) l) ∙ sym (lt-ltb x (variables_to s (b + 1)) (omega (arith, l, one_more s b)))
     at (inr l) (inl k) =
@@ -74,7 +72,8 @@ block_known s b v cs long h x = any_mentions-append x cs (block_of s (b + 1) v) 
         ap (λ (t : Bool). cond t true (any_mentions (block_of s (b + 1) v) x)) (le-ltb x (variables_to s b) l)
         ∙ (not_known x (variables_to s (b + 1)) (block_of s (b + 1) v) (block_in_range s (b + 1) v (omega arith) long) k ∙ sym (le-ltb x (variables_to s (b + 1)) k))
 
-blocks_known : (s : SpecValue) (ls : List Line) (b : ℕ) (cs : List Linear) → CoversHave (length s.objectives) ls → KnowsBelow cs (variables_to s b) → KnowsBelow (cs ++ blocks_from (cover_frame s) b ls) (variables_to s (b + covers_in ls))
+blocks_known : (s : SpecValue) (ls : List Line) (b : ℕ) (cs : List Linear) → CoversHave (length s.objectives) ls → KnowsBelow cs (variables_to s b)
+    → KnowsBelow (cs ++ blocks_from (cover_frame s) b ls) (variables_to s (b + covers_in ls))
 blocks_known s [] b cs h known =
     let e : b ≡ b + 0 = omega arith in
     subst (λ (n : ℕ). KnowsBelow (cs ++ []) (variables_to s n)) e (subst (λ (ds : List Linear). KnowsBelow ds (variables_to s b)) (sym (append-nil cs)) known)
@@ -84,10 +83,12 @@ blocks_known s (cover v ∷ ls) b cs h known =
     let e : (b + 1) + covers_in ls ≡ b + (covers_in ls + 1) = omega arith in
     let block : List Linear = block_of s (b + 1) v in
     subst (λ (n : ℕ). KnowsBelow (cs ++ (block ++ blocks_from (cover_frame s) (b + 1) ls)) (variables_to s n)) e
-    (subst (λ (ds : List Linear). KnowsBelow ds (variables_to s ((b + 1) + covers_in ls))) (append_assoc cs block (blocks_from (cover_frame s) (b + 1) ls)) (blocks_known s ls (b + 1) (cs ++ block) (All-tail (HasNumbers (length s.objectives)) (cover v) ls h) (block_known s b v cs one known)))
+    (subst (λ (ds : List Linear). KnowsBelow ds (variables_to s ((b + 1) + covers_in ls))) (append_assoc cs block (blocks_from (cover_frame s) (b + 1) ls))
+    (blocks_known s ls (b + 1) (cs ++ block) (All-tail (HasNumbers (length s.objectives)) (cover v) ls h) (block_known s b v cs one known)))
 
 pub frames_know : FramesKnow
 frames_know s ls wf h =
     let e : all_variables s ≡ variables_to s 0 = omega arith in
     let count : 0 + covers_in ls ≡ covers_in ls = omega arith in
-    subst (λ (n : ℕ). KnowsBelow (encoding s ++ blocks_by (cover_frame s) ls) (variables_to s n)) count (blocks_known s ls 0 (encoding s) h (subst (λ (n : ℕ). KnowsBelow (encoding s) n) e (encoding_known s wf)))
+    subst (λ (n : ℕ). KnowsBelow (encoding s ++ blocks_by (cover_frame s) ls) (variables_to s n)) count
+    (blocks_known s ls 0 (encoding s) h (subst (λ (n : ℕ). KnowsBelow (encoding s) n) e (encoding_known s wf)))

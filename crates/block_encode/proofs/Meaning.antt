@@ -23,7 +23,7 @@ use Rattle.encode_model.specs.Encoding.{weighted, has_weight}
 use Rattle.encode_model.proofs.Weights.{true_weight-append, at_least-holds, holds-at_least}
 use Rattle.encode_model.specs.Block.{total_weight, IsWithinWeights, below_var, is_below, below_somewhere, unused_terms, gap, not_below, below_number, below_place, block_of}
 use Rattle.block_encode.specs.Laws.{AgreeOutside, Extends, UncoveredExtend, ModelsAreUncovered}
-use Rattle.block_encode.proofs.Adding.{unused_below, unused-more}
+use Rattle.block_encode.proofs.Adding.{unused_below, unused_more}
 
 abbrev counts : Bits → Term → ℕ
 counts f t = cond (lit_true f t.lit) t.coef 0
@@ -42,17 +42,27 @@ one_variable s f j x = at (cases_lt 0 (weight s j x))
     none false w e = sym e
 
     at : (0 < weight s j x) ⊎ (weight s j x ≤ 0) → true_weight f (map (weighted (weight s j) false) (cond (ltb 0 (weight s j x)) (x ∷ []) [])) + weight_if_true s f j x ≡ weight s j x
-    at (inl l) = subst (λ (b : Bool). true_weight f (map (weighted (weight s j) false) (cond b (x ∷ []) [])) + weight_if_true s f j x ≡ weight s j x) (sym (lt-ltb 0 (weight s j x) l)) (omega (arith, sum_by-cons (counts f) (weighted (weight s j) false x) [], split (f x) (weight s j x)))
+    at (inl l) = subst (λ (b : Bool). true_weight f (map (weighted (weight s j) false) (cond b (x ∷ []) [])) + weight_if_true s f j x ≡ weight s j x) (sym (lt-ltb 0 (weight s j x) l))
+        (omega (arith, sum_by-cons (counts f) (weighted (weight s j) false x) [], split (f x) (weight s j x)))
     at (inr l) =
         let no_weight : weight s j x ≡ 0 = omega (arith, l) in
-        subst (λ (b : Bool). true_weight f (map (weighted (weight s j) false) (cond b (x ∷ []) [])) + weight_if_true s f j x ≡ weight s j x) (sym (le-ltb 0 (weight s j x) l)) (omega (arith, no_weight, none (f x) (weight s j x) no_weight))
+        subst (λ (b : Bool). true_weight f (map (weighted (weight s j) false) (cond b (x ∷ []) [])) + weight_if_true s f j x ≡ weight s j x) (sym (le-ltb 0 (weight s j x) l))
+        (omega (arith, no_weight, none (f x) (weight s j x) no_weight))
 
 -- the weights that a design leaves unused and its own are all weights
 unused_and_used : (s : SpecValue) (f : Bits) (j n : ℕ) → true_weight f (unused_below s j n) + sum_by (weight_if_true s f j) (below n) ≡ sum_by (weight s j) (below n)
 unused_and_used s f j zero = refl
 unused_and_used s f j (suc n) =
     subst (λ (k : ℕ). true_weight f (unused_below s j k) + sum_by (weight_if_true s f j) (below k) ≡ sum_by (weight s j) (below k)) (add-one n)
-    (omega (arith, ap (true_weight f) (unused-more s j n), sum_by-append (counts f) (unused_below s j n) (map (weighted (weight s j) false) (cond (has_weight (weight s j) n) (n ∷ []) [])), sum_by-below_more (weight_if_true s f j) n, sum_by-below_more (weight s j) n, one_variable s f j n, unused_and_used s f j n))
+    (omega (
+      arith,
+      ap (true_weight f) (unused_more s j n),
+      sum_by-append (counts f) (unused_below s j n) (map (weighted (weight s j) false) (cond (has_weight (weight s j) n) (n ∷ []) [])),
+      sum_by-below_more (weight_if_true s f j) n,
+      sum_by-below_more (weight s j) n,
+      one_variable s f j n,
+      unused_and_used s f j n,
+    ))
 
 used : (s : SpecValue) (f : Bits) (j : ℕ) → true_weight f (unused_terms s j) + vector_at s f j ≡ total_weight s j
 unfolding vector_at total_weight
@@ -60,7 +70,8 @@ used s f j = unused_and_used s f j (design_variables s)
 
 -- one constraint: where its own variable is true, the design is below the number
 number_weight : (s : SpecValue) (f : Bits) (b j n : ℕ) → true_weight f (unused_terms s j ++ not_below s b j n ∷ []) ≡ true_weight f (unused_terms s j) + cond (not (f (below_var s b j))) (gap s j n) 0
-number_weight s f b j n = true_weight-append f (unused_terms s j) (not_below s b j n ∷ []) ∙ ap (λ (k : ℕ). true_weight f (unused_terms s j) + k) (true_weight-cons f (not_below s b j n) [] ∙ omega arith)
+number_weight s f b j n =
+    true_weight-append f (unused_terms s j) (not_below s b j n ∷ []) ∙ ap (λ (k : ℕ). true_weight f (unused_terms s j) + k) (true_weight-cons f (not_below s b j n) [] ∙ omega arith)
 
 below_of_true : (s : SpecValue) (f : Bits) (b j n : ℕ) → Holds f (below_number s b j n) → f (below_var s b j) ≡ true → vector_at s f j < n
 below_of_true s f b j n h t =
@@ -84,9 +95,11 @@ somewhere_weight : (s : SpecValue) (f : Bits) (b : ℕ) → true_weight f (map (
 unfolding is_below
 somewhere_weight s f b = sum_by_map (counts f) (is_below s b) (below (length s.objectives))
 
-number_of_vector : (s : SpecValue) (f : Bits) (j : ℕ) → j < length s.objectives → slice_index (vector_of s f) j ≡ vector_at s f j
+-- a number of a design's vector is its number in that objective
+pub number_of_vector : (s : SpecValue) (f : Bits) (j : ℕ) → j < length s.objectives → slice_index (vector_of s f) j ≡ vector_at s f j
 number_of_vector s f j l = get_or-map-range_with_len (vector_at s f) 0 (length s.objectives) j j 0 l (omega arith)
 
+-- a model of a block isn't covered
 pub models_are_uncovered : ModelsAreUncovered
 unfolding block_of below_place
 models_are_uncovered s b v f long model covers =
@@ -116,7 +129,8 @@ module _ (s : SpecValue) (b : ℕ) (v : List ℕ) (f : Bits) (long : length v �
   at_own : (j : ℕ) → j < length s.objectives → extended (below_var s b j) ≡ is_less j
   at_own j l =
       let place : below_var s b j - start ≡ j = omega arith in
-      ap (λ (t : Bool). cond t (f (below_var s b j)) (cond (ltb (below_var s b j - start) (length s.objectives)) (is_less (below_var s b j - start)) (f (below_var s b j)))) (le-ltb (below_var s b j) start (omega arith))
+      ap (λ (t : Bool). cond t (f (below_var s b j)) (cond (ltb (below_var s b j - start) (length s.objectives)) (is_less (below_var s b j - start)) (f (below_var s b j))))
+      (le-ltb (below_var s b j) start (omega arith))
       ∙ (ap (λ (i : ℕ). cond (ltb i (length s.objectives)) (is_less i) (f (below_var s b j))) place ∙ ap (λ (t : Bool). cond t (is_less j) (f (below_var s b j))) (lt-ltb j (length s.objectives) l))
 
   elsewhere : AgreeOutside s b extended f
@@ -126,7 +140,8 @@ module _ (s : SpecValue) (b : ℕ) (v : List ℕ) (f : Bits) (long : length v �
       at (inl l) k = ap (λ (t : Bool). cond t (f x) (cond (ltb (x - start) (length s.objectives)) (is_less (x - start)) (f x))) (lt-ltb x start l)
       at (inr l) (inl k) = absurd (h (x - start) k (omega (arith, l)))
       at (inr l) (inr k) =
-          ap (λ (t : Bool). cond t (f x) (cond (ltb (x - start) (length s.objectives)) (is_less (x - start)) (f x))) (le-ltb x start l) ∙ ap (λ (t : Bool). cond t (is_less (x - start)) (f x)) (le-ltb (x - start) (length s.objectives) k)
+          ap (λ (t : Bool). cond t (f x) (cond (ltb (x - start) (length s.objectives)) (is_less (x - start)) (f x))) (le-ltb x start l)
+          ∙ ap (λ (t : Bool). cond t (is_less (x - start)) (f x)) (le-ltb (x - start) (length s.objectives) k)
 
   -- no number below: covered
   covered_of_none : count_by is_less (below (length s.objectives)) ≡ 0 → IsAtMost v (vector_of s f)
@@ -151,19 +166,26 @@ module _ (s : SpecValue) (b : ℕ) (v : List ℕ) (f : Bits) (long : length v �
   unfolding below_place
   place_holds within j l =
       let there : j < length s.objectives = omega (arith, l, long) in
-      true_of_below s extended b j (slice_index v j) (within j l) (λ e. (let less = ltb-true (vector_at s f j) (slice_index v j) (sym (at_own j there) ∙ e) in omega (arith, less, same_number s extended f (same_design s b extended f elsewhere) j)))
+      true_of_below s extended b j (slice_index v j) (within j l) (λ e. (let less = ltb-true (vector_at s f j) (slice_index v j) (sym (at_own j there) ∙ e) in
+      omega (arith, less, same_number s extended f (same_design s b extended f elsewhere) j)))
 
   somewhere_holds : ¬ IsAtMost v (vector_of s f) → Holds extended (below_somewhere s b)
   somewhere_holds h =
       let x = some_below is_less (length s.objectives) (some_less h) in
-      at_least-holds extended 1 (map (is_below s b) (below (length s.objectives))) (omega (arith, somewhere_weight s extended b, counted_below (own_bit s extended b) (length s.objectives) x.0 x.1 (at_own x.0 x.1 ∙ x.2)))
+      at_least-holds extended 1 (map (is_below s b) (below (length s.objectives))) (omega (
+        arith,
+        somewhere_weight s extended b,
+        counted_below (own_bit s extended b) (length s.objectives) x.0 x.1 (at_own x.0 x.1 ∙ x.2),
+      ))
 
   pub extends : IsWithinWeights s v → ¬ IsAtMost v (vector_of s f) → Extends s b v f
   unfolding block_of
   extends within h = record {
     values = extended;
     agree = elsewhere;
-    model = All-cons (Holds extended) (below_somewhere s b) (map (below_place s b v) (below (length v))) (somewhere_holds h) (All-ones (Holds extended) (below_place s b v) (length v) (place_holds within));
+    model =
+        All-cons (Holds extended) (below_somewhere s b) (map (below_place s b v) (below (length v))) (somewhere_holds h)
+        (All-ones (Holds extended) (below_place s b v) (length v) (place_holds within));
   }
 
 pub uncovered_extend : UncoveredExtend

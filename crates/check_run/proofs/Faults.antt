@@ -2,7 +2,7 @@
 use Rattle.std.proofs.Common.{◌≡◌, ℕ, ◌-◌, ◌<◌, true, false, List, [], length, get_or, sym, ap, ◌∙◌, subst, arith}
 use Rattle.std.specs.Prelude.{slice_index}
 use Rattle.std.proofs.lemmas.List.{get_or-map, length-map, get_or-take, length-take}
-use Rattle.impl_rules.proofs.Order.{Breaks-not_valid}
+use Rattle.impl_rules.proofs.Order.{DesignBreaks-not_valid}
 use Rattle.spec_model.specs.Spec.{SpecValue, bits_of}
 use Rattle.spec_model.specs.Vectors.{IsAtMost}
 use Rattle.result_text.specs.Answers.{EntryValue}
@@ -56,7 +56,7 @@ entry_of : (s : SpecValue) (front : FrontValue) (i : ℕ) → i < length front.e
 entry_of s front i l claim = claim.entries i none l
 
 faulty : (s : SpecValue) (front : FrontValue) (i : ℕ) (why : FrontWhy) → IsFaultAt s front i why → IsClaim s front → ⊥
-faulty s front i (Invalid rule) h claim = Breaks-not_valid s (bits_of (entry_at front i).design) rule (h.fault none).broken (entry_of s front i h.in_range claim).valid
+faulty s front i (Invalid rule) h claim = DesignBreaks-not_valid s (bits_of (entry_at front i).design) rule (h.fault none).broken (entry_of s front i h.in_range claim).valid
 faulty s front i (VectorDiffers j) h claim = (h.fault none).1.differ (ap (λ (v : List ℕ). slice_index v j) (entry_of s front i h.in_range claim).stated)
 faulty s front i NotRising h claim = (h.fault none).1 (stands_after s front i h.in_range claim)
 faulty s front i (CoveredBy n) h claim =

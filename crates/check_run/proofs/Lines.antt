@@ -7,7 +7,7 @@ use Rattle.std.proofs.lemmas.List.{length-append, length-drop, take_all, append-
 use Rattle.std.proofs.lemmas.List.Folds.{list_any-append}
 use Rattle.line_words.specs.Front.{is_lf}
 use Rattle.spelled_lines.specs.Lines.{pieces}
-use Rattle.spelled_lines.proofs.FirstPiece.{pieces-nil, pieces-end, pieces-byte, pieces-last}
+use Rattle.spelled_lines.proofs.FirstPiece.{pieces-nil, pieces_end, pieces_byte, pieces_last}
 use Rattle.front_model.specs.Laws.{IsPiece}
 use Rattle.check_run.specs.Taking.{HasNoLf, IsCut}
 
@@ -33,13 +33,13 @@ no_lf_joined xs ys hx hy = list_any-append is_lf xs ys ∙ rw (hx, hy) refl
 
 -- a line is the first piece of what begins with it
 pub pieces_line : (body more : List ℕ) → HasNoLf body → pieces (body ++ 10 ∷ more) ≡ (body ++ 10 ∷ []) ∷ pieces more
-pieces_line [] more h = pieces-end 10 more refl
+pieces_line [] more h = pieces_end 10 more refl
 pieces_line (b ∷ bs) more h =
     elim (cases_Bool (is_lf b)) [
       | inl t ↦ absurd (let c : list_any is_lf (b ∷ bs) ≡ true = rw t refl in false≢true (sym h ∙ c))
       | inr f ↦
           let later : list_any is_lf bs ≡ false = rw f at h in
-          pieces-byte b (bs ++ 10 ∷ more) f ∙ ap (onto_first b) (pieces_line bs more later)
+          pieces_byte b (bs ++ 10 ∷ more) f ∙ ap (onto_first b) (pieces_line bs more later)
     ]
 
 -- the first LF stands behind bytes without
@@ -72,7 +72,7 @@ pieces_alone bs some h =
     let end : length bs ≤ position_or_len is_lf (bs ++ []) = lf_behind bs [] h in
     let same : bs ++ [] ≡ bs = append-nil bs in
     let n : length bs ≤ position_or_len is_lf bs = rw same at end in
-    pieces-last bs some n ∙ ap (λ (ps : List (List ℕ)). bs ∷ ps) pieces-nil
+    pieces_last bs some n ∙ ap (λ (ps : List (List ℕ)). bs ∷ ps) pieces-nil
 
 -- the parts of a slice around the first LF
 pub cut_at : (bs : List ℕ) (n : ℕ) → n ≡ position_or_len is_lf bs → (n ≡ length bs → ⊥) → n ≤ length bs → IsCut bs (take n bs) (take (length bs - (n + 1)) (drop (n + 1) bs))

@@ -43,7 +43,8 @@ held_line old body more first last =
     ap (led old.checker) text ∙ led_line old.checker (held ++ body) more (no_lf_joined held body first last)
     ∙ ap (λ (l : List ℕ). led (with_line old.checker l) more) line
 
-pub line_taken : (old new : ProofLines) (body : List ℕ) → HasNoLf old.held.items → HasNoLf body → new.held.items ≡ [] → new.checker ≡ with_line old.checker (old.held.items ++ ended body) → TakesOn old new (ended body)
+pub line_taken : (old new : ProofLines) (body : List ℕ) → HasNoLf old.held.items → HasNoLf body → new.held.items ≡ [] → new.checker ≡ with_line old.checker (old.held.items ++ ended body)
+    → TakesOn old new (ended body)
 line_taken old new body first last empty is = record {
   held = ap (list_any is_lf) empty;
   goes_on = λ more.
@@ -51,12 +52,14 @@ line_taken old new body first last empty is = record {
       ∙ sym (held_line old body more first last);
 }
 
-pub line_refused : (old : ProofLines) (body : List ℕ) (c : CheckerValue) (r : Refused) → RefusalStays → HasNoLf old.held.items → HasNoLf body → c ≡ with_line old.checker (old.held.items ++ ended body) → c.progress.refused ≡ Some r → RefusesIn old (ended body) r
+pub line_refused : (old : ProofLines) (body : List ℕ) (c : CheckerValue) (r : Refused) → RefusalStays → HasNoLf old.held.items → HasNoLf body
+    → c ≡ with_line old.checker (old.held.items ++ ended body) → c.progress.refused ≡ Some r → RefusesIn old (ended body) r
 line_refused old body c r stays first last is refused more =
     let now = ap (λ (p : Progress). p.refused) (stays c.spec (vectors_of c.front) (pieces more) c.progress r refused) ∙ refused in
     ap (λ (p : Progress). p.refused) (held_line old body more first last ∙ ap (λ (d : CheckerValue). led d more) (sym is)) ∙ now
 
-pub fault_taken : (T : Type 0) (old new : ProofLines) (body : List ℕ) (c : CheckerValue) (fault : LineFault) → RefusalStays → HasNoLf old.held.items → HasNoLf body → Takes {T = T} old.checker (old.held.items ++ ended body) c (Err fault) → TakesBytes {T = T} old new (ended body) (Err fault)
+pub fault_taken : (T : Type 0) (old new : ProofLines) (body : List ℕ) (c : CheckerValue) (fault : LineFault) → RefusalStays → HasNoLf old.held.items → HasNoLf body
+    → Takes {T = T} old.checker (old.held.items ++ ended body) c (Err fault) → TakesBytes {T = T} old new (ended body) (Err fault)
 fault_taken T old new body c (lines.Refused r) stays first last takes = line_refused old body c r stays first last takes.0 takes.1
 fault_taken T old new body c lines.NoMemory stays first last takes = tt
 
@@ -69,26 +72,14 @@ Follows old now bytes rest = (more : List ℕ) → left_to now (rest ++ more) �
 cut_more : (rest body after more : List ℕ) → IsCut rest body after → ended body ++ (after ++ more) ≡ rest ++ more
 cut_more rest body after more cut = ended_more body (after ++ more) ∙ sym (ap (λ (t : List ℕ). t ++ more) cut.whole ∙ append_assoc body (10 ∷ after) more)
 
-pub follows_on : (old now next : ProofLines) (bytes rest body after : List ℕ) → IsCut rest body after → TakesOn now next (ended body) → Follows old now bytes rest → Follows old next bytes after
-follows_on old now next bytes rest body after cut taken follows more =
-    taken.goes_on (after ++ more) ∙ (ap (left_to now) (cut_more rest body after more cut) ∙ follows more)
-
 pub refused_on : (old now : ProofLines) (bytes rest body after : List ℕ) (r : Refused) → IsCut rest body after → RefusesIn now (ended body) r → Follows old now bytes rest → RefusesIn old bytes r
 refused_on old now bytes rest body after r cut refused follows more =
     ap (λ (p : Progress). p.refused) (sym (ap (left_to now) (cut_more rest body after more cut) ∙ follows more)) ∙ refused (after ++ more)
 
-pub fault_on : (T : Type 0) (old now next : ProofLines) (bytes rest body after : List ℕ) (fault : LineFault) → IsCut rest body after → TakesBytes {T = T} now next (ended body) (Err fault) → Follows old now bytes rest → TakesBytes {T = T} old next bytes (Err fault)
+pub fault_on : (T : Type 0) (old now next : ProofLines) (bytes rest body after : List ℕ) (fault : LineFault) → IsCut rest body after → TakesBytes {T = T} now next (ended body) (Err fault)
+    → Follows old now bytes rest → TakesBytes {T = T} old next bytes (Err fault)
 fault_on T old now next bytes rest body after (lines.Refused r) cut takes follows = refused_on old now bytes rest body after r cut takes follows
 fault_on T old now next bytes rest body after lines.NoMemory cut takes follows = tt
-
-pub held_on : (old now next : ProofLines) (bytes rest : List ℕ) → HasNoLf now.held.items → HasNoLf rest → next.checker ≡ now.checker → next.held.items ≡ now.held.items ++ rest → Follows old now bytes rest → TakesOn old next bytes
-held_on old now next bytes rest first last same held follows = record {
-  held = ap (list_any is_lf) held ∙ no_lf_joined now.held.items rest first last;
-  goes_on = λ more.
-      ap (λ (c : CheckerValue). led c (next.held.items ++ more)) same
-      ∙ (ap (λ (t : List ℕ). led now.checker (t ++ more)) held
-      ∙ (ap (led now.checker) (append_assoc now.held.items rest more) ∙ follows more));
-}
 
 -- ---- the end
 
@@ -102,26 +93,15 @@ ends_line reader some clean =
 
 pub refused_verdict : (p : Progress) (r : Refused) → p.refused ≡ Some r → verdict_of p ≡ verdicts.Refused r
 refused_verdict p r e = ap (verdict_if p) e
+    -- ---- the file
 
--- ---- the file
-
-pub begins : (files : Option Files) (name : List ℕ) (c : CheckerValue) (reader : ProofLines) → reader.checker ≡ c → reader.held.items ≡ [] → IsReadTo files name 0 c reader
-begins files name c reader is empty = record {
-  bytes = [];
-  found = none_found files;
-  held = ap (list_any is_lf) empty;
-  leads = λ more. ap (λ (t : List ℕ). led reader.checker (t ++ more)) empty ∙ ap (λ (d : CheckerValue). led d more) is;
-}
-  where
-    none_found : (files : Option Files) → IfSome files (λ all. [] ≡ take 0 (content all name))
-    none_found None = tt
-    none_found (Some all) = refl
-
-parts_found : (files : Option Files) (name : List ℕ) (at count : ℕ) (bytes more : List ℕ) → IfSome files (λ all. bytes ≡ take at (content all name)) → IfSome files (λ all. more ≡ take count (drop at (content all name))) → IfSome files (λ all. bytes ++ more ≡ take (at + count) (content all name))
+parts_found : (files : Option Files) (name : List ℕ) (at count : ℕ) (bytes more : List ℕ) → IfSome files (λ all. bytes ≡ take at (content all name))
+    → IfSome files (λ all. more ≡ take count (drop at (content all name))) → IfSome files (λ all. bytes ++ more ≡ take (at + count) (content all name))
 parts_found None name at count bytes more first second = tt
 parts_found (Some all) name at count bytes more first second = rw (first, second) (sym (take-add at count (content all name)))
 
-pub reads_on : (files : Option Files) (name : List ℕ) (at count : ℕ) (c : CheckerValue) (now next : ProofLines) → IsReadTo files name at c now → TakesPart files name at count now next None → IsReadTo files name (at + count) c next
+pub reads_on : (files : Option Files) (name : List ℕ) (at count : ℕ) (c : CheckerValue) (now next : ProofLines) → IsReadTo files name at c now → TakesPart files name at count now next None
+    → IsReadTo files name (at + count) c next
 reads_on files name at count c now next read part = record {
   bytes = read.bytes ++ part.bytes;
   found = parts_found files name at count read.bytes part.bytes read.found part.found;
@@ -130,7 +110,8 @@ reads_on files name at count c now next read part = record {
 }
 
 -- first bytes of a content, and what follows them
-rest_of : (files : Option Files) (name : List ℕ) (at : ℕ) (bytes : List ℕ) (P : List ℕ → Type 0) → IfSome files (λ all. bytes ≡ take at (content all name)) → ((more : List ℕ) → P (bytes ++ more)) → OfContent files name P
+rest_of : (files : Option Files) (name : List ℕ) (at : ℕ) (bytes : List ℕ) (P : List ℕ → Type 0) → IfSome files (λ all. bytes ≡ take at (content all name)) → ((more : List ℕ) → P (bytes ++ more))
+    → OfContent files name P
 rest_of None name at bytes P found holds = record { bytes = bytes ++ []; found = tt; holds = holds [] }
 rest_of (Some all) name at bytes P found holds =
     let whole = content all name in
@@ -140,7 +121,8 @@ rest_of (Some all) name at bytes P found holds =
       holds = holds (drop at whole);
     }
 
-pub refused_within : (files : Option Files) (name : List ℕ) (at count : ℕ) (c : CheckerValue) (now next : ProofLines) (r : Refused) → IsReadTo files name at c now → TakesPart files name at count now next (Some r) → OfContent files name (λ proof. verdicts.Refused r ≡ verdict_of (led c proof))
+pub refused_within : (files : Option Files) (name : List ℕ) (at count : ℕ) (c : CheckerValue) (now next : ProofLines) (r : Refused) → IsReadTo files name at c now
+    → TakesPart files name at count now next (Some r) → OfContent files name (λ proof. verdicts.Refused r ≡ verdict_of (led c proof))
 refused_within files name at count c now next r read part =
     rest_of files name (at + count) (read.bytes ++ part.bytes) (λ proof. verdicts.Refused r ≡ verdict_of (led c proof))
     (parts_found files name at count read.bytes part.bytes read.found part.found)
@@ -149,11 +131,13 @@ refused_within files name at count c now next r read part =
     sym (refused_verdict (led c ((read.bytes ++ part.bytes) ++ more)) r (ap (λ (p : Progress). p.refused) same ∙ part.takes more)))
 
 -- the whole content was read
-whole_of : (files : Option Files) (name : List ℕ) (at : ℕ) (bytes : List ℕ) (P : List ℕ → Type 0) → IfSome files (λ all. length (content all name) ≤ at) → IfSome files (λ all. bytes ≡ take at (content all name)) → P bytes → OfContent files name P
+whole_of : (files : Option Files) (name : List ℕ) (at : ℕ) (bytes : List ℕ) (P : List ℕ → Type 0) → IfSome files (λ all. length (content all name) ≤ at)
+    → IfSome files (λ all. bytes ≡ take at (content all name)) → P bytes → OfContent files name P
 whole_of None name at bytes P end found holds = record { bytes = bytes; found = tt; holds = holds }
 whole_of (Some all) name at bytes P end found holds = record { bytes = bytes; found = found ∙ take_all at (content all name) end; holds = holds }
 
-pub ends_whole : (files : Option Files) (name : List ℕ) (at : ℕ) (c : CheckerValue) (now : ProofLines) (v : Verdict) → IfSome files (λ all. length (content all name) ≤ at) → IsReadTo files name at c now → v ≡ verdict_of (left_to now []) → OfContent files name (λ proof. v ≡ verdict_of (led c proof))
+pub ends_whole : (files : Option Files) (name : List ℕ) (at : ℕ) (c : CheckerValue) (now : ProofLines) (v : Verdict) → IfSome files (λ all. length (content all name) ≤ at)
+    → IsReadTo files name at c now → v ≡ verdict_of (left_to now []) → OfContent files name (λ proof. v ≡ verdict_of (led c proof))
 ends_whole files name at c now v end read is =
     whole_of files name at read.bytes (λ proof. v ≡ verdict_of (led c proof)) end read.found
     (is ∙ ap verdict_of (read.leads [] ∙ ap (led c) (append-nil read.bytes)))

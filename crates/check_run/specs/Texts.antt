@@ -1,6 +1,6 @@
 -- What `check` says.
 use Rattle.std.specs.Prelude.{ℕ, List, ◌∷◌, ◌++◌, codes, decimal, flat_map}
-use Rattle.impl_rules.specs.Broken.{number_of}
+use Rattle.impl_rules.specs.Broken.{rule_number}
 use Rattle.front_model.specs.declared.refusals.FrontWhy.{FrontWhy}
 use Rattle.front_model.specs.declared.refusals.FrontWhy.TheVariants.{Invalid, VectorDiffers, NotRising, CoveredBy, Open}
 use Rattle.front_model.specs.declared.refusals.FrontRefused.{FrontRefused}
@@ -22,7 +22,7 @@ accepted_text entries = codes "accepted" ++ number_text entries ++ codes "\n"
 
 -- why an entry is refused: the name of the reason and its numbers, of a rule its number alone
 abbrev pub front_why_text : FrontWhy → List ℕ
-front_why_text (Invalid rule) = codes "Invalid" ++ number_text (number_of rule)
+front_why_text (Invalid rule) = codes "Invalid" ++ number_text (rule_number rule)
 front_why_text (VectorDiffers place) = codes "VectorDiffers" ++ number_text place
 front_why_text NotRising = codes "NotRising"
 front_why_text (CoveredBy entry) = codes "CoveredBy" ++ number_text entry

@@ -7,9 +7,9 @@ use Rattle.pb_rules.specs.declared.Term.{Term}
 use Rattle.pb_rules.specs.Linear.{IsNormal}
 use Rattle.pb_rules.specs.Partial.{is_false}
 use Rattle.pb_rules.specs.CuttingPlanes.{up, divided, cut, coef_of, without_var}
-use Rattle.pb_rules.proofs.Rising.{From, From-weaker, rising-from}
+use Rattle.pb_rules.proofs.Rising.{From, From-weaker, rising_from}
 use Rattle.conflict_graph.specs.Clauses.{with_literal, clause_row, false_terms, false_signs, greatest}
-use Rattle.conflict_graph.proofs.Rows.{row-agree}
+use Rattle.conflict_graph.proofs.Rows.{row_agree}
 
 -- what a constraint's terms are from a variable on, up to a bound
 pub record Terms (k n : ℕ) (ts : List Term) : Type 0 where
@@ -18,7 +18,7 @@ pub record Terms (k n : ℕ) (ts : List Term) : Type 0 where
   pub positive : (i : ℕ) (d : Term) → i < length ts → 0 < (get_or ts i d).coef
 
 pub Terms-of : (n : ℕ) (ts : List Term) (degree : ℕ) → IsNormal ts degree → ((i : ℕ) (d : Term) → i < length ts → (get_or ts i d).lit.var < n) → Terms 0 n ts
-Terms-of n ts degree h w = record { from = rising-from 0 ts (λ d l. omega arith) h.rising; within = w; positive = h.positive }
+Terms-of n ts degree h w = record { from = rising_from 0 ts (λ d l. omega arith) h.rising; within = w; positive = h.positive }
 
 pub Terms-tail : (k n : ℕ) (t : Term) (ts : List Term) → Terms k n (t ∷ ts) → Terms (t.lit.var + 1) n ts
 Terms-tail k n t ts h = record { from = (h.from).1; within = λ i d l. h.within (suc i) d (omega arith); positive = λ i d l. h.positive (suc i) d (omega arith) }
@@ -41,9 +41,9 @@ abbrev pub Positive : List Term → Type 0
 Positive [] = Unit {0}
 Positive (t ∷ ts) = (0 < t.coef) × Positive ts
 
-pub positive-of : (ts : List Term) → ((i : ℕ) (d : Term) → i < length ts → 0 < (get_or ts i d).coef) → Positive ts
-positive-of [] h = tt
-positive-of (t ∷ ts) h = (h 0 t (omega arith), positive-of ts (λ i d l. h (suc i) d (omega arith)))
+pub positive_of : (ts : List Term) → ((i : ℕ) (d : Term) → i < length ts → 0 < (get_or ts i d).coef) → Positive ts
+positive_of [] h = tt
+positive_of (t ∷ ts) h = (h 0 t (omega arith), positive_of ts (λ i d l. h (suc i) d (omega arith)))
 
 pub false-positive : (a : ℕ → Option Bool) (ts : List Term) → Positive ts → Positive (false_terms a ts)
 false-positive a [] h = tt
@@ -54,13 +54,13 @@ false-positive a (t ∷ ts) h = go (is_false a t.lit) (false-positive a ts h.1)
     go false ih = ih
 
 -- nothing is cut where no coefficient is above the degree
-pub cut-whole : (d : ℕ) (ts : List Term) → 0 < d → greatest ts ≤ d → Positive ts → cut d ts ≡ ts
-cut-whole d [] p l h = refl
-cut-whole d (t ∷ ts) p l h =
+pub cut_whole : (d : ℕ) (ts : List Term) → 0 < d → greatest ts ≤ d → Positive ts → cut d ts ≡ ts
+cut_whole d [] p l h = refl
+cut_whole d (t ∷ ts) p l h =
     let pos = h.0 in
     let least : min t.coef d ≡ t.coef = omega arith in
     let test : ltb 0 (min t.coef d) ≡ true = grind (arith, nat_tests) in
-    rw test (ap (λ (c : ℕ). let r : Term = record { coef = c; lit = t.lit } in r ∷ cut d ts) least ∙ ap (λ (us : List Term). t ∷ us) (cut-whole d ts p (omega arith) h.1))
+    rw test (ap (λ (c : ℕ). let r : Term = record { coef = c; lit = t.lit } in r ∷ cut d ts) least ∙ ap (λ (us : List Term). t ∷ us) (cut_whole d ts p (omega arith) h.1))
 
 -- and a division by 1 changes nothing
 pub divided-one : (ts : List Term) → map (divided 1) ts ≡ ts
@@ -103,7 +103,7 @@ making (suc n) k d a (t ∷ ts) p h =
           let r : Terms (k + 1) (k + suc n) ts = record { from = From-weaker (k + 1) (t.lit.var + 1) ts (omega arith) tail.from; within = tail.within; positive = tail.positive } in
           let ih = making n (k + 1) d a ts p (subst N bound r) in
           let rest : clause_row n (k + 1) (false_signs a (t ∷ ts)) ≡ clause_row n (k + 1) (false_signs a ts) =
-          row-agree n (k + 1) (false_signs a (t ∷ ts)) (false_signs a ts) (λ x l m. (let miss : eqb t.lit.var x ≡ false = grind (arith, nat_tests) in rw miss refl)) in
+          row_agree n (k + 1) (false_signs a (t ∷ ts)) (false_signs a ts) (λ x l m. (let miss : eqb t.lit.var x ≡ false = grind (arith, nat_tests) in rw miss refl)) in
           at-head e hit pos (ih ∙ sym rest))
       | inr ne ↦ (
           let l : k + 1 ≤ t.lit.var = omega arith in
@@ -116,7 +116,9 @@ making (suc n) k d a (t ∷ ts) p h =
     rest : List Term
     rest = clause_row n (k + 1) (false_signs a (t ∷ ts))
 
-    at-head : t.lit.var ≡ k → eqb t.lit.var k ≡ true → 0 < t.coef → map (divided d) (cut d (false_terms a ts)) ≡ clause_row n (k + 1) (false_signs a (t ∷ ts)) → map (divided d) (cut d (false_terms a (t ∷ ts))) ≡ with_literal k (cond (eqb t.lit.var k) (cond (is_false a t.lit) (Some t.lit.yes) None) (false_signs a ts k)) (clause_row n (k + 1) (false_signs a (t ∷ ts)))
+    at-head : t.lit.var ≡ k → eqb t.lit.var k ≡ true → 0 < t.coef → map (divided d) (cut d (false_terms a ts)) ≡ clause_row n (k + 1) (false_signs a (t ∷ ts))
+        → map (divided d) (cut d (false_terms a (t ∷ ts))) ≡ with_literal k (cond (eqb t.lit.var k) (cond (is_false a t.lit) (Some t.lit.yes) None) (false_signs a ts k))
+        (clause_row n (k + 1) (false_signs a (t ∷ ts)))
     at-head e hit pos ih = rw hit (go (is_false a t.lit))
       where
         go : (b : Bool) → map (divided d) (cut d (cond b (t ∷ false_terms a ts) (false_terms a ts))) ≡ with_literal k (cond b (Some t.lit.yes) None) (clause_row n (k + 1) (false_signs a (t ∷ ts)))
@@ -135,12 +137,12 @@ Below-push j k [] t l m h = (m, tt)
 Below-push j k (u ∷ ts) t l m h = let a = h.0 in (omega arith, Below-push j k ts t l m h.1)
 
 -- weakening on the variable of one term takes it out
-pub weaken-at : (done ts : List Term) (t : Term) (k : ℕ) → Below k done → k ≤ t.lit.var → (without_var t.lit.var (done ++ t ∷ ts) ≡ done ++ ts) × (coef_of t.lit.var (done ++ t ∷ ts) ≡ t.coef)
-weaken-at [] ts t k b l =
+pub weaken_at : (done ts : List Term) (t : Term) (k : ℕ) → Below k done → k ≤ t.lit.var → (without_var t.lit.var (done ++ t ∷ ts) ≡ done ++ ts) × (coef_of t.lit.var (done ++ t ∷ ts) ≡ t.coef)
+weaken_at [] ts t k b l =
     let hit : eqb t.lit.var t.lit.var ≡ true = grind (arith, nat_tests) in
     (rw hit refl, rw hit refl)
-weaken-at (u ∷ done) ts t k b l =
+weaken_at (u ∷ done) ts t k b l =
     let m = b.0 in
     let miss : eqb u.lit.var t.lit.var ≡ false = grind (arith, nat_tests) in
-    let ih = weaken-at done ts t k b.1 l in
+    let ih = weaken_at done ts t k b.1 l in
     (rw miss (ap (λ us. u ∷ us) ih.0), rw miss ih.1)

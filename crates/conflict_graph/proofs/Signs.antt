@@ -3,7 +3,7 @@ use Rattle.std.proofs.lemmas.Bool.Decides.{nat_tests}
 use Rattle.pb_rules.specs.declared.Term.{Term}
 use Rattle.pb_rules.specs.Partial.{falsifies, is_false}
 use Rattle.conflict_graph.specs.Clauses.{false_signs}
-use Rattle.pb_rules.proofs.Rising.{From, from-least}
+use Rattle.pb_rules.proofs.Rising.{From, from_least}
 use Rattle.pb_rules.proofs.Assignments.{FalseToo}
 use Rattle.conflict_graph.specs.Learning.{Falsifies}
 
@@ -19,7 +19,8 @@ falsifies-not o true h = rw h refl
 falsifies-not o false h = rw h refl
 
 -- what has a sign is false, and in range
-pub signs-false : (p : ℕ → Option Bool) (ts : List Term) (n : ℕ) → ((i : ℕ) (d : Term) → i < length ts → (get_or ts i d).lit.var < n) → (x : ℕ) (b : Bool) → false_signs p ts x ≡ Some b → (p x ≡ Some (not b)) × (x < n)
+pub signs-false : (p : ℕ → Option Bool) (ts : List Term) (n : ℕ) → ((i : ℕ) (d : Term) → i < length ts → (get_or ts i d).lit.var < n) → (x : ℕ) (b : Bool) → false_signs p ts x ≡ Some b
+    → (p x ≡ Some (not b)) × (x < n)
 signs-false p [] n w x b h = absurd (cc)
 signs-false p (t ∷ ts) n w x b h = go (eqb t.lit.var x) refl (is_false p t.lit) refl (signs-false p ts n (λ i d l. w (suc i) d (omega arith)) x b)
   where
@@ -34,20 +35,22 @@ signs-false p (t ∷ ts) n w x b h = go (eqb t.lit.var x) refl (is_false p t.lit
     go false e q f ih = (let s : false_signs p (t ∷ ts) x ≡ false_signs p ts x = rw e refl in ih (sym s ∙ h))
 
 -- a false literal has its sign
-pub signs-at : (p : ℕ → Option Bool) (k : ℕ) (ts : List Term) (i : ℕ) (d : Term) → From k ts → i < length ts → is_false p (get_or ts i d).lit ≡ true → false_signs p ts (get_or ts i d).lit.var ≡ Some (get_or ts i d).lit.yes
-signs-at p k [] i d f h z = absurd (omega arith)
-signs-at p k (t ∷ ts) zero d f h z = let hit : eqb t.lit.var t.lit.var ≡ true = grind (arith, nat_tests) in rw (hit, z) refl
-signs-at p k (t ∷ ts) (suc i) d f h z =
-    let a = from-least (t.lit.var + 1) ts f.1 i d (omega arith) in
+pub signs_at : (p : ℕ → Option Bool) (k : ℕ) (ts : List Term) (i : ℕ) (d : Term) → From k ts → i < length ts → is_false p (get_or ts i d).lit ≡ true
+    → false_signs p ts (get_or ts i d).lit.var ≡ Some (get_or ts i d).lit.yes
+signs_at p k [] i d f h z = absurd (omega arith)
+signs_at p k (t ∷ ts) zero d f h z = let hit : eqb t.lit.var t.lit.var ≡ true = grind (arith, nat_tests) in rw (hit, z) refl
+signs_at p k (t ∷ ts) (suc i) d f h z =
+    let a = from_least (t.lit.var + 1) ts f.1 i d (omega arith) in
     let miss : eqb t.lit.var (get_or ts i d).lit.var ≡ false = grind (arith, nat_tests) in
-    rw miss (signs-at p (t.lit.var + 1) ts i d f.1 (omega arith) z)
+    rw miss (signs_at p (t.lit.var + 1) ts i d f.1 (omega arith) z)
 
 -- only the value of a variable counts for its sign
-pub signs-agree : (p q : ℕ → Option Bool) (ts : List Term) (x : ℕ) → p x ≡ q x → false_signs p ts x ≡ false_signs q ts x
-signs-agree p q [] x e = refl
-signs-agree p q (t ∷ ts) x e = go (eqb t.lit.var x) refl (signs-agree p q ts x e)
+pub signs_agree : (p q : ℕ → Option Bool) (ts : List Term) (x : ℕ) → p x ≡ q x → false_signs p ts x ≡ false_signs q ts x
+signs_agree p q [] x e = refl
+signs_agree p q (t ∷ ts) x e = go (eqb t.lit.var x) refl (signs_agree p q ts x e)
   where
-    go : (o : Bool) → eqb t.lit.var x ≡ o → false_signs p ts x ≡ false_signs q ts x → cond o (cond (is_false p t.lit) (Some t.lit.yes) None) (false_signs p ts x) ≡ cond o (cond (is_false q t.lit) (Some t.lit.yes) None) (false_signs q ts x)
+    go : (o : Bool) → eqb t.lit.var x ≡ o → false_signs p ts x ≡ false_signs q ts x → cond o (cond (is_false p t.lit) (Some t.lit.yes) None) (false_signs p ts x)
+        ≡ cond o (cond (is_false q t.lit) (Some t.lit.yes) None) (false_signs q ts x)
     go true h ih =
         let v : t.lit.var ≡ x = grind (arith, nat_tests) in
         let s : p t.lit.var ≡ q t.lit.var = ap p v ∙ e ∙ ap q (sym v) in
@@ -55,6 +58,6 @@ signs-agree p q (t ∷ ts) x e = go (eqb t.lit.var x) refl (signs-agree p q ts x
     go false h ih = ih
 
 -- an assignment that falsifies the signs makes the same literals false
-pub signs-too : (p a : ℕ → Option Bool) (k : ℕ) (ts : List Term) → From k ts → Falsifies a (false_signs p ts) → FalseToo p a ts
-signs-too p a k ts f h i d l z =
-    falsifies-not (a (get_or ts i d).lit.var) (get_or ts i d).lit.yes (h (get_or ts i d).lit.var (get_or ts i d).lit.yes (signs-at p k ts i d f l z))
+pub signs_too : (p a : ℕ → Option Bool) (k : ℕ) (ts : List Term) → From k ts → Falsifies a (false_signs p ts) → FalseToo p a ts
+signs_too p a k ts f h i d l z =
+    falsifies-not (a (get_or ts i d).lit.var) (get_or ts i d).lit.yes (h (get_or ts i d).lit.var (get_or ts i d).lit.yes (signs_at p k ts i d f l z))

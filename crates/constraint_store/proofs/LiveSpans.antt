@@ -16,37 +16,37 @@ abbrev pub empty_span : Option Span
 empty_span = None
 
 -- no id below the first
-pub is_live-below : (ts : List Term) (k : ℕ) (ss : List (Option Span)) (c : ConId) → c.0 < k → is_live (live_from ts k ss) c ≡ false
-is_live-below ts k [] c h = refl
-is_live-below ts k (None ∷ ss) c h = is_live-below ts (k + 1) ss c (omega arith)
-is_live-below ts k (Some s ∷ ss) c h =
-    let ih = is_live-below ts (k + 1) ss c (omega arith) in
+pub is_live_below : (ts : List Term) (k : ℕ) (ss : List (Option Span)) (c : ConId) → c.0 < k → is_live (live_from ts k ss) c ≡ false
+is_live_below ts k [] c h = refl
+is_live_below ts k (None ∷ ss) c h = is_live_below ts (k + 1) ss c (omega arith)
+is_live_below ts k (Some s ∷ ss) c h =
+    let ih = is_live_below ts (k + 1) ss c (omega arith) in
     let ne : k ≢ c.0 = omega arith in
     grind (arith, nat_tests)
 
 -- an id is live where it has a part
-pub is_live-from : (ts : List Term) (k : ℕ) (ss : List (Option Span)) (c : ConId) (i : ℕ) → c.0 ≡ k + i → is_live (live_from ts k ss) c ≡ is_some (get_or ss i empty_span)
-is_live-from ts k [] c i e = refl
-is_live-from ts k (None ∷ ss) c zero e = is_live-below ts (k + 1) ss c (omega arith)
-is_live-from ts k (None ∷ ss) c (suc i) e = is_live-from ts (k + 1) ss c i (omega arith)
-is_live-from ts k (Some s ∷ ss) c zero e = let q : k ≡ c.0 = omega arith in grind (arith, nat_tests)
-is_live-from ts k (Some s ∷ ss) c (suc i) e =
-    let ih = is_live-from ts (k + 1) ss c i (omega arith) in
+pub is_live_from : (ts : List Term) (k : ℕ) (ss : List (Option Span)) (c : ConId) (i : ℕ) → c.0 ≡ k + i → is_live (live_from ts k ss) c ≡ is_some (get_or ss i empty_span)
+is_live_from ts k [] c i e = refl
+is_live_from ts k (None ∷ ss) c zero e = is_live_below ts (k + 1) ss c (omega arith)
+is_live_from ts k (None ∷ ss) c (suc i) e = is_live_from ts (k + 1) ss c i (omega arith)
+is_live_from ts k (Some s ∷ ss) c zero e = let q : k ≡ c.0 = omega arith in grind (arith, nat_tests)
+is_live_from ts k (Some s ∷ ss) c (suc i) e =
+    let ih = is_live_from ts (k + 1) ss c i (omega arith) in
     let ne : k ≢ c.0 = omega arith in
     grind (arith, nat_tests)
 
 -- what is live there
-pub live_at-from : (ts : List Term) (k : ℕ) (ss : List (Option Span)) (c : ConId) (i : ℕ) (s : Span) → c.0 ≡ k + i → get_or ss i empty_span ≡ Some s → live_at (live_from ts k ss) c ≡ live_in ts c.0 s
-live_at-from ts k [] c i s e h = absurd (cc)
-live_at-from ts k (None ∷ ss) c zero s e h = absurd (cc)
-live_at-from ts k (None ∷ ss) c (suc i) s e h = live_at-from ts (k + 1) ss c i s (omega arith) h
-live_at-from ts k (Some r ∷ ss) c zero s e h =
+pub live_at_from : (ts : List Term) (k : ℕ) (ss : List (Option Span)) (c : ConId) (i : ℕ) (s : Span) → c.0 ≡ k + i → get_or ss i empty_span ≡ Some s → live_at (live_from ts k ss) c ≡ live_in ts c.0 s
+live_at_from ts k [] c i s e h = absurd (cc)
+live_at_from ts k (None ∷ ss) c zero s e h = absurd (cc)
+live_at_from ts k (None ∷ ss) c (suc i) s e h = live_at_from ts (k + 1) ss c i s (omega arith) h
+live_at_from ts k (Some r ∷ ss) c zero s e h =
     let q : k ≡ c.0 = omega arith in
     let r-is : r ≡ s = cc in
     let a : live_at (live_from ts k (Some r ∷ ss)) c ≡ live_in ts k r = grind (arith, nat_tests) in
     a ∙ ap (λ (m : ℕ). live_in ts m r) q ∙ ap (λ (t : Span). live_in ts c.0 t) r-is
-live_at-from ts k (Some r ∷ ss) c (suc i) s e h =
-    let ih = live_at-from ts (k + 1) ss c i s (omega arith) h in
+live_at_from ts k (Some r ∷ ss) c (suc i) s e h =
+    let ih = live_at_from ts (k + 1) ss c i s (omega arith) h in
     let ne : k ≢ c.0 = omega arith in
     let a : live_at (live_from ts k (Some r ∷ ss)) c ≡ live_at (live_from ts (k + 1) ss) c = grind (arith, nat_tests) in
     a ∙ ih
@@ -59,8 +59,8 @@ live_from-empty ts k (Some r ∷ ss) =
     ap (λ (es : List Live). live_in ts k r ∷ es) (live_from-empty ts (k + 1) ss)
 
 -- the first ids, without an empty one after them
-pub live_from-less : (ts : List Term) (ss : List (Option Span)) (n : ℕ) → n < length ss → get_or ss n empty_span ≡ None → live_from ts 0 (take n ss) ≡ live_from ts 0 (take (n + 1) ss)
-live_from-less ts ss n h e =
+pub live_from_less : (ts : List Term) (ss : List (Option Span)) (n : ℕ) → n < length ss → get_or ss n empty_span ≡ None → live_from ts 0 (take n ss) ≡ live_from ts 0 (take (n + 1) ss)
+live_from_less ts ss n h e =
     sym (ap (live_from ts 0) (take_more ss n empty_span h ∙ ap (λ (s : Option Span). take n ss ++ s ∷ []) e) ∙ live_from-empty ts 0 (take n ss))
 
 -- a part more at the end
@@ -72,21 +72,21 @@ live_from-push ts k (Some r ∷ ss) s i e =
     ap (λ (es : List Live). live_in ts k r ∷ es) (live_from-push ts (k + 1) ss s i (omega arith))
 
 -- taking out an id below the first changes nothing
-pub without-below : (ts : List Term) (k : ℕ) (ss : List (Option Span)) (c : ConId) → c.0 < k → without c (live_from ts k ss) ≡ live_from ts k ss
-without-below ts k [] c h = refl
-without-below ts k (None ∷ ss) c h = without-below ts (k + 1) ss c (omega arith)
-without-below ts k (Some s ∷ ss) c h =
-    let ih = without-below ts (k + 1) ss c (omega arith) in
+pub without_below : (ts : List Term) (k : ℕ) (ss : List (Option Span)) (c : ConId) → c.0 < k → without c (live_from ts k ss) ≡ live_from ts k ss
+without_below ts k [] c h = refl
+without_below ts k (None ∷ ss) c h = without_below ts (k + 1) ss c (omega arith)
+without_below ts k (Some s ∷ ss) c h =
+    let ih = without_below ts (k + 1) ss c (omega arith) in
     let ne : eqb k c.0 ≡ false = grind (arith, nat_tests) in
     rw (ne, ih) refl
 
 -- taking away a part takes out what is live under its id
 pub live_from-set_none : (ts : List Term) (k : ℕ) (ss : List (Option Span)) (c : ConId) (i : ℕ) → c.0 ≡ k + i → live_from ts k (set ss i empty_span) ≡ without c (live_from ts k ss)
 live_from-set_none ts k [] c i e = refl
-live_from-set_none ts k (None ∷ ss) c zero e = sym (without-below ts (k + 1) ss c (omega arith))
+live_from-set_none ts k (None ∷ ss) c zero e = sym (without_below ts (k + 1) ss c (omega arith))
 live_from-set_none ts k (None ∷ ss) c (suc i) e = live_from-set_none ts (k + 1) ss c i (omega arith)
 live_from-set_none ts k (Some s ∷ ss) c zero e =
-    let b = without-below ts (k + 1) ss c (omega arith) in
+    let b = without_below ts (k + 1) ss c (omega arith) in
     let eq : eqb k c.0 ≡ true = (let q : k ≡ c.0 = omega arith in grind (arith, nat_tests)) in
     rw (eq, b) refl
 live_from-set_none ts k (Some s ∷ ss) c (suc i) e =
@@ -97,7 +97,7 @@ live_from-set_none ts k (Some s ∷ ss) c (suc i) e =
 -- what an id's being live says of the parts
 pub live_there : (ts : List Term) (ss : List (Option Span)) (c : ConId) → IsTrue (is_live (live_from ts 0 ss) c) → (c.0 < length ss) × (is_some (get_or ss c.0 empty_span) ≡ true)
 live_there ts ss c h =
-    let e : is_live (live_from ts 0 ss) c ≡ is_some (get_or ss c.0 empty_span) = is_live-from ts 0 ss c c.0 (sym (zero-add c.0)) in
+    let e : is_live (live_from ts 0 ss) c ≡ is_some (get_or ss c.0 empty_span) = is_live_from ts 0 ss c c.0 (sym (zero-add c.0)) in
     let t : is_live (live_from ts 0 ss) c ≡ true = grind (arith, common_steps) in
     let q : is_some (get_or ss c.0 empty_span) ≡ true = sym e ∙ t in (
       elim (cases_lt c.0 (length ss)) [
@@ -107,17 +107,13 @@ live_there ts ss c h =
       q,
     )
 
--- a live id has a part
-pub none_live : (ts : List Term) (ss : List (Option Span)) (c : ConId) → IsTrue (is_live (live_from ts 0 ss) c) → get_or ss c.0 empty_span ≡ None → ⊥
-none_live ts ss c h e = let t = live_there ts ss c h in let r = rw e at t.1 in cc
-
 -- what was read says whether its id is live
 pub is_live_read : (ts : List Term) (ss : List (Option Span)) (c : ConId) (o : Option Span) (n : ℕ) → c.0 < n → n ≡ length ss → o ≡ get_or ss c.0 o → is_some o ≡ is_live (live_from ts 0 ss) c
-is_live_read ts ss c o n h l e = ap is_some (get_or_read_under ss c.0 n o empty_span e h l) ∙ sym (is_live-from ts 0 ss c c.0 (sym (zero-add c.0)))
+is_live_read ts ss c o n h l e = ap is_some (get_or_read_under ss c.0 n o empty_span e h l) ∙ sym (is_live_from ts 0 ss c c.0 (sym (zero-add c.0)))
 
 -- no id past the parts
 pub is_live_past : (ts : List Term) (ss : List (Option Span)) (c : ConId) → length ss ≤ c.0 → is_live (live_from ts 0 ss) c ≡ false
-is_live_past ts ss c h = is_live-from ts 0 ss c c.0 (sym (zero-add c.0)) ∙ ap is_some (get_or_past ss c.0 empty_span h)
+is_live_past ts ss c h = is_live_from ts 0 ss c c.0 (sym (zero-add c.0)) ∙ ap is_some (get_or_past ss c.0 empty_span h)
 
 -- the ids go on from the first
 ids_from : (ts : List Term) (k : ℕ) (ss : List (Option Span)) (i : ℕ) (d : Live) → i < length (live_from ts k ss) → k ≤ (get_or (live_from ts k ss) i d).id.0
@@ -127,7 +123,8 @@ ids_from ts k (Some s ∷ ss) zero d h = omega arith
 ids_from ts k (Some s ∷ ss) (suc i) d h = omega (arith, ids_from ts (k + 1) ss i d (omega arith))
 
 -- and rise
-ids_rise : (ts : List Term) (k : ℕ) (ss : List (Option Span)) (i j : ℕ) (d : Live) → i < j → j < length (live_from ts k ss) → (get_or (live_from ts k ss) i d).id.0 < (get_or (live_from ts k ss) j d).id.0
+ids_rise : (ts : List Term) (k : ℕ) (ss : List (Option Span)) (i j : ℕ) (d : Live) → i < j → j < length (live_from ts k ss)
+    → (get_or (live_from ts k ss) i d).id.0 < (get_or (live_from ts k ss) j d).id.0
 ids_rise ts k [] i j d l h = absurd (omega arith)
 ids_rise ts k (None ∷ ss) i j d l h = ids_rise ts (k + 1) ss i j d l h
 ids_rise ts k (Some s ∷ ss) i zero d l h = absurd (omega arith)
@@ -157,11 +154,13 @@ span_live ts ss read es c v live r =
     ap (λ (xs : List (Option Span)). is_some (get_or xs c.0 empty_span)) r ∙ (live_there ts ss c l).1
 
 -- and what was read is what is live
-pub span_is : (ts : List Term) (ss read : List (Option Span)) (es : List Live) (c : ConId) (s : Span) → live_from ts 0 ss ≡ es → read ≡ ss → get_or read c.0 empty_span ≡ Some s → live_in ts c.0 s ≡ live_at es c
+pub span_is : (ts : List Term) (ss read : List (Option Span)) (es : List Live) (c : ConId) (s : Span) → live_from ts 0 ss ≡ es → read ≡ ss → get_or read c.0 empty_span ≡ Some s
+    → live_in ts c.0 s ≡ live_at es c
 span_is ts ss read es c s v r e =
     let at : get_or ss c.0 empty_span ≡ Some s = ap (λ (xs : List (Option Span)). get_or xs c.0 empty_span) (sym r) ∙ e in
-    sym (live_at-from ts 0 ss c c.0 s (sym (zero-add c.0)) at) ∙ ap (λ (xs : List Live). live_at xs c) v
+    sym (live_at_from ts 0 ss c c.0 s (sym (zero-add c.0)) at) ∙ ap (λ (xs : List Live). live_at xs c) v
 
 -- in normal form
-pub normal_live : (ts : List Term) (ss : List (Option Span)) (es : List Live) (c : ConId) → live_from ts 0 ss ≡ es → is_live es c ≡ true → AreNormal (live_from ts 0 ss) → IsNormal (live_at es c).constraint.terms (live_at es c).constraint.degree
+pub normal_live : (ts : List Term) (ss : List (Option Span)) (es : List Live) (c : ConId) → live_from ts 0 ss ≡ es → is_live es c ≡ true → AreNormal (live_from ts 0 ss)
+    → IsNormal (live_at es c).constraint.terms (live_at es c).constraint.degree
 normal_live ts ss es c v live n = normal_at es c live (subst AreNormal v n)

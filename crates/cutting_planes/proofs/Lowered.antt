@@ -23,8 +23,8 @@ cut-lowered d (t ∷ ts) p h =
     rw test (ap (λ (us : List Term). lowered d t ∷ us) ih)
 
 -- a vector after all of it was written through its slice
-pub written-map : (f : Term → Term) (n : ℕ) (now old : List Term) → now ≡ map f old → length old ≡ n → take n (now ++ drop (length now) old) ≡ map f old
-written-map f n now old e len =
+pub written_map : (f : Term → Term) (n : ℕ) (now old : List Term) → now ≡ map f old → length old ≡ n → take n (now ++ drop (length now) old) ≡ map f old
+written_map f n now old e len =
     let same : length now ≡ length old = ap length e ∙ length-map old f in
     let none = drop_of_length-le old {i = length now} (omega arith) in
     let whole : now ++ drop (length now) old ≡ now = ap (λ (us : List Term). now ++ us) none ∙ append-nil now in

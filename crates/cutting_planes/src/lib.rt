@@ -18,6 +18,7 @@ ghost use Rattle.cutting_planes.specs.Refusals.{IsRefusal};
 mod in_place;
 mod sums;
 mod terms;
+mod weakenings;
 
 pub use in_place::{into_quotient, into_saturated, into_weakened};
 use pb_constraints::{Constraint, Lit, Term};
@@ -25,6 +26,7 @@ use std::alloc::{AllocError, Global};
 use sums::merge_terms;
 use terms::{coefficient_sum, cut_down, divided_by, multiplied_by, place_of};
 use thiserror::Error;
+pub use weakenings::weaken_each;
 
 /// The least number that no proof may have.
 const LIMIT: u128 = 1 << 63;

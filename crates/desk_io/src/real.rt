@@ -3,7 +3,7 @@ ghost use Rattle.desk_io.specs.Causes.{HasCause};
 
 use crate::{Desk, DeskError};
 use std::fs::OpenOptions;
-use std::io::{Read, Seek, SeekFrom, Write};
+use std::io::{ErrorKind, Read, Seek, SeekFrom, Write};
 use std::marker::Model;
 use std::rt::Files;
 use std::{fs, io};
@@ -11,7 +11,7 @@ use std::{fs, io};
 /// The real files and the standard output: the trusted edge.
 ///
 /// No contract can say what a file gives or keeps, so this desk tells neither its files nor what was
-/// said. It keeps a count of faults, which it raises at each error.
+/// said. It keeps a count of faults, which it raises at each error. A file that is read has to be a plain one.
 #[derive(Drop)]
 pub struct RealDesk<'a, R> {
     rt: &'a R,
@@ -51,12 +51,19 @@ impl<'a, R: Files + Print + Alloc> RealDesk<'a, R> {
     }
 }
 
+// What isn't a plain file has no length to go by, and opening a named pipe would wait for who opens its other end.
 fn length_of(rt: &impl Files, name: &str) -> io::Result<u64> {
-    Ok(fs::metadata(rt, name)?.len())
+    let file = fs::metadata(rt, name)?;
+    if !file.is_file() {
+        return Err(ErrorKind::InvalidInput.into());
+    }
+    Ok(file.len())
 }
 
-// `read_exact` makes a file that ends too early an error.
+// The length is asked for before the file is opened, so that only a plain one is. `read_exact` makes a file that ends
+// too early an error.
 fn fill_from(rt: &impl Files, name: &str, at: u64, buf: &mut [u8]) -> io::Result<()> {
+    length_of(rt, name)?;
     let mut file = fs::open(rt, name)?;
     file.seek(SeekFrom::Start(at))?;
     file.read_exact(buf)

@@ -1,5 +1,5 @@
 -- Columns after an edit.
-use Rattle.std.proofs.Common.{◌≡◌, ℕ, ◌+◌, ◌<◌, ◌≤◌, List, [], ◌∷◌, ◌++◌, length, map, get_or, set, take, drop, replicate, zero, suc, Bool, true, false, cond, ap, ap₂, sym, ◌∙◌, refl, arith, Vec, Global, vec_len, vec_items, true≢false, Result, Ok, Err, is_ok, is_err, OnErr, add-one, append_assoc, append-nil}
+use Rattle.std.proofs.Common.{◌≡◌, ℕ, ◌+◌, ◌<◌, ◌≤◌, List, [], ◌∷◌, ◌++◌, length, map, get_or, set, take, drop, replicate, zero, suc, Bool, true, false, cond, ap, ap₂, sym, ◌∙◌, refl, arith, Vec, Global, vec_len, vec_items, true≢false, Result, Ok, Err, is_ok, is_err, add-one, append_assoc, append-nil}
 use Rattle.std.specs.List.{All}
 use Rattle.std.proofs.lemmas.List.{set_at, get_or_at, get_or-map, map_more, map_push, map-set, drop_more, length-map, length-take-le, length_push, take_at, take_all, take_more, take_more_set, drop-set-lt, drop-drop, get_or-drop, replicate_more}
 use Rattle.std.proofs.lemmas.List.Elements.{All-head, All-tail, All-cons, All-nil}
@@ -18,13 +18,15 @@ seen_long cs n even k d h =
 
 -- ---- every element changed alike, one after another; f is what is seen of an element
 
-pub seen_at : {X Y : Type 0} (f : X → Y) (g : Y → Y) (xs : List X) (old : List Y) (i : ℕ) (x : X) (d : Y) → i < length xs → length xs ≡ length old → x ≡ get_or xs i x → map f xs ≡ map g (take i old) ++ drop i old → f x ≡ get_or old i d
+pub seen_at : {X Y : Type 0} (f : X → Y) (g : Y → Y) (xs : List X) (old : List Y) (i : ℕ) (x : X) (d : Y) → i < length xs → length xs ≡ length old → x ≡ get_or xs i x
+    → map f xs ≡ map g (take i old) ++ drop i old → f x ≡ get_or old i d
 seen_at f g xs old i x d h same is so =
     let front : length (map g (take i old)) ≡ i = length-map (take i old) g ∙ length-take-le i old (omega arith) in
     let rest = drop_more old i d (omega arith) in
     sym (get_or-map f xs i x d h ∙ ap f (sym is)) ∙ ap (λ l. get_or l i d) (so ∙ ap (λ l. map g (take i old) ++ l) rest) ∙ get_or_at (map g (take i old)) (get_or old i d) (drop (i + 1) old) d i front
 
-pub changed_more : {X Y : Type 0} (f : X → Y) (g : Y → Y) (xs : List X) (old : List Y) (i : ℕ) (x y : X) (d : Y) → i < length xs → length xs ≡ length old → x ≡ get_or xs i x → f y ≡ g (f (get_or xs i x)) → map f xs ≡ map g (take i old) ++ drop i old → map f (set xs i y) ≡ map g (take (i + 1) old) ++ drop (i + 1) old
+pub changed_more : {X Y : Type 0} (f : X → Y) (g : Y → Y) (xs : List X) (old : List Y) (i : ℕ) (x y : X) (d : Y) → i < length xs → length xs ≡ length old → x ≡ get_or xs i x
+    → f y ≡ g (f (get_or xs i x)) → map f xs ≡ map g (take i old) ++ drop i old → map f (set xs i y) ≡ map g (take (i + 1) old) ++ drop (i + 1) old
 changed_more f g xs old i x y d h same is changed so =
     let front : length (map g (take i old)) ≡ i = length-map (take i old) g ∙ length-take-le i old (omega arith) in
     let rest = drop_more old i d (omega arith) in
@@ -57,17 +59,14 @@ with_row_at zero (c ∷ cs) v = refl
 with_row_at (suc j) (c ∷ cs) [] = refl
 with_row_at (suc j) (c ∷ cs) (x ∷ v) = with_row_at j cs v
 
-pub row_more : {X : Type 0} (f : X → List ℕ) (xs : List X) (old : List (List ℕ)) (v : List ℕ) (j : ℕ) (x y : X) → j < length xs → length xs ≡ length old → j < length v → x ≡ get_or xs j x → f y ≡ f (get_or xs j x) ++ get_or v j 0 ∷ [] → map f xs ≡ with_row old (take j v) → map f (set xs j y) ≡ with_row old (take (j + 1) v)
+pub row_more : {X : Type 0} (f : X → List ℕ) (xs : List X) (old : List (List ℕ)) (v : List ℕ) (j : ℕ) (x y : X) → j < length xs → length xs ≡ length old → j < length v → x ≡ get_or xs j x
+    → f y ≡ f (get_or xs j x) ++ get_or v j 0 ∷ [] → map f xs ≡ with_row old (take j v) → map f (set xs j y) ≡ with_row old (take (j + 1) v)
 row_more f xs old v j x y h same k is pushed so =
     let seen : f (get_or xs j x) ≡ get_or old j [] = sym (get_or-map f xs j x [] h) ∙ ap (λ l. get_or l j []) so ∙ with_row_at j old v in
     map-set f xs j y
     ∙ ap₂ (λ l a. set l j a) so (pushed ∙ ap (λ l. l ++ get_or v j 0 ∷ []) seen)
     ∙ sym (with_row_suc j old v (omega arith) k)
     ∙ ap (λ n. with_row old (take n v)) (sym (add-one j))
-
-pub on_err : {T E P : Type 0} (r : Result T E) → P → OnErr r P
-on_err (Ok _) p = tt
-on_err (Err _) p = p
 
 -- what a push to a column did to it
 pub push_made : {T E X : Type 0} (r : Result T E) (added old now : List X) → now ≡ cond (is_ok r) added old → false ≡ is_err r → now ≡ added
@@ -90,17 +89,18 @@ cut n (c ∷ cs) [] even =
 cut n (c ∷ cs) (x ∷ v) even =
     ap₂ (λ a l. a ∷ l) (take_at c (x ∷ []) n (All-head (HasLength n) c cs even)) (cut n cs v (All-tail (HasLength n) c cs even))
 
-pub even-with_row : (n : ℕ) (cs : List (List ℕ)) (v : List ℕ) → length cs ≡ length v → All (HasLength n) cs → All (HasLength (n + 1)) (with_row cs v)
-even-with_row n [] v same even = All-nil (HasLength (n + 1))
-even-with_row n (c ∷ cs) [] same even = absurd (omega arith)
-even-with_row n (c ∷ cs) (x ∷ v) same even =
+pub even_with_row : (n : ℕ) (cs : List (List ℕ)) (v : List ℕ) → length cs ≡ length v → All (HasLength n) cs → All (HasLength (n + 1)) (with_row cs v)
+even_with_row n [] v same even = All-nil (HasLength (n + 1))
+even_with_row n (c ∷ cs) [] same even = absurd (omega arith)
+even_with_row n (c ∷ cs) (x ∷ v) same even =
     All-cons (HasLength (n + 1)) (c ++ x ∷ []) (with_row cs v)
     (length_push c x ∙ ap (λ m. m + 1) (All-head (HasLength n) c cs even))
-    (even-with_row n cs v (omega arith) (All-tail (HasLength n) c cs even))
+    (even_with_row n cs v (omega arith) (All-tail (HasLength n) c cs even))
 
 -- ---- an empty column more
 
-pub empty_more : {X : Type 0} (f : X → List ℕ) (xs : List X) (old : List (List ℕ)) (x : X) (m n : ℕ) → f x ≡ [] → m + 1 ≡ n → map f xs ≡ old ++ replicate m [] → map f (xs ++ x ∷ []) ≡ old ++ replicate n []
+pub empty_more : {X : Type 0} (f : X → List ℕ) (xs : List X) (old : List (List ℕ)) (x : X) (m n : ℕ) → f x ≡ [] → m + 1 ≡ n → map f xs ≡ old ++ replicate m []
+    → map f (xs ++ x ∷ []) ≡ old ++ replicate n []
 empty_more f xs old x m n empty more so =
     map_push f xs x ∙ ap₂ (λ l a. l ++ a ∷ []) so empty ∙ append_assoc old (replicate m []) ([] ∷ [])
     ∙ ap (λ l. old ++ l) (replicate_more m [] ∙ ap (λ k. replicate k []) more)
@@ -115,7 +115,9 @@ unmarked_push (m ∷ ms) [] b x same = absurd (omega arith)
 unmarked_push (true ∷ ms) (y ∷ ys) b x same = unmarked_push ms ys b x (omega arith)
 unmarked_push (false ∷ ms) (y ∷ ys) b x same = ap (λ l. y ∷ l) (unmarked_push ms ys b x (omega arith))
 
-pub unmarked_more : {X : Type 0} (ms : List Bool) (xs : List X) (k : ℕ) (m : Bool) (d : X) → length ms ≡ length xs → k < length ms → get_or ms k false ≡ m → unmarked (take (k + 1) ms) (take (k + 1) xs) ≡ unmarked (take k ms) (take k xs) ++ cond m [] (get_or xs k d ∷ [])
+-- one place more: it stays where it isn't marked
+pub unmarked_more : {X : Type 0} (ms : List Bool) (xs : List X) (k : ℕ) (m : Bool) (d : X) → length ms ≡ length xs → k < length ms → get_or ms k false ≡ m
+    → unmarked (take (k + 1) ms) (take (k + 1) xs) ≡ unmarked (take k ms) (take k xs) ++ cond m [] (get_or xs k d ∷ [])
 unmarked_more ms xs k m d same h is =
     ap₂ unmarked (take_more ms k false h ∙ ap (λ b. take k ms ++ b ∷ []) is) (take_more xs k d (omega arith))
     ∙ unmarked_push (take k ms) (take k xs) m (get_or xs k d) (length-take-le k ms (omega arith) ∙ sym (length-take-le k xs (omega arith)))
@@ -134,7 +136,8 @@ passes_marked ms old now k kept same h is so = record {
   rest = drop_next k now old so.rest;
 }
 
-pub moves_unmarked : (ms : List Bool) (old now : List ℕ) (k kept : ℕ) → length ms ≡ length old → length now ≡ length old → k < length ms → kept ≤ k → get_or ms k false ≡ false → IsKept ms old now k kept → IsKept ms old (set now kept (get_or now k 0)) (k + 1) (kept + 1)
+pub moves_unmarked : (ms : List Bool) (old now : List ℕ) (k kept : ℕ) → length ms ≡ length old → length now ≡ length old → k < length ms → kept ≤ k → get_or ms k false ≡ false
+    → IsKept ms old now k kept → IsKept ms old (set now kept (get_or now k 0)) (k + 1) (kept + 1)
 moves_unmarked ms old now k kept same long h le is so =
     let first : (xs : List ℕ) → get_or (drop k xs) 0 0 ≡ get_or xs k 0 = λ xs. get_or-drop k xs 0 0 ∙ ap (λ n. get_or xs n 0) (omega arith) in
     let read : get_or now k 0 ≡ get_or old k 0 = sym (first now) ∙ ap (λ l. get_or l 0 0) so.rest ∙ first old in record {

@@ -7,13 +7,15 @@ use Rattle.std.proofs.lemmas.Simd.{bitmask_splat, first_set_mask_l}
 use Rattle.std.proofs.lemmas.List.Sums.{prefix_len-le-length, prefix_len_passes, prefix_len_stops}
 use Rattle.std.proofs.lemmas.Bool.{not-true, not-false, eqb-true, eq-eqb, ne_eqb, cases_eq, cases_lt, and_right, le-leb, lt-leb, lt-ltb, ltb-true, ltb-false}
 use Rattle.std.proofs.lemmas.List.{get_or-map, get_or_past, get_or_default, length-map}
+use Rattle.std.proofs.Math.Bool.{and-true}
 use Rattle.spec_model.specs.Vectors.{IsAtMost}
 use Rattle.dominance_lanes.specs.Columns.{row_at}
-use Rattle.dominance_lanes.specs.Groups.{first_set, is_at_most_to, IsFirstZero, NoneBetween, IsFirstBetween}
+use Rattle.dominance_lanes.specs.Groups.{first_set, is_at_most_to, IsFirstZero, IsFirstBetween}
 
 -- ---- the first lane that is 0
 
-pub first_zero_is : (lanes : List ℕ) (r : ℕ) → length lanes ≡ 8 → r ≡ first_set (mask_l (map (top (hbits w64)) (zip2 (λ a b. cond (eqb a b) (2 ^ bits w64 - 1) 0) lanes (replicate 8 0))) % 2 ^ 64) 8 → IsFirstZero lanes 8 r
+pub first_zero_is : (lanes : List ℕ) (r : ℕ) → length lanes ≡ 8 → r ≡ first_set (mask_l (map (top (hbits w64)) (zip2 (λ a b. cond (eqb a b) (2 ^ bits w64 - 1) 0) lanes (replicate 8 0))) % 2 ^ 64)
+    8 → IsFirstZero lanes 8 r
 first_zero_is lanes r long is =
     let p : ℕ → Bool = λ x. eqb x 0 in
     let count : r ≡ prefix_len (λ x. not (p x)) lanes = is ∙ ap (λ m. first_set m 8) (bitmask_splat w64 eqb lanes 8 0 long (omega arith)) ∙ first_set_mask_l p lanes 8 long (omega arith) in
@@ -35,23 +37,14 @@ first_in_group p lanes at r each first lt = record {
       ap p (sym place) ∙ sym (each (k - at) (omega arith)) ∙ ne_eqb _ _ (first.before (k - at) (omega arith));
 }
 
-pub none_in_group : (p : ℕ → Bool) (lanes : List ℕ) (at r : ℕ) → ((i : ℕ) → i < 8 → eqb (get_or lanes i 0) 0 ≡ p (at + i)) → IsFirstZero lanes 8 r → 8 ≤ r → NoneBetween p at (at + 8)
-none_in_group p lanes at r each first le k from to =
-    let place : at + (k - at) ≡ k = omega arith in
-    ap p (sym place) ∙ sym (each (k - at) (omega arith)) ∙ ne_eqb _ _ (first.before (k - at) (omega arith))
-
 -- ---- one place more
 
 pub at_most_more : (n : ℕ) (u v : List ℕ) → is_at_most_to (n + 1) u v ≡ (is_at_most_to n u v && leb (get_or u n 0) (get_or v n 0))
 at_most_more n u v = subst (λ m. is_at_most_to m u v ≡ (is_at_most_to n u v && leb (get_or u n 0) (get_or v n 0))) (sym (add-one n)) refl
 
-and_true : (a : Bool) → (a && true) ≡ a
-and_true true = refl
-and_true false = refl
-
 -- a place at which the first is not above the second
 pub goes_on : (n : ℕ) (u v : List ℕ) → ltb (get_or v n 0) (get_or u n 0) ≡ false → is_at_most_to (n + 1) u v ≡ is_at_most_to n u v
-goes_on n u v le = at_most_more n u v ∙ ap (λ b. is_at_most_to n u v && b) (le-leb _ _ (ltb-false _ _ le)) ∙ and_true _
+goes_on n u v le = at_most_more n u v ∙ ap (λ b. is_at_most_to n u v && b) (le-leb _ _ (ltb-false _ _ le)) ∙ and-true _
 
 -- a place at which it is
 pub stops : (n : ℕ) (u v : List ℕ) → ltb (get_or v n 0) (get_or u n 0) ≡ true → is_at_most_to (n + 1) u v ≡ false
@@ -79,7 +72,8 @@ row_reads f xs j k x h e =
     get_or-map (λ column. get_or column k 0) (map f xs) j [] 0 (omega (arith, length-map xs f))
     ∙ ap (λ column. get_or column k 0) (get_or-map f xs j x [] h ∙ ap f (sym e))
 
-pub read_at : (cs : List (Vec ℕ Global)) (j k : ℕ) (column : Vec ℕ Global) (x : ℕ) → j < length cs → column ≡ get_or cs j column → k < vec_len (get_or cs j column) → x ≡ get_or column.items k x → get_or (row_at (map vec_items cs) k) j 0 ≡ x
+pub read_at : (cs : List (Vec ℕ Global)) (j k : ℕ) (column : Vec ℕ Global) (x : ℕ) → j < length cs → column ≡ get_or cs j column → k < vec_len (get_or cs j column) → x ≡ get_or column.items k x
+    → get_or (row_at (map vec_items cs) k) j 0 ≡ x
 read_at cs j k column x h is room at =
     let long : k < vec_len column = subst (λ (c : Vec ℕ Global). k < vec_len c) (sym is) room in
     row_reads vec_items cs j k column h is ∙ sym (at ∙ get_or_default column.items k x 0 (omega (arith, column.ok.0)))

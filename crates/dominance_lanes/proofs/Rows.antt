@@ -10,7 +10,7 @@ use Rattle.spec_model.specs.Vectors.{IsAtMost}
 use Rattle.dominance_lanes.specs.Columns.{Vectors, row_at, rows, vector_at, AreColumns, HasLength, unmarked, NoneBelow, IsFirstBelow}
 use Rattle.dominance_lanes.specs.Groups.{with_row, is_below_at, is_above_at, NoneBetween, FirstBetween}
 use Rattle.dominance_lanes.proofs.OneGroup.{at_most_of, of_at_most}
-use Rattle.dominance_lanes.proofs.ColumnEdits.{length-with_row, even-with_row}
+use Rattle.dominance_lanes.proofs.ColumnEdits.{length-with_row, even_with_row}
 
 pub length-rows : (cs : List (List ℕ)) (n : ℕ) → length (rows cs n) ≡ n
 length-rows cs n = length-map-range_with_len (row_at cs) 0 n
@@ -18,13 +18,13 @@ length-rows cs n = length-map-range_with_len (row_at cs) 0 n
 pub row_is : (cs : List (List ℕ)) (n k : ℕ) (d : List ℕ) → k < n → get_or (rows cs n) k d ≡ row_at cs k
 row_is cs n k d h = get_or-map-range_with_len (row_at cs) 0 n k k d h (omega arith)
 
-pub width-row_at : (cs : List (List ℕ)) (k : ℕ) → length (row_at cs k) ≡ length cs
-width-row_at cs k = length-map cs (λ c. get_or c k 0)
+pub width_row_at : (cs : List (List ℕ)) (k : ℕ) → length (row_at cs k) ≡ length cs
+width_row_at cs k = length-map cs (λ c. get_or c k 0)
 
 pub widths : (cs : List (List ℕ)) (width n : ℕ) → AreColumns cs width n → All (HasLength width) (rows cs n)
 widths cs width n are = All-from_get_or (HasLength width) (rows cs n) [] (λ k h.
     let lt : k < n = omega (arith, length-rows cs n) in
-    ap length (row_is cs n k [] lt) ∙ width-row_at cs k ∙ are.whole (omega arith))
+    ap length (row_is cs n k [] lt) ∙ width_row_at cs k ∙ are.whole (omega arith))
 
 same_rows : (f g : ℕ → List ℕ) (n : ℕ) → ((k : ℕ) → k < n → f k ≡ g k) → map f (range_with_len 0 n) ≡ map g (range_with_len 0 n)
 same_rows f g n same = fill_by_all g (map f (range_with_len 0 n)) n [] (length-map-range_with_len f 0 n)
@@ -55,10 +55,10 @@ rows-with_row cs v n same even =
     map-range_with_len_more (row_at (with_row cs v)) 0 n n (omega arith)
     ∙ ap₂ (λ l a. l ++ a ∷ []) (same_rows (row_at (with_row cs v)) (row_at cs) n (λ k h. row_kept n k cs v h even)) (row_put n cs v same even)
 
-pub are-with_row : (cs : List (List ℕ)) (v : List ℕ) (width n : ℕ) → length cs ≡ width → length v ≡ width → All (HasLength n) cs → AreColumns (with_row cs v) width (n + 1)
-are-with_row cs v width n whole same even =
+pub are_with_row : (cs : List (List ℕ)) (v : List ℕ) (width n : ℕ) → length cs ≡ width → length v ≡ width → All (HasLength n) cs → AreColumns (with_row cs v) width (n + 1)
+are_with_row cs v width n whole same even =
     let long = length-with_row cs v in record {
-      even = even-with_row n cs v (omega arith) even;
+      even = even_with_row n cs v (omega arith) even;
       narrow = omega arith;
       whole = λ some. long ∙ whole;
     }
@@ -84,7 +84,8 @@ completed (suc n) cs now width m is short are =
     let same : now ≡ cs = is ∙ ap (λ j. cs ++ replicate j []) none ∙ append-nil cs in
     subst (λ l. Completed cs l width (suc n)) (sym same) (record { are = are; same = refl })
 
-pub completed_by : (old now : Vec (Vec ℕ Global) Global) (width n : ℕ) → map vec_items now.items ≡ map vec_items old.items ++ replicate (vec_len now - vec_len old) [] → vec_len now ≤ width → AreColumns (map vec_items old.items) width n → Completed (map vec_items old.items) (map vec_items now.items) width n
+pub completed_by : (old now : Vec (Vec ℕ Global) Global) (width n : ℕ) → map vec_items now.items ≡ map vec_items old.items ++ replicate (vec_len now - vec_len old) [] → vec_len now ≤ width
+    → AreColumns (map vec_items old.items) width n → Completed (map vec_items old.items) (map vec_items now.items) width n
 completed_by old now width n is bound are =
     completed n (map vec_items old.items) (map vec_items now.items) width (vec_len now - vec_len old) is
     (omega (arith, length-map old.items vec_items, old.ok.0, are.narrow)) are
@@ -109,13 +110,15 @@ by_place : (n : ℕ) (c : List ℕ) → length c ≡ n → c ≡ map (λ k. get_
 by_place n c long = fill_by_all (λ k. get_or c k 0) c n 0 long (λ k h. refl)
 
 -- number j of what isn't marked in a column is the column's number at place j of the places that aren't
-kept_number : (ms : List Bool) (n j : ℕ) (c : List ℕ) → length c ≡ n → j < length (unmarked ms (range_with_len 0 n)) → get_or (unmarked ms c) j 0 ≡ get_or c (get_or (unmarked ms (range_with_len 0 n)) j 0) 0
+kept_number : (ms : List Bool) (n j : ℕ) (c : List ℕ) → length c ≡ n → j < length (unmarked ms (range_with_len 0 n))
+    → get_or (unmarked ms c) j 0 ≡ get_or c (get_or (unmarked ms (range_with_len 0 n)) j 0) 0
 kept_number ms n j c long h =
     ap (λ l. get_or (unmarked ms l) j 0) (by_place n c long)
     ∙ ap (λ l. get_or l j 0) (unmarked-map (λ k. get_or c k 0) ms (range_with_len 0 n))
     ∙ get_or-map (λ k. get_or c k 0) (unmarked ms (range_with_len 0 n)) j 0 0 h
 
-kept_row : (ms : List Bool) (n j : ℕ) (cs : List (List ℕ)) → All (HasLength n) cs → j < length (unmarked ms (range_with_len 0 n)) → row_at (map (unmarked ms) cs) j ≡ row_at cs (get_or (unmarked ms (range_with_len 0 n)) j 0)
+kept_row : (ms : List Bool) (n j : ℕ) (cs : List (List ℕ)) → All (HasLength n) cs → j < length (unmarked ms (range_with_len 0 n))
+    → row_at (map (unmarked ms) cs) j ≡ row_at cs (get_or (unmarked ms (range_with_len 0 n)) j 0)
 kept_row ms n j [] even h = refl
 kept_row ms n j (c ∷ cs) even h =
     ap₂ (λ a l. a ∷ l) (kept_number ms n j c (All-head (HasLength n) c cs even) h) (kept_row ms n j cs (All-tail (HasLength n) c cs even) h)
@@ -128,8 +131,8 @@ rows-unmarked ms n cs long even =
     ∙ fill_by_all (row_at (map (unmarked ms) cs)) (map (row_at cs) places) (count_by not ms) [] (length-map places (row_at cs) ∙ count)
     (λ j h. get_or-map (row_at cs) places j 0 [] (omega arith) ∙ sym (kept_row ms n j cs even (omega arith))))
 
-pub are-unmarked : (ms : List Bool) (cs : List (List ℕ)) (width n : ℕ) → length ms ≡ n → AreColumns cs width n → AreColumns (map (unmarked ms) cs) width (count_by not ms)
-are-unmarked ms cs width n long are =
+pub are_unmarked : (ms : List Bool) (cs : List (List ℕ)) (width n : ℕ) → length ms ≡ n → AreColumns cs width n → AreColumns (map (unmarked ms) cs) width (count_by not ms)
+are_unmarked ms cs width n long are =
     let same = length-map cs (unmarked ms) in record {
       even = All-map (HasLength (count_by not ms)) (unmarked ms) cs (λ k d h. length-unmarked ms (get_or cs k d) (long ∙ sym (are.even k d h)));
       narrow = omega (arith, are.narrow);
@@ -145,7 +148,7 @@ vector_is : (cs : List (List ℕ)) (n k : ℕ) → k < n → row_at cs k ≡ vec
 vector_is cs n k h = sym (row_is cs n k [] h)
 
 at_most_at : (cs : List (List ℕ)) (v : List ℕ) (n k : ℕ) → length cs ≡ length v → k < n → is_below_at cs v k ≡ true → IsAtMost (vector_at (rows cs n) k) v
-at_most_at cs v n k same h is = subst (λ u. IsAtMost u v) (vector_is cs n k h) (at_most_of (length v) (row_at cs k) v is (omega (arith, width-row_at cs k)))
+at_most_at cs v n k same h is = subst (λ u. IsAtMost u v) (vector_is cs n k h) (at_most_of (length v) (row_at cs k) v is (omega (arith, width_row_at cs k)))
 
 not_at_most : (cs : List (List ℕ)) (v : List ℕ) (n k : ℕ) → k < n → is_below_at cs v k ≡ false → ¬ IsAtMost (vector_at (rows cs n) k) v
 not_at_most cs v n k h is le =
@@ -166,7 +169,8 @@ first_found cs v n k same h is none = record {
 pub none_in_both : (p : ℕ → Bool) (start mid end : ℕ) → NoneBetween p start mid → NoneBetween p mid end → NoneBetween p start end
 none_in_both p start mid end first second k from to = elim (cases_lt k mid) [ inl lt ↦ first k from lt | inr ge ↦ second k ge to ]
 
-pub found_or_none : (cs : List (List ℕ)) (v : List ℕ) (mid n : ℕ) (r : Option ℕ) → length cs ≡ length v → NoneBetween (is_below_at cs v) 0 mid → FirstBetween (is_below_at cs v) mid n r → MatchOption r (NoneBelow (rows cs n) v n) (IsFirstBelow (rows cs n) v)
+pub found_or_none : (cs : List (List ℕ)) (v : List ℕ) (mid n : ℕ) (r : Option ℕ) → length cs ≡ length v → NoneBetween (is_below_at cs v) 0 mid → FirstBetween (is_below_at cs v) mid n r
+    → MatchOption r (NoneBelow (rows cs n) v n) (IsFirstBelow (rows cs n) v)
 found_or_none cs v mid n None same before rest = none_below cs v n n (omega arith) (none_in_both (is_below_at cs v) 0 mid n before rest)
 found_or_none cs v mid n (Some k) same before rest = first_found cs v n k same rest.to rest.here (none_in_both (is_below_at cs v) 0 mid k before rest.before)
 

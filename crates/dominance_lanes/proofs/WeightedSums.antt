@@ -37,15 +37,24 @@ weighted_bound [] ws all = omega arith
 weighted_bound (b ∷ bs) [] all = omega arith
 weighted_bound (b ∷ bs) (w ∷ ws) all = omega (arith, sum_by-cons (λ x. x) w ws, bit_times b w (All-head (λ b. b ≤ 1) b bs all), weighted_bound bs ws (All-tail (λ b. b ≤ 1) b bs all))
 
-pub group_more : (n i : ℕ) (bs ws : List ℕ) → length bs ≡ length ws → i + n ≤ length bs → weighted (drop i bs) (drop i ws) ≡ weighted (chunk i n bs) (chunk i n ws) + weighted (drop (i + n) bs) (drop (i + n) ws)
-group_more n i bs ws same room = ap₂ weighted (chunk-drop i n bs) (chunk-drop i n ws) ∙ weighted-append (chunk i n bs) (drop (i + n) bs) (chunk i n ws) (drop (i + n) ws) (omega (arith, length-chunk i n bs room, length-chunk i n ws))
+pub group_more : (n i : ℕ) (bs ws : List ℕ) → length bs ≡ length ws → i + n ≤ length bs → weighted (drop i bs) (drop i ws) ≡ weighted (chunk i n bs) (chunk i n ws)
+    + weighted (drop (i + n) bs) (drop (i + n) ws)
+group_more n i bs ws same room =
+    ap₂ weighted (chunk-drop i n bs) (chunk-drop i n ws) ∙ weighted-append (chunk i n bs) (drop (i + n) bs) (chunk i n ws) (drop (i + n) ws)
+    (omega (arith, length-chunk i n bs room, length-chunk i n ws))
 
 pub one_more : (i : ℕ) (bs ws : List ℕ) → i < length bs → i < length ws → weighted (drop i bs) (drop i ws) ≡ get_or bs i 0 * get_or ws i 0 + weighted (drop (i + 1) bs) (drop (i + 1) ws)
 one_more i bs ws h k = ap₂ weighted (drop_more bs i 0 h) (drop_more ws i 0 k)
 
 -- the sum of a part is within the whole
 pub part_bound : (i n : ℕ) (bs ws : List ℕ) → All (λ b. b ≤ 1) bs → weighted (chunk i n bs) (chunk i n ws) ≤ sum ws
-part_bound i n bs ws all = omega (arith, weighted_bound (chunk i n bs) (chunk i n ws) (All-take (λ b. b ≤ 1) n (drop i bs) (All-drop (λ b. b ≤ 1) i bs all)), sum_by-take-drop (λ x. x) (drop i ws) n, sum_by-take-drop (λ x. x) ws i)
+part_bound i n bs ws all =
+    omega (
+      arith,
+      weighted_bound (chunk i n bs) (chunk i n ws) (All-take (λ b. b ≤ 1) n (drop i bs) (All-drop (λ b. b ≤ 1) i bs all)),
+      sum_by-take-drop (λ x. x) (drop i ws) n,
+      sum_by-take-drop (λ x. x) ws i,
+    )
 
 pub group_fits : (i : ℕ) (bs ws : List ℕ) → All (λ b. b ≤ 1) bs → ((k : ℕ) → Fits w64 (get_or ws k 0)) → Each2 (λ a b. Fits w64 (a * b)) (map (λ x. x) (chunk i 8 bs)) (chunk i 8 ws)
 group_fits i bs ws all fit = products_fit (chunk i 8 bs) (chunk i 8 ws) (All-take (λ b. b ≤ 1) 8 (drop i bs) (All-drop (λ b. b ≤ 1) i bs all)) (chunk-fits w64 i 8 ws fit)
@@ -60,15 +69,18 @@ group_sum_is i bs ws = fold-sum 0 (products (map (λ x. x) (chunk i 8 bs)) (chun
 pub left_fits : (total part rest : ℕ) (bs ws : List ℕ) → All (λ b. b ≤ 1) bs → sum ws < 2 ^ 63 → total + (part + rest) ≡ weighted bs ws → Fits w64 (total + part)
 left_fits total part rest bs ws all small is = record { fits = omega (arith, weighted_bound bs ws all) }
 
-pub group_step : (total part i : ℕ) (bs ws : List ℕ) → length bs ≡ length ws → i + 8 ≤ length bs → part ≡ weighted (chunk i 8 bs) (chunk i 8 ws) → total + weighted (drop i bs) (drop i ws) ≡ weighted bs ws → total + (part + weighted (drop (i + 8) bs) (drop (i + 8) ws)) ≡ weighted bs ws
+pub group_step : (total part i : ℕ) (bs ws : List ℕ) → length bs ≡ length ws → i + 8 ≤ length bs → part ≡ weighted (chunk i 8 bs) (chunk i 8 ws)
+    → total + weighted (drop i bs) (drop i ws) ≡ weighted bs ws → total + (part + weighted (drop (i + 8) bs) (drop (i + 8) ws)) ≡ weighted bs ws
 group_step total part i bs ws same room is inv = omega (arith, group_more 8 i bs ws same room, is, inv)
 
-pub group_next : (total part g : ℕ) (bs ws : List ℕ) → length bs ≡ length ws → g * 8 + 8 ≤ length bs → part ≡ weighted (chunk (g * 8) 8 bs) (chunk (g * 8) 8 ws) → total + weighted (drop (g * 8) bs) (drop (g * 8) ws) ≡ weighted bs ws → (total + part) + weighted (drop ((g + 1) * 8) bs) (drop ((g + 1) * 8) ws) ≡ weighted bs ws
+pub group_next : (total part g : ℕ) (bs ws : List ℕ) → length bs ≡ length ws → g * 8 + 8 ≤ length bs → part ≡ weighted (chunk (g * 8) 8 bs) (chunk (g * 8) 8 ws)
+    → total + weighted (drop (g * 8) bs) (drop (g * 8) ws) ≡ weighted bs ws → (total + part) + weighted (drop ((g + 1) * 8) bs) (drop ((g + 1) * 8) ws) ≡ weighted bs ws
 group_next total part g bs ws same room is inv =
     let next : g * 8 + 8 ≡ (g + 1) * 8 = omega arith in
     subst (λ n. (total + part) + weighted (drop n bs) (drop n ws) ≡ weighted bs ws) next (omega (arith, group_step total part (g * 8) bs ws same room is inv))
 
-pub one_step : (total part i : ℕ) (bs ws : List ℕ) → length bs ≡ length ws → i < length bs → part ≡ get_or bs i 0 * get_or ws i 0 → total + weighted (drop i bs) (drop i ws) ≡ weighted bs ws → total + (part + weighted (drop (i + 1) bs) (drop (i + 1) ws)) ≡ weighted bs ws
+pub one_step : (total part i : ℕ) (bs ws : List ℕ) → length bs ≡ length ws → i < length bs → part ≡ get_or bs i 0 * get_or ws i 0 → total + weighted (drop i bs) (drop i ws) ≡ weighted bs ws
+    → total + (part + weighted (drop (i + 1) bs) (drop (i + 1) ws)) ≡ weighted bs ws
 one_step total part i bs ws same h is inv = omega (arith, one_more i bs ws h (omega arith), is, inv)
 
 -- a bit that is 1, and one that isn't

@@ -1,4 +1,3 @@
-pub mod Budgets
 pub mod Searched
 pub mod Found
 pub mod Answering

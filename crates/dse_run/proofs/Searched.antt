@@ -19,7 +19,7 @@ use Rattle.sat_decoder.specs.declared.decoded.Decoded.TheVariants.{First, Nothin
 use Rattle.proof_files.specs.Proving.{AreDerived, IsBelow, IsWithin}
 use Rattle.proof_files.proofs.Refuting.{refute_all}
 use Rattle.dse_run.specs.Searching.{AreUsedUp, LinesAreWorth, IsSearched}
-use Rattle.dse_run.proofs.Budgets.{all_count}
+use Rattle.evo_explore.proofs.Logs.{all_count}
 
 -- the greatest budget
 abbrev pub most : ℕ
@@ -51,7 +51,8 @@ honest_log f ls h = record {
   last = λ cs c e. never_last (derived_by f ls) h.no_contradiction cs c e;
 }
 
-used_up : (s : SpecValue) (budget : Option ℕ) (ls : List Line) → AreDerived ls → AreHonestSteps (cover_frame s) (base_of (cover_frame s)) (encoding s) ls → derived_count ls ≡ unwrap_or budget most → derived_count ls < 2 ^ all_variables s → derived_count ls < 2 ^ 63 → AreUsedUp s budget ls
+used_up : (s : SpecValue) (budget : Option ℕ) (ls : List Line) → AreDerived ls → AreHonestSteps (cover_frame s) (base_of (cover_frame s)) (encoding s) ls → derived_count ls ≡ unwrap_or budget most
+    → derived_count ls < 2 ^ all_variables s → derived_count ls < 2 ^ 63 → AreUsedUp s budget ls
 used_up s None ls each h n few small = absurd (omega (arith, n, small))
 used_up s (Some b) ls each h n few small = record {
   most = b;
@@ -66,7 +67,9 @@ used_up s (Some b) ls each h n few small = record {
 abbrev pub empty : ℕ → LogValue
 empty first = record { first = first; lines = [] }
 
-worth : (s : SpecValue) (genes : List GeneValue) (budget : Option ℕ) (decoded : Decoded) (ls : List Line) (after : Given) → All (λ l. is_derived l ≡ true) ls → given_by (cover_frame s) ls ≡ Some after → LineCountSays s (unwrap_or budget most) (derived_count ls) decoded → derived_count ls < 2 ^ 63 → NewLinesSay (cover_frame s) (base_of (cover_frame s)) s genes ls ls decoded → LinesAreWorth s genes budget decoded ls
+worth : (s : SpecValue) (genes : List GeneValue) (budget : Option ℕ) (decoded : Decoded) (ls : List Line) (after : Given) → All (λ l. is_derived l ≡ true) ls
+    → given_by (cover_frame s) ls ≡ Some after → LineCountSays s (unwrap_or budget most) (derived_count ls) decoded → derived_count ls < 2 ^ 63
+    → NewLinesSay (cover_frame s) (base_of (cover_frame s)) s genes ls ls decoded → LinesAreWorth s genes budget decoded ls
 worth s genes budget (First design) ls after each legal count small says = record {
   derived_each = each;
   legal = (after, legal);
@@ -76,7 +79,9 @@ worth s genes budget (First design) ls after each legal count small says = recor
 worth s genes budget Nothing ls after each legal count small says = refute_all s budget ls after each legal (within budget (derived_count ls) count.1.0) says
 worth s genes budget Budget ls after each legal count small says = used_up s budget ls each says count.0 count.1 small
 
-searched : (s : SpecValue) (genes : List GeneValue) (budget : Option ℕ) (decoded : Decoded) (first : ℕ) (new : LogValue) → IsFrameOf s (cover_frame s) → DecodedSays s genes decoded → LineCountSays s (unwrap_or budget most) (length (new_lines (empty first) new)) decoded → GoesOnDerived (empty first) new → IsShown s genes (empty first) new decoded → derived_count new.lines < 2 ^ 63 → IsSearched s genes budget decoded new
+searched : (s : SpecValue) (genes : List GeneValue) (budget : Option ℕ) (decoded : Decoded) (first : ℕ) (new : LogValue) → IsFrameOf s (cover_frame s) → DecodedSays s genes decoded
+    → LineCountSays s (unwrap_or budget most) (length (new_lines (empty first) new)) decoded → GoesOnDerived (empty first) new → IsShown s genes (empty first) new decoded
+    → derived_count new.lines < 2 ^ 63 → IsSearched s genes budget decoded new
 searched s genes budget decoded first new frame says count goes shown small =
     let f : Frame = cover_frame s in
     let here = shown f frame in
@@ -94,7 +99,9 @@ searched s genes budget decoded first new frame says count goes shown small =
     one_given x y q = cc
 
 -- the same of what stands for the specification, the log before, the log after and the budget
-pub searched_from : (s t : SpecValue) (genes : List GeneValue) (budget : Option ℕ) (given : ℕ) (decoded : Decoded) (first : ℕ) (old new log : LogValue) → t ≡ s → old ≡ empty first → log ≡ new → given ≡ unwrap_or budget most → IsFrameOf s (cover_frame s) → DecodedSays t genes decoded → LineCountSays t given (length (new_lines old new)) decoded → GoesOnDerived old new → IsShown t genes old new decoded → derived_count log.lines < 2 ^ 63 → IsSearched s genes budget decoded log
+pub searched_from : (s t : SpecValue) (genes : List GeneValue) (budget : Option ℕ) (given : ℕ) (decoded : Decoded) (first : ℕ) (old new log : LogValue) → t ≡ s → old ≡ empty first → log ≡ new
+    → given ≡ unwrap_or budget most → IsFrameOf s (cover_frame s) → DecodedSays t genes decoded → LineCountSays t given (length (new_lines old new)) decoded → GoesOnDerived old new
+    → IsShown t genes old new decoded → derived_count log.lines < 2 ^ 63 → IsSearched s genes budget decoded log
 searched_from s t genes budget given decoded first old new log spec_is old_is new_is given_is frame says count goes shown small =
     let says_s = subst (λ (x : SpecValue). DecodedSays x genes decoded) spec_is says in
     let count_s = subst (λ (x : SpecValue). LineCountSays x given (length (new_lines old new)) decoded) spec_is count in

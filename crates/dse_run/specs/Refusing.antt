@@ -1,6 +1,6 @@
 -- The line that refuses a file.
 use Rattle.std.specs.Prelude.{ℕ, List, [], ◌++◌, codes, decimal}
-use Rattle.line_words.specs.Refused.{number_of, name_of, what_name}
+use Rattle.line_words.specs.Refused.{refusal_number, name_of, what_name}
 use Rattle.line_words.specs.declared.refusals.Why.{Why}
 use Rattle.line_words.specs.declared.refusals.Why.TheVariants.{Limit}
 use Rattle.line_words.specs.declared.refusals.Refusal.{Refusal}
@@ -19,7 +19,7 @@ place_text name line = codes "input " ++ name ++ codes " " ++ decimal line ++ co
 
 -- what it is refused for: the number and the name of the refusal
 abbrev pub reason_text : Why → List ℕ
-reason_text why = decimal (number_of why) ++ codes " " ++ name_of why ++ limit_text why ++ codes "\n"
+reason_text why = decimal (refusal_number why) ++ codes " " ++ name_of why ++ limit_text why ++ codes "\n"
 
 -- the line that refuses a file
 abbrev pub input_text : List ℕ → Refusal → List ℕ

@@ -5,12 +5,12 @@ use Rattle.line_words.specs.declared.refusals.ReadFault.{ReadFault}
 use Rattle.line_words.specs.declared.refusals.ReadFault.TheVariants as faults
 use Rattle.run_words.specs.Values.{RequestValue}
 use Rattle.run_words.specs.Requests.{usage_text}
-use Rattle.run_base.specs.Worlds.{NamesValue, World, IsWorldOf}
+use Rattle.run_base.specs.Worlds.{NamesValue, World}
 use Rattle.file_writes.specs.Writes.{Leaves, AreWritten, ArePartlyWritten}
 use Rattle.run_base.specs.declared.outcome.Ending.{Ending}
 use Rattle.run_base.specs.declared.outcome.Ending.TheVariants as endings
 use Rattle.run_base.specs.declared.outcome.Outcome.{Outcome}
-use Rattle.dse_run.specs.Commands.{names_of, ComesTo}
+use Rattle.dse_run.specs.Commands.{names_of, ComesTo, IsWorldFor}
 use Rattle.explore_run.specs.Tools.{ToolsValue}
 use Rattle.dse_run.specs.Refusing.{input_text, word_of}
 use Rattle.dse_run.specs.declared.status.Status.{Status}
@@ -38,7 +38,7 @@ EndsBy names (Err faults.NoMemory) reply = ⊥
 -- the desk tells its files, with tools and the calls that they have had afterwards
 pub record AnswersRequest (asked : RequestValue) (tools : ToolsValue) (calls : List ℕ) (files : Option Files) (reply : ReplyValue) : Type 0 where
   pub world : World
-  pub found : IsWorldOf files (names_of asked) world
+  pub found : IsWorldFor files asked world
   pub result : Result Outcome ReadFault
   pub comes : ComesTo asked tools calls files world result
   pub ends : EndsBy (names_of asked) result reply

@@ -4,9 +4,10 @@ ghost use Rattle.std.specs.Prelude.{◌≡◌, ◌⊎◌, ◌≤◌, ◌-◌, �
 ghost use Rattle.desk_io.specs.Causes.{HasCause};
 ghost use Rattle.run_words.specs.Fit.{IsFit};
 ghost use Rattle.run_words.specs.Values.{request_value};
+ghost use Rattle.run_words.specs.Exploring.{most_rounds};
 ghost use Rattle.run_base.specs.Worlds.{World, AreLoaded, names_value};
 ghost use Rattle.check_run.specs.Calls.{NoneFailed};
-ghost use Rattle.dse_run.specs.Commands.{ComesTo, KeepsTools, MayCall, names_of};
+ghost use Rattle.dse_run.specs.Commands.{AreLoadedFor, ComesTo, KeepsTools, MayCall, names_of};
 
 use crate::decode::decode;
 use crate::exploring::explored;
@@ -17,7 +18,8 @@ use evaluators::Evaluator;
 use explore_run::Wanted as Exploration;
 use front_run::{Wanted, front};
 use line_words::ReadFault;
-use run_base::{Inputs, Names, Outcome};
+use make_run::{Wanted as Making, make};
+use run_base::{Inputs, Loaded, Names, Outcome, load_inputs};
 use run_words::Request;
 use std::alloc::Global;
 
@@ -56,6 +58,35 @@ pub(crate) fn names_of<'a>(request: &'a Request) -> Names<'a>
             arch: arch.as_str(),
             third: front_file.as_str(),
         },
+        Request::Make { .. } => Names {
+            tgff: "-",
+            arch: "-",
+            third: "-",
+        },
+    }
+}
+
+/// The files of a request, loaded: `make` reads none, so that nothing is loaded for it.
+pub(crate) fn inputs_for<D: Desk>(
+    alloc: Global,
+    desk: &mut D,
+    request: &Request,
+    names: &Names<'_>,
+) -> Result<Inputs, DeskError>
+    requires named { names_value names.now ≡ names_of (request_value request.now) }
+    ensures loaded { IfOk result (AreLoadedFor (D.files desk.old) (request_value request.now)) }
+    ensures files { D.files desk.new ≡ D.files desk.old }
+    ensures said { D.said desk.new ≡ D.said desk.old }
+    ensures cause { HasCause (D.faults desk.old) (D.faults desk.new) result }
+{
+    match request {
+        Request::Make { .. } => Ok(Inputs {
+            tgff: None,
+            arch: Loaded::Bytes(Vec::new(alloc)),
+            third: None,
+        }),
+        Request::Decode { .. } | Request::Explore { .. } => load_inputs(alloc, desk, names),
+        Request::Front { .. } | Request::Check { .. } => load_inputs(alloc, desk, names),
     }
 }
 
@@ -69,7 +100,7 @@ pub(crate) fn answer<D: Desk>(
     tools: &mut Vec<Box<dyn Evaluator>>,
 ) -> Result<Result<Outcome, ReadFault>, DeskError>
     requires fit { IsFit (vec_len tools.old) (request_value request.now) }
-    requires room { All (λ n. n ≤ 2 ^ 63 - 65536) (map calls tools.old.items) }
+    requires room { All (λ n. n ≤ 2 ^ 63 - most_rounds) (map calls tools.old.items) }
     ensures comes { IfOk result (λ tried. (world : World) → AreLoaded inputs.now world → ComesTo (request_value request.now) (record { tags = map text tools.old.items; calls = map calls tools.old.items; values = λ s f. map (λ t. value t s f) tools.old.items }) (map calls tools.new.items) (D.files desk.old) world tried) }
     ensures kept { KeepsTools (Some (request_value request.now)) (record { tags = map text tools.old.items; calls = map calls tools.old.items; values = λ s f. map (λ t. value t s f) tools.old.items }) (record { tags = map text tools.new.items; calls = map calls tools.new.items; values = λ s f. map (λ t. value t s f) tools.new.items }) }
     ensures files { D.files desk.new ≡ D.files desk.old }
@@ -118,5 +149,17 @@ pub(crate) fn answer<D: Desk>(
             Ok(front(alloc, inputs, wanted))
         }
         Request::Check { proof_file, .. } => check(alloc, desk, inputs, proof_file.as_str()),
+        Request::Make {
+            number,
+            arch,
+            rounds,
+        } => {
+            let wanted = Making {
+                number: *number,
+                arch: arch.as_str(),
+                rounds: *rounds,
+            };
+            Ok(make(alloc, wanted))
+        }
     }
 }

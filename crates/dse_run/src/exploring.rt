@@ -3,6 +3,7 @@
 ghost use Rattle.std.specs.Prelude.{◌≡◌, ◌<◌, ◌≤◌, ◌-◌, ◌^◌, All, IfOk, map, string_bytes, vec_len};
 ghost use Rattle.evo_explore.specs.Counts.{RoseAtMost};
 ghost use Rattle.run_words.specs.Fit.{AreRising};
+ghost use Rattle.run_words.specs.Exploring.{most_rounds};
 ghost use Rattle.run_base.specs.Worlds.{World, AreLoaded};
 ghost use Rattle.explore_run.specs.Tools.{Keeps};
 ghost use Rattle.explore_run.specs.Exploring.{Explores};
@@ -44,10 +45,10 @@ pub(crate) fn explored(
     tools: &mut Vec<Box<dyn Evaluator>>,
     wanted: Wanted<'_>,
 ) -> Result<Outcome, ReadFault>
-    requires few { wanted.rounds ≤ 65536 }
+    requires few { wanted.rounds ≤ most_rounds }
     requires within { All (λ p. p < vec_len tools.old) wanted.chosen.now }
     requires rising { AreRising wanted.chosen.now }
-    requires room { All (λ n. n ≤ 2 ^ 63 - 65536) (map calls tools.old.items) }
+    requires room { All (λ n. n ≤ 2 ^ 63 - most_rounds) (map calls tools.old.items) }
     ensures comes { (world : World) → AreLoaded inputs.now world → Explores (wanted_value wanted.entry) (record { tags = map text tools.old.items; calls = map calls tools.old.items; values = λ s f. map (λ t. value t s f) tools.old.items }) (map calls tools.new.items) world result }
     ensures kept { Keeps (RoseAtMost wanted.entry.rounds wanted.entry.chosen.now) (record { tags = map text tools.old.items; calls = map calls tools.old.items; values = λ s f. map (λ t. value t s f) tools.old.items }) (record { tags = map text tools.new.items; calls = map calls tools.new.items; values = λ s f. map (λ t. value t s f) tools.new.items }) }
 {

@@ -7,12 +7,13 @@ ghost use Rattle.desk_io.specs.Files.{Appends, Says};
 ghost use Rattle.run_words.specs.Fit.{IsFit};
 ghost use Rattle.run_words.specs.Requests.{request, usage_text};
 ghost use Rattle.run_words.specs.Values.{RequestValue, request_value};
+ghost use Rattle.run_words.specs.Exploring.{most_rounds};
 ghost use Rattle.run_base.specs.Worlds.{names_value};
 ghost use Rattle.file_writes.specs.Writes.{AreWritten, ArePartlyWritten, Leaves};
 ghost use Rattle.dse_run.specs.Commands.{HasBudget, KeepsTools};
 ghost use Rattle.dse_run.specs.Run.{status_of, Answered, AnswersRequest, AnswersTo, EndsBy, IsCut, IsLeft};
 
-use crate::commands::{answer, names_of};
+use crate::commands::{answer, inputs_for, names_of};
 use crate::exploring::tags_of;
 use crate::refusing::put_input;
 use crate::status::Status;
@@ -20,7 +21,7 @@ use desk_io::{Desk, DeskError};
 use evaluators::Evaluator;
 use file_writes::Writes;
 use line_words::ReadFault;
-use run_base::{Ending, Names, Outcome, load_inputs};
+use run_base::{Ending, Names, Outcome};
 use run_words::laws::law_of_requests;
 use run_words::{Request, put_usage, read_words};
 use std::alloc::{AllocError, Global};
@@ -89,7 +90,7 @@ fn reply_to<D: Desk>(
     tools: &mut Vec<Box<dyn Evaluator>>,
 ) -> Result<Reply, DeskError>
     requires fit { IsFit (vec_len tools.old) (request_value request.now) }
-    requires room { All (λ n. n ≤ 2 ^ 63 - 65536) (map calls tools.old.items) }
+    requires room { All (λ n. n ≤ 2 ^ 63 - most_rounds) (map calls tools.old.items) }
     ensures answer { IfOk result (AnswersRequest (request_value request.now) (record { tags = map text tools.old.items; calls = map calls tools.old.items; values = λ s f. map (λ t. value t s f) tools.old.items }) (map calls tools.new.items) (D.files desk.old)) }
     ensures kept { KeepsTools (Some (request_value request.now)) (record { tags = map text tools.old.items; calls = map calls tools.old.items; values = λ s f. map (λ t. value t s f) tools.old.items }) (record { tags = map text tools.new.items; calls = map calls tools.new.items; values = λ s f. map (λ t. value t s f) tools.new.items }) }
     ensures files { D.files desk.new ≡ D.files desk.old }
@@ -97,7 +98,7 @@ fn reply_to<D: Desk>(
     ensures cause { HasCause (D.faults desk.old) (D.faults desk.new) result }
 {
     let names = names_of(request);
-    let inputs = load_inputs(alloc, desk, &names)?;
+    let inputs = inputs_for(alloc, desk, request, &names)?;
     let tried = answer(alloc, desk, request, &inputs, tools)?;
     let reply = reply_of(alloc, &names, tried)?;
     Ok(reply)
@@ -108,7 +109,7 @@ fn usage(alloc: Global) -> Result<Reply, AllocError>
     ensures { IfOk result (λ reply. reply ≡ record { status = Status.Usage; text = usage_text; writes = [] }) }
 {
     let mut text = Vec::new(alloc);
-    put_usage(&mut text)?;
+    put_usage(alloc, &mut text)?;
     Ok(Reply {
         status: Status::Usage,
         text,
@@ -124,7 +125,7 @@ fn respond<D: Desk>(
     desk: &mut D,
     tools: &mut Vec<Box<dyn Evaluator>>,
 ) -> Result<Reply, DeskError>
-    requires room { All (λ n. n ≤ 2 ^ 63 - 65536) (map calls tools.old.items) }
+    requires room { All (λ n. n ≤ 2 ^ 63 - most_rounds) (map calls tools.old.items) }
     ensures answer { IfOk result (AnswersTo (request (map text tools.old.items) (map string_bytes words.now)) (record { tags = map text tools.old.items; calls = map calls tools.old.items; values = λ s f. map (λ t. value t s f) tools.old.items }) (map calls tools.new.items) (D.files desk.old)) }
     ensures kept { KeepsTools (request (map text tools.old.items) (map string_bytes words.now)) (record { tags = map text tools.old.items; calls = map calls tools.old.items; values = λ s f. map (λ t. value t s f) tools.old.items }) (record { tags = map text tools.new.items; calls = map calls tools.new.items; values = λ s f. map (λ t. value t s f) tools.new.items }) }
     ensures fit { (asked : RequestValue) → request (map text tools.old.items) (map string_bytes words.now) ≡ Some asked → IsFit (length (map text tools.old.items)) asked }
@@ -162,7 +163,7 @@ fn attempt<D: Desk>(
     desk: &mut D,
     tools: &mut Vec<Box<dyn Evaluator>>,
 ) -> Result<Status, DeskError>
-    requires room { All (λ n. n ≤ 2 ^ 63 - 65536) (map calls tools.old.items) }
+    requires room { All (λ n. n ≤ 2 ^ 63 - most_rounds) (map calls tools.old.items) }
     ensures answer { IfOk result (Answered (request (map text tools.old.items) (map string_bytes words.now)) (record { tags = map text tools.old.items; calls = map calls tools.old.items; values = λ s f. map (λ t. value t s f) tools.old.items }) (map calls tools.new.items) (D.files desk.old) (D.files desk.new) (D.said desk.old) (D.said desk.new)) }
     ensures left { OnErr result (IsLeft (request (map text tools.old.items) (map string_bytes words.now)) (record { tags = map text tools.old.items; calls = map calls tools.old.items; values = λ s f. map (λ t. value t s f) tools.old.items }) (map calls tools.new.items) (D.files desk.old) (D.files desk.new)) }
     ensures kept { KeepsTools (request (map text tools.old.items) (map string_bytes words.now)) (record { tags = map text tools.old.items; calls = map calls tools.old.items; values = λ s f. map (λ t. value t s f) tools.old.items }) (record { tags = map text tools.new.items; calls = map calls tools.new.items; values = λ s f. map (λ t. value t s f) tools.new.items }) }
@@ -183,7 +184,7 @@ pub fn run<D: Desk>(
     desk: &mut D,
     tools: &mut Vec<Box<dyn Evaluator>>,
 ) -> Status
-    requires room { All (λ n. n ≤ 2 ^ 63 - 65536) (map calls tools.old.items) }
+    requires room { All (λ n. n ≤ 2 ^ 63 - most_rounds) (map calls tools.old.items) }
     ensures answer { Answered (request (map text tools.old.items) (map string_bytes words.now)) (record { tags = map text tools.old.items; calls = map calls tools.old.items; values = λ s f. map (λ t. value t s f) tools.old.items }) (map calls tools.new.items) (D.files desk.old) (D.files desk.new) (D.said desk.old) (D.said desk.new) result ⊎ IsCut result }
     ensures left { IsCut result → IsLeft (request (map text tools.old.items) (map string_bytes words.now)) (record { tags = map text tools.old.items; calls = map calls tools.old.items; values = λ s f. map (λ t. value t s f) tools.old.items }) (map calls tools.new.items) (D.files desk.old) (D.files desk.new) }
     ensures kept { KeepsTools (request (map text tools.old.items) (map string_bytes words.now)) (record { tags = map text tools.old.items; calls = map calls tools.old.items; values = λ s f. map (λ t. value t s f) tools.old.items }) (record { tags = map text tools.new.items; calls = map calls tools.new.items; values = λ s f. map (λ t. value t s f) tools.new.items }) }

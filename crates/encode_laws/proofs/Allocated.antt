@@ -2,15 +2,14 @@
 use Rattle.std.proofs.Common.{◌≡◌, ℕ, zero, suc, ◌+◌, ◌<◌, ◌≤◌, Bool, true, false, cond, List, [], ◌∷◌, ◌++◌, length, refl, subst, arith, ◌⊎◌, inl, inr}
 use Rattle.std.specs.Prelude.{map, not}
 use Rattle.std.specs.List.{count_by, flat_map}
-use Rattle.std.proofs.lemmas.Bool.{cases_lt, false≢true}
+use Rattle.std.proofs.lemmas.Bool.{cases_lt, false≢true, eq-eqb, eqb-true}
 use Rattle.pb_rules.specs.Linear.{Holds}
 use Rattle.spec_model.specs.Spec.{SpecValue, Bits, message_at, arc_at, option_at, arc_var, resource_var, link_var, covered_var}
 use Rattle.spec_model.specs.Rules.{Uses, Walk, WalkBelow, IsResourceNeeded, IsLinkNeeded, arcs_of, of_link, sender_of}
 use Rattle.spec_model.specs.WellFormed.{IsWellFormed}
 use Rattle.spec_model.proofs.InRange.{arc_in, option_in, message_in}
 use Rattle.spec_model.proofs.Once.{counted}
-use Rattle.spec_model.proofs.Tests.{to_test, from_test}
-use Rattle.spec_model.proofs.Counts.{bit, count-map, some_those, some_below, counted_below, some_piece, count-piece_le}
+use Rattle.spec_model.proofs.Counts.{bit, count-map, some_those, some_below, counted_below, some_piece, count_piece_le}
 use Rattle.encode_model.specs.Encoding.{negative, positives, on_resource, options_on, messages_of, cover_of, option_allocates, cover_allocates, resource_has_use, arc_allocates, link_arcs, link_has_use}
 use Rattle.pb_rules.proofs.Sums.{true_weight-cons}
 use Rattle.encode_model.proofs.Weights.{true_weight-append, weight-positives, at_least-holds, holds-at_least, if_then, from_if_then, then_if, from_then_if}
@@ -47,7 +46,8 @@ module _ (s : SpecValue) (f : Bits) (parts : HasParts s) (walked : (m : ℕ) →
   needed_of_walk m r (suc i) hm w = inr (record { message = m; in_range = hm; touched = record { arc = w.0; used = w.1; at_end = inr w.2 } })
 
   -- a touched resource is covered
-  covered_of_touch : (m r a : ℕ) → m < length s.messages → Uses s f m a → WalkBelow s f m (arc_at s a).tail (message_at s m).limit → ((arc_at s a).tail ≡ r) ⊎ ((arc_at s a).head ≡ r) → f (covered_var s m r) ≡ true
+  covered_of_touch : (m r a : ℕ) → m < length s.messages → Uses s f m a → WalkBelow s f m (arc_at s a).tail (message_at s m).limit → ((arc_at s a).tail ≡ r) ⊎ ((arc_at s a).head ≡ r)
+      → f (covered_var s m r) ≡ true
   covered_of_touch m r a hm u w (inl e) =
       subst (λ (q : ℕ). f (covered_var s m q) ≡ true) e ((walked m hm).cover (arc_at s a).tail (parts.ends a u.in_range).0 (w.0, omega (arith, w.1), w.2))
   covered_of_touch m r a hm u w (inr e) =
@@ -58,7 +58,7 @@ module _ (s : SpecValue) (f : Bits) (parts : HasParts s) (walked : (m : ℕ) →
   unfolding on_resource
   option_of_use r l =
       let x = some_those f (on_resource s r) (length s.options) l in
-      inl (record { task = (option_at s x.0).task; in_range = parts.tasks x.0 x.1; on = record { choice = x.0; in_range = x.1; chosen = x.3; of_task = refl; on_resource = from_test _ _ x.2 } })
+      inl (record { task = (option_at s x.0).task; in_range = parts.tasks x.0 x.1; on = record { choice = x.0; in_range = x.1; chosen = x.3; of_task = refl; on_resource = eqb-true _ _ x.2 } })
 
   cover_of_use : (r : ℕ) → r < length s.resources → 1 ≤ count_by f (map (cover_of s r) (messages_of s)) → IsResourceNeeded s f r
   unfolding cover_of
@@ -74,19 +74,29 @@ module _ (s : SpecValue) (f : Bits) (parts : HasParts s) (walked : (m : ℕ) →
       let cs = map (cover_of s r) (messages_of s) in
       let v = resource_var s r in
       let all = holds-at_least f 1 (positives os ++ negative v ∷ positives cs) h in
-      let sum : 1 ≤ count_by f os + count_by f cs = omega (arith, all, true_weight-append f (positives os) (negative v ∷ positives cs), true_weight-cons f (negative v) (positives cs), weight-positives f os, weight-positives f cs, not_bit (f v) al) in
+      let sum : 1 ≤ count_by f os + count_by f cs = omega (
+        arith,
+        all,
+        true_weight-append f (positives os) (negative v ∷ positives cs),
+        true_weight-cons f (negative v) (positives cs),
+        weight-positives f os,
+        weight-positives f cs,
+        not_bit (f v) al,
+      ) in
       elim (cases_lt 0 (count_by f os)) [
         | inl l ↦ option_of_use r (omega (arith, l))
         | inr l ↦ cover_of_use r hr (omega (arith, l, sum))
       ]
 
-  pub resource_of_needed : IsAllocationModel s f → ((m a : ℕ) → m < length s.messages → Uses s f m a → WalkBelow s f m (arc_at s a).tail (message_at s m).limit) → (r : ℕ) → r < length s.resources → IsResourceNeeded s f r → f (resource_var s r) ≡ true
+  pub resource_of_needed : IsAllocationModel s f → ((m a : ℕ) → m < length s.messages → Uses s f m a → WalkBelow s f m (arc_at s a).tail (message_at s m).limit) → (r : ℕ) → r < length s.resources
+      → IsResourceNeeded s f r → f (resource_var s r) ≡ true
   unfolding option_allocates cover_allocates
   resource_of_needed h has_walk r hr (inl x) =
       subst (λ (q : ℕ). f (resource_var s q) ≡ true) x.on.on_resource (if_then f x.on.choice (resource_var s (option_at s x.on.choice).resource) (h.options x.on.choice x.on.in_range) x.on.chosen)
   resource_of_needed h has_walk r hr (inr x) =
       let t = x.touched in
-      then_if f (covered_var s x.message r) (resource_var s r) (h.covers x.message r x.in_range hr) (covered_of_touch x.message r t.arc x.in_range t.used (has_walk x.message t.arc x.in_range t.used) t.at_end)
+      then_if f (covered_var s x.message r) (resource_var s r) (h.covers x.message r x.in_range hr) (covered_of_touch x.message r t.arc x.in_range t.used
+      (has_walk x.message t.arc x.in_range t.used) t.at_end)
 
   pub needed_of_link : (l : ℕ) → Holds f (link_has_use s l) → f (link_var s l) ≡ true → IsLinkNeeded s f l
   unfolding link_has_use link_arcs of_link
@@ -97,7 +107,7 @@ module _ (s : SpecValue) (f : Bits) (parts : HasParts s) (walked : (m : ℕ) →
       let sum : 1 ≤ count_by f us = omega (arith, all, true_weight-append f (positives us) (negative v ∷ []), true_weight-cons f (negative v) [], weight-positives f us, not_bit (f v) wi) in
       let x = some_piece f (link_arcs s l) (length s.messages) sum in
       let y = some_those (λ a. f (arc_var s x.0 a)) (of_link s l) (length s.arcs) (omega (arith, x.2, count-map f (arc_var s x.0) (arcs_of s l))) in
-      record { message = x.0; in_range = x.1; arc = y.0; used = record { in_range = y.1; bit = y.3 }; of_link = from_test _ _ y.2 }
+      record { message = x.0; in_range = x.1; arc = y.0; used = record { in_range = y.1; bit = y.3 }; of_link = eqb-true _ _ y.2 }
 
   pub link_of_needed : IsAllocationModel s f → (l : ℕ) → IsLinkNeeded s f l → f (link_var s l) ≡ true
   unfolding arc_allocates
@@ -105,9 +115,10 @@ module _ (s : SpecValue) (f : Bits) (parts : HasParts s) (walked : (m : ℕ) →
       subst (λ (q : ℕ). f (link_var s q) ≡ true) x.of_link (if_then f (arc_var s x.message x.arc) (link_var s (arc_at s x.arc).link) (h.arcs x.message x.arc x.in_range x.used.in_range) x.used.bit)
 
   -- and from the rules to the constraints
-  use_of_needed : (r : ℕ) → r < length s.resources → ((m a : ℕ) → m < length s.messages → Uses s f m a → WalkBelow s f m (arc_at s a).tail (message_at s m).limit) → IsResourceNeeded s f r → 1 ≤ count_by f (options_on s r) + count_by f (map (cover_of s r) (messages_of s))
+  use_of_needed : (r : ℕ) → r < length s.resources → ((m a : ℕ) → m < length s.messages → Uses s f m a → WalkBelow s f m (arc_at s a).tail (message_at s m).limit) → IsResourceNeeded s f r
+      → 1 ≤ count_by f (options_on s r) + count_by f (map (cover_of s r) (messages_of s))
   unfolding on_resource cover_of
-  use_of_needed r hr has_walk (inl x) = omega (arith, counted f (on_resource s r) (length s.options) x.on.choice x.on.in_range (to_test x.on.on_resource) x.on.chosen)
+  use_of_needed r hr has_walk (inl x) = omega (arith, counted f (on_resource s r) (length s.options) x.on.choice x.on.in_range (eq-eqb _ _ x.on.on_resource) x.on.chosen)
   use_of_needed r hr has_walk (inr x) =
       let t = x.touched in
       let c = covered_of_touch x.message r t.arc x.in_range t.used (has_walk x.message t.arc x.in_range t.used) t.at_end in
@@ -119,7 +130,14 @@ module _ (s : SpecValue) (f : Bits) (parts : HasParts s) (walked : (m : ℕ) →
       let os = options_on s r in
       let cs = map (cover_of s r) (messages_of s) in
       let v = resource_var s r in
-      at_least-holds f 1 (positives os ++ negative v ∷ positives cs) (omega (arith, sum (f v) refl, true_weight-append f (positives os) (negative v ∷ positives cs), true_weight-cons f (negative v) (positives cs), weight-positives f os, weight-positives f cs))
+      at_least-holds f 1 (positives os ++ negative v ∷ positives cs) (omega (
+        arith,
+        sum (f v) refl,
+        true_weight-append f (positives os) (negative v ∷ positives cs),
+        true_weight-cons f (negative v) (positives cs),
+        weight-positives f os,
+        weight-positives f cs,
+      ))
     where
       sum : (b : Bool) → f (resource_var s r) ≡ b → 1 ≤ count_by f (options_on s r) + count_by f (map (cover_of s r) (messages_of s)) + cond (not b) 1 0
       sum true e = omega (arith, use_of_needed r hr routed.has_walk ((routed.resource_use r hr).0 e))
@@ -128,7 +146,13 @@ module _ (s : SpecValue) (f : Bits) (parts : HasParts s) (walked : (m : ℕ) →
   link_use_holds : IsRouted s f → (l : ℕ) → l < length s.links → Holds f (link_has_use s l)
   unfolding link_has_use link_arcs of_link
   link_use_holds routed l hl =
-      at_least-holds f 1 (positives us ++ negative (link_var s l) ∷ []) (omega (arith, sum (f (link_var s l)) refl, true_weight-append f (positives us) (negative (link_var s l) ∷ []), true_weight-cons f (negative (link_var s l)) [], weight-positives f us))
+      at_least-holds f 1 (positives us ++ negative (link_var s l) ∷ []) (omega (
+        arith,
+        sum (f (link_var s l)) refl,
+        true_weight-append f (positives us) (negative (link_var s l) ∷ []),
+        true_weight-cons f (negative (link_var s l)) [],
+        weight-positives f us,
+      ))
     where
       us : List ℕ
       us = flat_map (link_arcs s l) (messages_of s)
@@ -137,15 +161,17 @@ module _ (s : SpecValue) (f : Bits) (parts : HasParts s) (walked : (m : ℕ) →
       sum false e = omega arith
       sum true e =
           let x = (routed.link_use l hl).0 e in
-          let one = counted (λ a. f (arc_var s x.message a)) (of_link s l) (length s.arcs) x.arc x.used.in_range (to_test x.of_link) x.used.bit in
-          omega (arith, one, count-map f (arc_var s x.message) (arcs_of s l), count-piece_le f (link_arcs s l) (length s.messages) x.message x.in_range)
+          let one = counted (λ a. f (arc_var s x.message a)) (of_link s l) (length s.arcs) x.arc x.used.in_range (eq-eqb _ _ x.of_link) x.used.bit in
+          omega (arith, one, count-map f (arc_var s x.message) (arcs_of s l), count_piece_le f (link_arcs s l) (length s.messages) x.message x.in_range)
 
   pub allocation_of : IsRouted s f → IsAllocationModel s f
   unfolding option_allocates cover_allocates arc_allocates
   allocation_of routed = record {
-    options = λ o l. from_if_then f o (resource_var s (option_at s o).resource) (λ e. (routed.resource_use (option_at s o).resource (parts.resources o l)).1 (inl (record { task = (option_at s o).task; in_range = parts.tasks o l; on = record { choice = o; in_range = l; chosen = e; of_task = refl; on_resource = refl } })));
+    options = λ o l. from_if_then f o (resource_var s (option_at s o).resource) (λ e. (routed.resource_use (option_at s o).resource (parts.resources o l)).1
+        (inl (record { task = (option_at s o).task; in_range = parts.tasks o l; on = record { choice = o; in_range = l; chosen = e; of_task = refl; on_resource = refl } })));
     covers = λ m r hm hr. from_then_if f (covered_var s m r) (resource_var s r) (λ e. (let w = (walked m hm).short_walk r hr e in (routed.resource_use r hr).1 (needed_of_walk m r w.0 hm w.2)));
     resources = resource_use_holds routed;
-    arcs = λ m a hm ha. from_if_then f (arc_var s m a) (link_var s (arc_at s a).link) (λ e. (routed.link_use (arc_at s a).link (parts.links a ha)).1 (record { message = m; in_range = hm; arc = a; used = record { in_range = ha; bit = e }; of_link = refl }));
+    arcs = λ m a hm ha. from_if_then f (arc_var s m a) (link_var s (arc_at s a).link) (λ e. (routed.link_use (arc_at s a).link (parts.links a ha)).1
+        (record { message = m; in_range = hm; arc = a; used = record { in_range = ha; bit = e }; of_link = refl }));
     links = link_use_holds routed;
   }

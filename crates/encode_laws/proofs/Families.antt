@@ -3,9 +3,10 @@ use Rattle.std.proofs.Common.{ℕ, ◌<◌, List, ◌++◌, length}
 use Rattle.std.specs.Prelude.{map, All}
 use Rattle.std.specs.List.{flat_map}
 use Rattle.std.proofs.lemmas.List.Elements.{All-append}
+use Rattle.plain_lists.proofs.Joined.{All-right}
 use Rattle.pb_rules.specs.Linear.{Holds, IsModel}
 use Rattle.spec_model.specs.Spec.{SpecValue, Bits, below}
-use Rattle.spec_model.proofs.Joined.{All-left, All-right, All-piece, All-pieces, All-one, All-ones}
+use Rattle.spec_model.proofs.Joined.{All-left, All-piece, All-pieces, All-one, All-ones}
 use Rattle.encode_model.specs.Encoding.{one_option, sender_start, receivers_covered, covered_once, one_arc_in, arc_carries, steps_have_cause, no_dangling, routes_of, route_part, message_part, options_chosen, messages_of, resources_of, option_allocates, cover_allocates, covers_allocate, resource_has_use, arc_allocates, arcs_allocate, link_has_use, allocation, encoding, route_encoding}
 
 -- the families of a message but for receivers covered
@@ -66,7 +67,8 @@ from_three P a b c ha hb hc = All-append P (a ++ b) c (All-append P a b ha hb) h
 module _ (s : SpecValue) (f : Bits) where
   route_model : (m : ℕ) → All (Holds f) (flat_map (sender_start s m) (resources_of s)) → All (Holds f) (routes_of s m) → IsRouteModel s f m
   route_model m starts routes =
-      let parts = five (Holds f) (flat_map (covered_once s m) (resources_of s)) (flat_map (one_arc_in s m) (resources_of s)) (flat_map (arc_carries s m) (below (length s.arcs))) (flat_map (steps_have_cause s m) (resources_of s)) (flat_map (no_dangling s m) (resources_of s)) routes in
+      let parts = five (Holds f) (flat_map (covered_once s m) (resources_of s)) (flat_map (one_arc_in s m) (resources_of s)) (flat_map (arc_carries s m) (below (length s.arcs)))
+      (flat_map (steps_have_cause s m) (resources_of s)) (flat_map (no_dangling s m) (resources_of s)) routes in
       record {
         starts = λ r h. All-piece (Holds f) (sender_start s m) (length s.resources) r starts h;
         covers = λ r h. All-piece (Holds f) (covered_once s m) (length s.resources) r parts.first h;
@@ -81,7 +83,8 @@ module _ (s : SpecValue) (f : Bits) where
 
   routes_hold : (m : ℕ) → IsRouteModel s f m → All (Holds f) (routes_of s m)
   routes_hold m h =
-      from_five (Holds f) (flat_map (covered_once s m) (resources_of s)) (flat_map (one_arc_in s m) (resources_of s)) (flat_map (arc_carries s m) (below (length s.arcs))) (flat_map (steps_have_cause s m) (resources_of s)) (flat_map (no_dangling s m) (resources_of s)) (record {
+      from_five (Holds f) (flat_map (covered_once s m) (resources_of s)) (flat_map (one_arc_in s m) (resources_of s)) (flat_map (arc_carries s m) (below (length s.arcs)))
+      (flat_map (steps_have_cause s m) (resources_of s)) (flat_map (no_dangling s m) (resources_of s)) (record {
         first = All-pieces (Holds f) (covered_once s m) (length s.resources) h.covers;
         second = All-pieces (Holds f) (one_arc_in s m) (length s.resources) h.arcs_in;
         third = All-pieces (Holds f) (arc_carries s m) (length s.arcs) h.carried;
@@ -91,7 +94,8 @@ module _ (s : SpecValue) (f : Bits) where
 
   allocation_model : All (Holds f) (allocation s) → IsAllocationModel s f
   allocation_model h =
-      let parts = five (Holds f) (map (option_allocates s) (below (length s.options))) (flat_map (covers_allocate s) (messages_of s)) (map (resource_has_use s) (resources_of s)) (flat_map (arcs_allocate s) (messages_of s)) (map (link_has_use s) (below (length s.links))) h in
+      let parts = five (Holds f) (map (option_allocates s) (below (length s.options))) (flat_map (covers_allocate s) (messages_of s)) (map (resource_has_use s) (resources_of s))
+      (flat_map (arcs_allocate s) (messages_of s)) (map (link_has_use s) (below (length s.links))) h in
       record {
         options = λ o l. All-one (Holds f) (option_allocates s) (length s.options) o parts.first l;
         covers = λ m r hm hr. All-one (Holds f) (cover_allocates s m) (length s.resources) r (All-piece (Holds f) (covers_allocate s) (length s.messages) m parts.second hm) hr;
@@ -102,7 +106,8 @@ module _ (s : SpecValue) (f : Bits) where
 
   allocation_holds : IsAllocationModel s f → All (Holds f) (allocation s)
   allocation_holds h =
-      from_five (Holds f) (map (option_allocates s) (below (length s.options))) (flat_map (covers_allocate s) (messages_of s)) (map (resource_has_use s) (resources_of s)) (flat_map (arcs_allocate s) (messages_of s)) (map (link_has_use s) (below (length s.links))) (record {
+      from_five (Holds f) (map (option_allocates s) (below (length s.options))) (flat_map (covers_allocate s) (messages_of s)) (map (resource_has_use s) (resources_of s))
+      (flat_map (arcs_allocate s) (messages_of s)) (map (link_has_use s) (below (length s.links))) (record {
         first = All-ones (Holds f) (option_allocates s) (length s.options) h.options;
         second = All-pieces (Holds f) (covers_allocate s) (length s.messages) (λ m hm. All-ones (Holds f) (cover_allocates s m) (length s.resources) (λ r hr. h.covers m r hm hr));
         third = All-ones (Holds f) (resource_has_use s) (length s.resources) h.resources;
@@ -117,7 +122,8 @@ module _ (s : SpecValue) (f : Bits) where
       record {
         options = λ t l. All-piece (Holds f) (one_option s) (length s.tasks) t parts.0 l;
         routes = λ m l. (let part = All-piece (Holds f) (route_part s) (length s.messages) m parts.1 l in
-            route_model m (All-left (Holds f) (flat_map (sender_start s m) (resources_of s)) (routes_of s m) part) (All-right (Holds f) (flat_map (sender_start s m) (resources_of s)) (routes_of s m) part));
+            route_model m (All-left (Holds f) (flat_map (sender_start s m) (resources_of s)) (routes_of s m) part)
+            (All-right (Holds f) (flat_map (sender_start s m) (resources_of s)) (routes_of s m) part));
         allocated = allocation_model parts.2;
       }
 
@@ -126,7 +132,8 @@ module _ (s : SpecValue) (f : Bits) where
   routes_of_families h =
       from_three (Holds f) (options_chosen s) (flat_map (route_part s) (messages_of s)) (allocation s)
       (All-pieces (Holds f) (one_option s) (length s.tasks) h.options)
-      (All-pieces (Holds f) (route_part s) (length s.messages) (λ m l. All-append (Holds f) (flat_map (sender_start s m) (resources_of s)) (routes_of s m) (starts_hold m (h.routes m l)) (routes_hold m (h.routes m l))))
+      (All-pieces (Holds f) (route_part s) (length s.messages) (λ m l. All-append (Holds f) (flat_map (sender_start s m) (resources_of s)) (routes_of s m) (starts_hold m (h.routes m l))
+      (routes_hold m (h.routes m l))))
       (allocation_holds h.allocated)
 
   -- the receivers of each message are covered
@@ -137,7 +144,8 @@ module _ (s : SpecValue) (f : Bits) where
   unfolding encoding
   families_of_encoding h =
       let parts = three_of (Holds f) (options_chosen s) (flat_map (message_part s) (messages_of s)) (allocation s) h in
-      let of_message : (m : ℕ) → m < length s.messages → All (Holds f) (flat_map (sender_start s m) (resources_of s)) × All (Holds f) (receivers_covered s m) × All (Holds f) (routes_of s m) = λ m l. three_of (Holds f) (flat_map (sender_start s m) (resources_of s)) (receivers_covered s m) (routes_of s m) (All-piece (Holds f) (message_part s) (length s.messages) m parts.1 l) in (
+      let of_message : (m : ℕ) → m < length s.messages → All (Holds f) (flat_map (sender_start s m) (resources_of s)) × All (Holds f) (receivers_covered s m) × All (Holds f) (routes_of s m) =
+      λ m l. three_of (Holds f) (flat_map (sender_start s m) (resources_of s)) (receivers_covered s m) (routes_of s m) (All-piece (Holds f) (message_part s) (length s.messages) m parts.1 l) in (
         record {
           options = λ t l. All-piece (Holds f) (one_option s) (length s.tasks) t parts.0 l;
           routes = λ m l. route_model m (of_message m l).0 (of_message m l).2;
@@ -151,5 +159,6 @@ module _ (s : SpecValue) (f : Bits) where
   encoding_of_families h c =
       from_three (Holds f) (options_chosen s) (flat_map (message_part s) (messages_of s)) (allocation s)
       (All-pieces (Holds f) (one_option s) (length s.tasks) h.options)
-      (All-pieces (Holds f) (message_part s) (length s.messages) (λ m l. from_three (Holds f) (flat_map (sender_start s m) (resources_of s)) (receivers_covered s m) (routes_of s m) (starts_hold m (h.routes m l)) (c m l) (routes_hold m (h.routes m l))))
+      (All-pieces (Holds f) (message_part s) (length s.messages) (λ m l. from_three (Holds f) (flat_map (sender_start s m) (resources_of s)) (receivers_covered s m) (routes_of s m)
+      (starts_hold m (h.routes m l)) (c m l) (routes_hold m (h.routes m l))))
       (allocation_holds h.allocated)

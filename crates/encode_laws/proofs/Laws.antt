@@ -3,17 +3,17 @@ use Rattle.std.proofs.Common.{◌≡◌, ℕ, zero, suc, ◌+◌, ◌<◌, ◌�
 use Rattle.std.specs.Prelude.{All, Contains}
 use Rattle.std.specs.List.{sum_by}
 use Rattle.std.proofs.lemmas.List.{take_all}
-use Rattle.std.proofs.lemmas.List.Elements.{All-contains_itself}
-use Rattle.std.proofs.lemmas.Bool.{lt-ltb, false≢true}
+use Rattle.std.proofs.lemmas.List.Elements.{All-contains_itself, All-map}
+use Rattle.std.proofs.lemmas.Bool.{lt-ltb, false≢true, eq-eqb, eqb-true}
 use Rattle.pb_rules.specs.Linear.{Holds, IsModel}
 use Rattle.spec_model.specs.Spec.{SpecValue, Bits, bits_of, message_at, arc_at, option_at, further, base, design_variables, all_variables, covered_var}
 use Rattle.spec_model.specs.Rules.{IsOn, Uses, Walk, WalkBelow, IsRouted, IsValid, IsUnreached, options_of, of_task}
 use Rattle.spec_model.specs.Genotypes.{IsSameDesign}
 use Rattle.spec_model.specs.WellFormed.{IsWellFormed}
-use Rattle.spec_model.proofs.Decide.{passes_some, some_passes-from, Walk-from_test, walk_test-from}
-use Rattle.spec_model.proofs.Tests.{from_test, to_test, Contains-those}
-use Rattle.spec_model.proofs.Joined.{All-piece_of, All-pieces_of, All-of_map, All-from_map, All-those}
-use Rattle.spec_model.proofs.Along.{same_back, Walk-along, reached-along, IsRouted-along, IsValid-along, IsUnreached-along}
+use Rattle.spec_model.proofs.Decide.{passes_some, some_passes_from, Walk-from_test, walk_test_from}
+use Rattle.spec_model.proofs.Tests.{Contains-those}
+use Rattle.spec_model.proofs.Joined.{All-piece_of, All-pieces_of, All-of_map, All-those}
+use Rattle.spec_model.proofs.Along.{same_back, Walk-along, reached_along, IsRouted-along, IsValid-along, IsUnreached-along}
 use Rattle.encode_model.specs.Encoding.{encoding, route_encoding, receiver_covered, option_covers, view}
 use Rattle.encode_model.proofs.Weights.{if_then, from_if_then, exactly_one}
 use Rattle.spec_model.proofs.Joined.{All-first, All-second}
@@ -74,13 +74,15 @@ module _ (s : SpecValue) (f : Bits) (m w : ℕ) (hm : m < length s.messages) (pa
   pub covered_of_holds : All (Holds f) (receiver_covered s m w) → IsCovered
   unfolding option_covers of_task
   covered_of_holds h r on =
-      let here = All-of_map (Holds f) (option_covers s m) (options_of s w) on.choice h (Contains-those (of_task s w) (length s.options) on.choice on.in_range (to_test on.of_task)) in
+      let here = All-of_map (Holds f) (option_covers s m) (options_of s w) on.choice h (Contains-those (of_task s w) (length s.options) on.choice on.in_range (eq-eqb _ _ on.of_task)) in
       subst (λ (q : ℕ). f (covered_var s m q) ≡ true) on.on_resource (if_then f on.choice (covered_var s m (option_at s on.choice).resource) here on.chosen)
 
   pub holds_of_covered : IsCovered → All (Holds f) (receiver_covered s m w)
   unfolding option_covers of_task
   holds_of_covered h =
-      All-from_map (Holds f) (option_covers s m) (options_of s w) (All-those (λ o. Holds f (option_covers s m o)) (of_task s w) (length s.options) (λ o l e. from_if_then f o (covered_var s m (option_at s o).resource) (λ c. h (option_at s o).resource (record { choice = o; in_range = l; chosen = c; of_task = from_test _ _ e; on_resource = refl }))))
+      All-map (Holds f) (option_covers s m) (options_of s w) (All-those (λ o. Holds f (option_covers s m o)) (of_task s w) (length s.options)
+      (λ o l e. from_if_then f o (covered_var s m (option_at s o).resource) (λ c. h (option_at s o).resource
+      (record { choice = o; in_range = l; chosen = c; of_task = eqb-true _ _ e; on_resource = refl }))))
 
   pub reached_of_covered : IsCovered → (r : ℕ) → IsOn s f w r → (n : ℕ) × Walk s f m r n
   reached_of_covered h r on = let x = walks.short_walk r (on_in_range r on) (h r on) in (x.0, x.2)
@@ -96,7 +98,14 @@ module _ (s : SpecValue) (f : Bits) (m w : ℕ) (hm : m < length s.messages) (pa
     where
       at : (b : Bool) → f (covered_var s m r) ≡ b → b ≡ true
       at true e = refl
-      at false e = absurd (h (record { receiver = member; resource = r; on = on; no_walk = λ n v. absurd (false≢true (sym e ∙ walks.cover r (on_in_range r on) (n, omega (arith, walk_short s f m r n hm routed parts v), v))) }))
+      at false e =
+          absurd (h (record {
+            receiver = member;
+            resource = r;
+            on = on;
+            no_walk = λ n v. absurd (false≢true
+                (sym e ∙ walks.cover r (on_in_range r on) (n, omega (arith, walk_short s f m r n hm routed parts v), v)));
+          }))
 
   pub not_unreached_of_covered : IsCovered → ¬ IsUnreached s f m w
   not_unreached_of_covered h x =
@@ -105,9 +114,6 @@ module _ (s : SpecValue) (f : Bits) (m w : ℕ) (hm : m < length s.messages) (pa
 
 -- From a routed design to its model.
 module _ (s : SpecValue) (x : Bits) (wf : IsWellFormed s) (routed : IsRouted s x) where
-  made : Bits
-  made = bits_of (model_list s x)
-
   pub same_made : IsSameDesign s x (bits_of (model_list s x))
   same_made v l = sym (design_reads s x v l)
 
@@ -118,10 +124,11 @@ module _ (s : SpecValue) (x : Bits) (wf : IsWellFormed s) (routed : IsRouted s x
   unfolding step_bit cover_bit
   made_walked m hm = record {
     walk = λ r t hr ht e. Walk-along s x (bits_of (model_list s x)) same_made m t r hm (Walk-from_test s x m t r (sym (step_reads s x m r t hm hr ht) ∙ e));
-    step = λ r t hr ht w. step_reads s x m r t hm hr ht ∙ walk_test-from s x m t r (Walk-along s (bits_of (model_list s x)) x (same_back s x (bits_of (model_list s x)) same_made) m t r hm w);
+    step = λ r t hr ht w. step_reads s x m r t hm hr ht ∙ walk_test_from s x m t r (Walk-along s (bits_of (model_list s x)) x (same_back s x (bits_of (model_list s x)) same_made) m t r hm w);
     short_walk = λ r hr e. (let y = passes_some (step_bit s x m r) ((message_at s m).limit + 1) (sym (cover_reads s x m r hm hr) ∙ e) in
         (y.0, y.1, Walk-along s x (bits_of (model_list s x)) same_made m y.0 r hm (Walk-from_test s x m y.0 r y.2)));
-    cover = λ r hr w. cover_reads s x m r hm hr ∙ some_passes-from (step_bit s x m r) ((message_at s m).limit + 1) w.0 w.1 (walk_test-from s x m w.0 r (Walk-along s (bits_of (model_list s x)) x (same_back s x (bits_of (model_list s x)) same_made) m w.0 r hm w.2));
+    cover = λ r hr w. cover_reads s x m r hm hr ∙ some_passes_from (step_bit s x m r) ((message_at s m).limit + 1) w.0 w.1
+        (walk_test_from s x m w.0 r (Walk-along s (bits_of (model_list s x)) x (same_back s x (bits_of (model_list s x)) same_made) m w.0 r hm w.2));
   }
 
   pub made_routed : IsRouted s (bits_of (model_list s x))
@@ -156,11 +163,14 @@ module _ (s : SpecValue) (x : Bits) (wf : IsWellFormed s) (routed : IsRouted s x
   made_covered m w hm reached =
       holds_of_covered s (bits_of (model_list s x)) m w hm made_parts made_routed (made_walked m hm)
       (covered_of_reached s (bits_of (model_list s x)) m w hm made_parts made_routed (made_walked m hm)
-      (λ r on. reached-along s x (bits_of (model_list s x)) same_made m w r hm (reached r) on))
+      (λ r on. reached_along s x (bits_of (model_list s x)) same_made m w r hm (reached r) on))
 
-  pub only_model : ((m w : ℕ) → m < length s.messages → Contains (message_at s m).receivers w → (r : ℕ) → IsOn s x w r → (n : ℕ) × Walk s x m r n) → IsOnlyModel s (encoding s) x (bits_of (model_list s x))
+  -- a design that reaches its receivers has one model
+  pub only_model : ((m w : ℕ) → m < length s.messages → Contains (message_at s m).receivers w → (r : ℕ) → IsOn s x w r → (n : ℕ) × Walk s x m r n)
+      → IsOnlyModel s (encoding s) x (bits_of (model_list s x))
   only_model reached = record {
-    holds = encoding_of_families s (bits_of (model_list s x)) made_families (λ m hm. All-pieces_of (Holds (bits_of (model_list s x))) (receiver_covered s m) (message_at s m).receivers (λ k d l. made_covered m (get_or (message_at s m).receivers k d) hm (reached m (get_or (message_at s m).receivers k d) hm (All-contains_itself (message_at s m).receivers k d l))));
+    holds = encoding_of_families s (bits_of (model_list s x)) made_families (λ m hm. All-pieces_of (Holds (bits_of (model_list s x))) (receiver_covered s m) (message_at s m).receivers
+        (λ k d l. made_covered m (get_or (message_at s m).receivers k d) hm (reached m (get_or (message_at s m).receivers k d) hm (All-contains_itself (message_at s m).receivers k d l))));
     same = same_back s x (bits_of (model_list s x)) same_made;
     only = λ g h same. only_made g (families_of_encoding s g h).0 same;
   }
@@ -177,8 +187,10 @@ covered_are_reached s f m w wf h hm member =
     let routed = routed_of_families s f wf families in
     let walks = walked s f wf families m hm in
     let there = has_parts s wf in (
-      λ holds unreached. not_unreached_of_covered s f m w hm there routed walks (covered_of_holds s f m w hm there routed walks holds) (IsUnreached-along s (view s f) f (same_back s f (view s f) (same_view s f)) m w hm unreached),
-      λ reached. holds_of_covered s f m w hm there routed walks (covered_of_not_unreached s f m w hm there routed walks member (λ unreached. reached (IsUnreached-along s f (view s f) (same_view s f) m w hm unreached))),
+      λ holds unreached. not_unreached_of_covered s f m w hm there routed walks (covered_of_holds s f m w hm there routed walks holds)
+          (IsUnreached-along s (view s f) f (same_back s f (view s f) (same_view s f)) m w hm unreached),
+      λ reached. holds_of_covered s f m w hm there routed walks (covered_of_not_unreached s f m w hm there routed walks member
+          (λ unreached. reached (IsUnreached-along s f (view s f) (same_view s f) m w hm unreached))),
     )
 
 -- a model of the whole encoding is a valid design
@@ -190,12 +202,14 @@ valid_of_model s f wf h =
     record {
       routed = routed;
       reached = λ m w r hm member on. (let walks = walked s f wf both.0 m hm in
-          reached_of_covered s f m w hm there routed walks (covered_of_holds s f m w hm there routed walks (All-piece_of (Holds f) (receiver_covered s m) (message_at s m).receivers w (both.1 m hm) member)) r on);
+          reached_of_covered s f m w hm there routed walks (covered_of_holds s f m w hm there routed walks
+          (All-piece_of (Holds f) (receiver_covered s m) (message_at s m).receivers w (both.1 m hm) member)) r on);
     }
 
 pub models_are_valid : ModelsAreValid
 models_are_valid s f wf h = IsValid-along s f (view s f) (same_view s f) (valid_of_model s f wf h)
 
+-- each valid design is the view of exactly one model
 pub valid_are_models : ValidAreModels
 valid_are_models s f wf valid =
     record { model = bits_of (model_list s f); only = only_model s f wf valid.routed (λ m w hm member r on. valid.reached m w r hm member on) }

@@ -7,7 +7,7 @@ use Rattle.std.proofs.lemmas.List.FromFn.{get_or-map-range_with_len, length-map-
 use Rattle.std.proofs.lemmas.Nat.{mul-add-lt}
 use Rattle.spec_model.specs.Spec.{SpecValue, Bits, bits_of, below, message_at, further, base, design_variables, step_var, covered_var}
 use Rattle.spec_model.proofs.Pieces.{flat-suc, width, piece, piece_of_width}
-use Rattle.spec_model.proofs.Numbers.{base-zero, base-more}
+use Rattle.spec_model.proofs.Numbers.{base-zero, base_more}
 use Rattle.encode_laws.specs.ModelBits.{step_bit, cover_bit, step_row, message_bits, model_list}
 
 length_row : (s : SpecValue) (f : Bits) (m r : ℕ) → length (step_row s f m r) ≡ (message_at s m).limit + 1
@@ -22,7 +22,7 @@ length_bits s f m =
 begins : (s : SpecValue) (f : Bits) (m : ℕ) → m ≤ length s.messages → design_variables s + length (flat_map (message_bits s f) (below m)) ≡ base s m
 begins s f zero h = omega (arith, base-zero s)
 begins s f (suc m) h =
-    let next : base s (suc m) ≡ base s m + further s (message_at s m) = subst (λ (k : ℕ). base s k ≡ base s m + further s (message_at s m)) (add-one m) (base-more s m h) in
+    let next : base s (suc m) ≡ base s m + further s (message_at s m) = subst (λ (k : ℕ). base s k ≡ base s m + further s (message_at s m)) (add-one m) (base_more s m h) in
     omega (arith, next, begins s f m (omega arith), ap length (flat-suc (message_bits s f) m), length-append (flat_map (message_bits s f) (below m)) (message_bits s f m), length_bits s f m)
 
 -- what stands at place j of message m
@@ -38,7 +38,9 @@ place s f m j hm hj =
 
 -- all bits of a model
 pub length_model : (s : SpecValue) (f : Bits) → length (model_list s f) ≡ base s (length s.messages)
-length_model s f = length-append (map f (below (design_variables s))) (flat_map (message_bits s f) (below (length s.messages))) ∙ omega (arith, begins s f (length s.messages) (omega arith), length-map-range_with_len f 0 (design_variables s))
+length_model s f =
+    length-append (map f (below (design_variables s))) (flat_map (message_bits s f) (below (length s.messages)))
+    ∙ omega (arith, begins s f (length s.messages) (omega arith), length-map-range_with_len f 0 (design_variables s))
 
 -- the variable of a step has the step's bit
 pub step_reads : (s : SpecValue) (f : Bits) (m r t : ℕ) → m < length s.messages → r < length s.resources → t ≤ (message_at s m).limit → bits_of (model_list s f) (step_var s m r t) ≡ step_bit s f m r t

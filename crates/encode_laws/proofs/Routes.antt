@@ -1,12 +1,11 @@
 -- From a model to routes: used arcs, steps and walks of one message.
 use Rattle.std.proofs.Common.{◌≡◌, ℕ, zero, suc, ◌+◌, ◌-◌, ◌<◌, ◌≤◌, Bool, true, false, length, refl, sym, ap, ◌∙◌, subst, arith, inl, inr}
 use Rattle.std.specs.List.{count_by}
-use Rattle.std.proofs.lemmas.Bool.{false≢true, cases_lt}
+use Rattle.std.proofs.lemmas.Bool.{false≢true, cases_lt, eqb-true}
 use Rattle.spec_model.specs.Spec.{SpecValue, Bits, below, message_at, arc_at, step_var, covered_var}
 use Rattle.spec_model.specs.Rules.{IsOn, Uses, Walk, WalkBelow, goes_into, arc_bit, uses_into, sender_of}
 use Rattle.encode_model.specs.Encoding.{step_after}
-use Rattle.spec_model.proofs.Counts.{bit, count-map, some_below, counted_below, same_below, some_those, count-below_first, count-agree}
-use Rattle.spec_model.proofs.Tests.{from_test}
+use Rattle.spec_model.proofs.Counts.{bit, count-map, some_below, counted_below, same_below, some_those, count-below_first, count_agree}
 use Rattle.encode_laws.proofs.Equations.{Equations, HasEnds, steps_true}
 
 bit-le : (b : Bool) → bit b ≤ 1
@@ -20,7 +19,7 @@ steps_0 s f m r =
     let n : (message_at s m).limit + 1 - 0 ≡ (message_at s m).limit + 1 = omega arith in
     count-map f (step_after s m r 0) (below ((message_at s m).limit + 1 - 0))
     ∙ (ap (λ (k : ℕ). count_by (λ t. f (step_after s m r 0 t)) (below k)) n
-    ∙ count-agree (λ t. f (step_after s m r 0 t)) (λ t. f (step_var s m r t)) (below ((message_at s m).limit + 1)) (λ t. let e : 0 + t ≡ t = omega arith in ap (λ (k : ℕ). f (step_var s m r k)) e))
+    ∙ count_agree (λ t. f (step_after s m r 0 t)) (λ t. f (step_var s m r t)) (below ((message_at s m).limit + 1)) (λ t. let e : 0 + t ≡ t = omega arith in ap (λ (k : ℕ). f (step_var s m r k)) e))
 
 pub steps_1 : (s : SpecValue) (f : Bits) (m r : ℕ) → steps_true s f m r 1 ≡ count_by (λ t. f (step_var s m r (1 + t))) (below (message_at s m).limit)
 unfolding steps_true step_after
@@ -56,7 +55,7 @@ module _ (s : SpecValue) (f : Bits) (m : ℕ) (ends_in : HasEnds s) (eqs : Equat
   used_into r t hr ht e =
       let many = counted_below (λ k. f (step_var s m r (1 + k))) (message_at s m).limit t ht e in
       let x = some_those (arc_bit s f m) (goes_into s r) (length s.arcs) (omega (arith, many, steps_1 s f m r, eqs.into r hr)) in
-      (x.0, record { in_range = x.1; bit = x.3 }, from_test _ _ x.2)
+      (x.0, record { in_range = x.1; bit = x.3 }, eqb-true _ _ x.2)
 
   -- a step that is reached is the length of a walk
   pub walk_of : (t r : ℕ) → r < length s.resources → t ≤ (message_at s m).limit → f (step_var s m r t) ≡ true → Walk s f m r t
@@ -86,7 +85,8 @@ module _ (s : SpecValue) (f : Bits) (m : ℕ) (ends_in : HasEnds s) (eqs : Equat
   pub rule_three : (r : ℕ) → r < length s.resources → uses_into s f m r ≤ 1
   rule_three r hr =
       let first = count-below_first (λ k. f (step_var s m r k)) (message_at s m).limit in
-      let n : count_by (λ k. f (step_var s m r k)) (below ((message_at s m).limit + 1)) ≡ count_by (λ k. f (step_var s m r k)) (below (suc (message_at s m).limit)) = ap (λ (k : ℕ). count_by (λ t. f (step_var s m r t)) (below k)) (plus_one (message_at s m).limit) in
+      let n : count_by (λ k. f (step_var s m r k)) (below ((message_at s m).limit + 1)) ≡ count_by (λ k. f (step_var s m r k)) (below (suc (message_at s m).limit)) =
+      ap (λ (k : ℕ). count_by (λ t. f (step_var s m r t)) (below k)) (plus_one (message_at s m).limit) in
       omega (arith, first, n, steps_0 s f m r, steps_1 s f m r, eqs.cover r hr, eqs.into r hr, bit-le (f (covered_var s m r)))
     where
       plus_one : (k : ℕ) → k + 1 ≡ suc k
@@ -108,12 +108,6 @@ module _ (s : SpecValue) (f : Bits) (m : ℕ) (ends_in : HasEnds s) (eqs : Equat
     where
       plus_one : (k : ℕ) → k + 1 ≡ suc k
       plus_one k = omega arith
-
-  -- rule 5, where the receiver's resource is covered
-  pub rule_five : (r : ℕ) → r < length s.resources → f (covered_var s m r) ≡ true → (n : ℕ) × Walk s f m r n
-  rule_five r hr c =
-      let x = some_step r hr c in
-      (x.0, walk_of x.0 r hr (omega (arith, x.1)) x.2)
 
   -- a reached resource is covered
   pub covered_of : (r t : ℕ) → r < length s.resources → t ≤ (message_at s m).limit → f (step_var s m r t) ≡ true → f (covered_var s m r) ≡ true

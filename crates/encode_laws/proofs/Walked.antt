@@ -1,5 +1,6 @@
 -- The steps and covers of a model are the walks of its design.
-use Rattle.std.proofs.Common.{◌≡◌, ℕ, zero, suc, ◌+◌, ◌<◌, ◌≤◌, Bool, true, false, length, refl, sym, ap, ◌∙◌, subst, arith}
+use Rattle.std.specs.Cmp.{both_ways}
+use Rattle.std.proofs.Common.{◌≡◌, ℕ, zero, suc, ◌+◌, ◌<◌, ◌≤◌, true, length, refl, sym, ap, ◌∙◌, subst, arith}
 use Rattle.spec_model.specs.Spec.{SpecValue, Bits, message_at, arc_at, step_var, covered_var}
 use Rattle.spec_model.specs.Rules.{IsOn, Uses, Walk, WalkBelow, sender_of}
 use Rattle.spec_model.specs.Genotypes.{IsSameDesign}
@@ -24,23 +25,17 @@ walked_of s f m ends eqs = record {
   cover = λ r hr w. covered_of s f m ends eqs r w.0 hr (omega (arith, w.1)) (step_of s f m ends eqs w.0 r hr (omega (arith, w.1)) w.2);
 }
 
--- bits that are true in the same cases
-same_bits : (a b : Bool) → (a ≡ true → b ≡ true) → (b ≡ true → a ≡ true) → a ≡ b
-same_bits true b h k = sym (h refl)
-same_bits false true h k = k refl
-same_bits false false h k = refl
-
 -- two models of one design agree
 module _ (s : SpecValue) (f g : Bits) (m : ℕ) (hm : m < length s.messages) (h : IsSameDesign s f g) (wf : IsWalked s f m) (wg : IsWalked s g m) where
   pub steps_agree : (r t : ℕ) → r < length s.resources → t ≤ (message_at s m).limit → f (step_var s m r t) ≡ g (step_var s m r t)
   steps_agree r t hr ht =
-      same_bits _ _
+      both_ways _ _
       (λ e. wg.step r t hr ht (Walk-along s f g h m t r hm (wf.walk r t hr ht e)))
       (λ e. wf.step r t hr ht (Walk-along s g f (same_back s f g h) m t r hm (wg.walk r t hr ht e)))
 
   pub covers_agree : (r : ℕ) → r < length s.resources → f (covered_var s m r) ≡ g (covered_var s m r)
   covers_agree r hr =
-      same_bits _ _
+      both_ways _ _
       (λ e. wg.cover r hr (WalkBelow-along s f g h m r ((message_at s m).limit + 1) hm (wf.short_walk r hr e)))
       (λ e. wf.cover r hr (WalkBelow-along s g f (same_back s f g h) m r ((message_at s m).limit + 1) hm (wg.short_walk r hr e)))
 

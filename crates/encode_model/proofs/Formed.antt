@@ -1,25 +1,21 @@
 -- What holds of each constraint whose terms stand by rising variable holds of each constraint of the encoding.
-use Rattle.std.proofs.Common.{ℕ, ◌+◌, ◌-◌, ◌<◌, ◌≤◌, ◌^◌, Bool, true, false, List, [], ◌∷◌, ◌++◌, length, get_or, refl, sym, subst, arith}
+use Rattle.std.proofs.Common.{ℕ, ◌+◌, ◌-◌, ◌<◌, ◌^◌, true, false, List, [], ◌∷◌, ◌++◌, length, get_or, refl, sym, subst, arith}
 use Rattle.std.specs.Prelude.{All, map}
 use Rattle.std.specs.List.{flat_map}
-use Rattle.std.proofs.lemmas.List.Elements.{All-append, All-from_recursion}
-use Rattle.std.proofs.lemmas.List.FromFn.{length-range_with_len}
-use Rattle.std.proofs.lemmas.List.Sums.{length-filter, count_by-le-length}
+use Rattle.std.proofs.lemmas.List.Elements.{All-append, All-from_recursion, All-map}
 use Rattle.pb_rules.specs.declared.Term.{Term}
 use Rattle.pb_rules.specs.Linear.{Linear, IsNormal, VarsBelow}
-use Rattle.spec_model.specs.Spec.{SpecValue, below, those, message_at, arc_at, option_at, all_variables, arc_var, resource_var, link_var, step_var, covered_var}
+use Rattle.spec_model.specs.Spec.{SpecValue, below, message_at, arc_at, option_at, all_variables, arc_var, resource_var, link_var, step_var, covered_var}
 use Rattle.spec_model.specs.Rules.{of_task, of_task_on, options_of, goes_into, arcs_into, arcs_from, sender_of}
 use Rattle.spec_model.specs.WellFormed.{IsWellFormed}
 use Rattle.spec_model.proofs.InRange.{arc_in, option_in, limit_in}
-use Rattle.spec_model.proofs.Joined.{All-pieces, All-ones, All-pieces_of, All-two, All-from_map, All-those}
+use Rattle.spec_model.proofs.Joined.{All-pieces, All-ones, All-pieces_of, All-two, All-those}
+use Rattle.spec_model.proofs.Those.{few_those}
 use Rattle.encode_model.specs.Encoding.{positive, negative, positives, negatives, put, at_least, option_on, options_on, receiver_options, arc_vars, steps_from, neighbours, step_at, resources_of, messages_of, cover_of, link_arcs, one_option, sender_start, option_covers, receiver_covered, receivers_covered, covered_once, one_arc_in, carries, arc_carries, has_cause, steps_have_cause, no_dangling, routes_of, message_part, option_allocates, cover_allocates, covers_allocate, resource_has_use, arc_allocates, arcs_allocate, link_has_use, allocation, options_chosen, encoding}
 use Rattle.encode_model.specs.Rising.{IsRising}
-use Rattle.encode_model.proofs.Rising.{at_least-within, normal_of_rising, below_within}
+use Rattle.encode_model.proofs.Rising.{at_least_within, normal_of_rising, below_within}
 use Rattle.encode_model.proofs.Shapes as shapes
 use Rattle.encode_model.proofs.Shapes.{carry_shape, cause_shape}
-
-few_those : (p : ℕ → Bool) (n : ℕ) → length (those p n) ≤ n
-few_those p n = omega (arith, length-filter p (below n), count_by-le-length p (below n), length-range_with_len 0 n)
 
 -- P holds of each constraint that is made of terms by rising variable
 module _ (s : SpecValue) (wf : IsWellFormed s) (P : Linear → Type 0) (made : (n : ℕ) (ts : List Term) → IsRising (all_variables s) ts → n < 2 ^ 63 → P (at_least n ts)) where
@@ -37,18 +33,20 @@ module _ (s : SpecValue) (wf : IsWellFormed s) (P : Linear → Type 0) (made : (
 
   option_each : (t : ℕ) → All P (one_option s t)
   option_each t =
-      both 1 (length (options_of s t) - 1) (positives (options_of s t)) (negatives (options_of s t)) (shapes.options s t true) (shapes.options s t false) (omega arith) (omega (arith, few_those (of_task s t) (length s.options), wf.plan.few_options))
+      both 1 (length (options_of s t) - 1) (positives (options_of s t)) (negatives (options_of s t)) (shapes.options s t true) (shapes.options s t false) (omega arith)
+      (omega (arith, few_those (of_task s t) (length s.options), wf.plan.few_options))
 
   start_each : (m : ℕ) → m < length s.messages → (r : ℕ) → r < length s.resources → All P (sender_start s m r)
   start_each m hm r hr =
       let p = option_on s (sender_of s m) r in
       let v : ℕ = step_var s m r 0 in
-      both (length p) 1 (negatives p ++ positive v ∷ []) (positives p ++ negative v ∷ []) (shapes.start s m hm r false true hr) (shapes.start s m hm r true false hr) (omega (arith, few_those (of_task_on s (sender_of s m) r) (length s.options), wf.plan.few_options)) (omega arith)
+      both (length p) 1 (negatives p ++ positive v ∷ []) (positives p ++ negative v ∷ []) (shapes.start s m hm r false true hr) (shapes.start s m hm r true false hr)
+      (omega (arith, few_those (of_task_on s (sender_of s m) r) (length s.options), wf.plan.few_options)) (omega arith)
 
   receiver_each : (m : ℕ) → m < length s.messages → (w : ℕ) → All P (receiver_covered s m w)
   unfolding option_covers
   receiver_each m hm w =
-      All-from_map P (option_covers s m) (options_of s w) (All-those (λ o. P (option_covers s m o)) (of_task s w) (length s.options) (λ o l e.
+      All-map P (option_covers s m) (options_of s w) (All-those (λ o. P (option_covers s m o)) (of_task s w) (length s.options) (λ o l e.
       (let r : ℕ = (option_at s o).resource in
       clause (negative o ∷ (positive (covered_var s m r) ∷ [])) (shapes.option_cover s m hm o r false true l (option_in s o wf l).resource))))
 
@@ -58,13 +56,15 @@ module _ (s : SpecValue) (wf : IsWellFormed s) (P : Linear → Type 0) (made : (
   cover_each : (m : ℕ) → m < length s.messages → (r : ℕ) → r < length s.resources → All P (covered_once s m r)
   cover_each m hm r hr =
       let v : ℕ = covered_var s m r in
-      both ((message_at s m).limit + 1) 1 (negatives (steps_from s m r 0) ++ positive v ∷ []) (positives (steps_from s m r 0) ++ negative v ∷ []) (shapes.steps_cover s m hm r false true hr) (shapes.steps_cover s m hm r true false hr) (limit_few m hm) (omega arith)
+      both ((message_at s m).limit + 1) 1 (negatives (steps_from s m r 0) ++ positive v ∷ []) (positives (steps_from s m r 0) ++ negative v ∷ []) (shapes.steps_cover s m hm r false true hr)
+      (shapes.steps_cover s m hm r true false hr) (limit_few m hm) (omega arith)
 
   arcs_in_each : (m : ℕ) → m < length s.messages → (r : ℕ) → r < length s.resources → All P (one_arc_in s m r)
   arcs_in_each m hm r hr =
       let us : List ℕ = arc_vars s m (arcs_into s r) in
       let vs : List ℕ = steps_from s m r 1 in
-      both (message_at s m).limit (length (arcs_into s r)) (positives us ++ negatives vs) (negatives us ++ positives vs) (shapes.arcs_steps s m hm r true false hr) (shapes.arcs_steps s m hm r false true hr) (omega (arith, limit_few m hm)) (omega (arith, few_those (goes_into s r) (length s.arcs), wf.plan.few_arcs, wf.plan.few_links))
+      both (message_at s m).limit (length (arcs_into s r)) (positives us ++ negatives vs) (negatives us ++ positives vs) (shapes.arcs_steps s m hm r true false hr)
+      (shapes.arcs_steps s m hm r false true hr) (omega (arith, limit_few m hm)) (omega (arith, few_those (goes_into s r) (length s.arcs), wf.plan.few_arcs, wf.plan.few_links))
 
   carry_each : (m : ℕ) → m < length s.messages → (a : ℕ) → a < length s.arcs → (k : ℕ) → k < (message_at s m).limit → P (carries s m a k)
   carry_each m hm a ha k hk =
@@ -80,7 +80,8 @@ module _ (s : SpecValue) (wf : IsWellFormed s) (P : Linear → Type 0) (made : (
       let there = (arc_in s a wf ha).tail in
       let cs : List Linear = at_least 1 (negative u ∷ (positive (covered_var s m p) ∷ [])) ∷ (at_least 1 (negative u ∷ (negative (step_var s m p h) ∷ [])) ∷ []) in
       All-append P (map (carries s m a) (below h)) cs (All-ones P (carries s m a) h (λ k l. carry_each m hm a ha k l))
-      (both 1 1 (negative u ∷ (positive (covered_var s m p) ∷ [])) (negative u ∷ (negative (step_var s m p h) ∷ [])) (shapes.arc_cover s m hm a p false true ha there) (shapes.arc_step s m hm a p h false false ha there (omega arith)) (omega arith) (omega arith))
+      (both 1 1 (negative u ∷ (positive (covered_var s m p) ∷ [])) (negative u ∷ (negative (step_var s m p h) ∷ [])) (shapes.arc_cover s m hm a p false true ha there)
+      (shapes.arc_step s m hm a p h false false ha there (omega arith)) (omega arith) (omega arith))
 
   causes_each : (m : ℕ) → m < length s.messages → (q : ℕ) → q < length s.resources → All P (steps_have_cause s m q)
   causes_each m hm q hq = All-ones P (has_cause s m q) (message_at s m).limit (λ k l.
@@ -98,7 +99,8 @@ module _ (s : SpecValue) (wf : IsWellFormed s) (P : Linear → Type 0) (made : (
       let R : ℕ = length s.resources in
       All-append P (flat_map (sender_start s m) (resources_of s) ++ receivers_covered s m) (routes_of s m)
       (All-append P (flat_map (sender_start s m) (resources_of s)) (receivers_covered s m) (All-pieces P (sender_start s m) R (start_each m hm)) (receivers_each m hm))
-      (five (flat_map (covered_once s m) (resources_of s)) (flat_map (one_arc_in s m) (resources_of s)) (flat_map (arc_carries s m) (below (length s.arcs))) (flat_map (steps_have_cause s m) (resources_of s)) (flat_map (no_dangling s m) (resources_of s))
+      (five (flat_map (covered_once s m) (resources_of s)) (flat_map (one_arc_in s m) (resources_of s)) (flat_map (arc_carries s m) (below (length s.arcs)))
+      (flat_map (steps_have_cause s m) (resources_of s)) (flat_map (no_dangling s m) (resources_of s))
       (All-pieces P (covered_once s m) R (cover_each m hm))
       (All-pieces P (one_arc_in s m) R (arcs_in_each m hm))
       (All-pieces P (arc_carries s m) (length s.arcs) (arc_each m hm))
@@ -132,7 +134,8 @@ module _ (s : SpecValue) (wf : IsWellFormed s) (P : Linear → Type 0) (made : (
   allocation_each : All P (allocation s)
   allocation_each =
       let M : ℕ = length s.messages in
-      five (map (option_allocates s) (below (length s.options))) (flat_map (covers_allocate s) (messages_of s)) (map (resource_has_use s) (resources_of s)) (flat_map (arcs_allocate s) (messages_of s)) (map (link_has_use s) (below (length s.links)))
+      five (map (option_allocates s) (below (length s.options))) (flat_map (covers_allocate s) (messages_of s)) (map (resource_has_use s) (resources_of s))
+      (flat_map (arcs_allocate s) (messages_of s)) (map (link_has_use s) (below (length s.links)))
       (All-ones P (option_allocates s) (length s.options) option_allocated)
       (All-pieces P (covers_allocate s) M (λ m hm. All-ones P (cover_allocates s m) (length s.resources) (cover_allocated m hm)))
       (All-ones P (resource_has_use s) (length s.resources) resource_used)
@@ -143,17 +146,19 @@ module _ (s : SpecValue) (wf : IsWellFormed s) (P : Linear → Type 0) (made : (
   unfolding encoding
   encoding_each =
       All-append P (options_chosen s ++ flat_map (message_part s) (messages_of s)) (allocation s)
-      (All-append P (options_chosen s) (flat_map (message_part s) (messages_of s)) (All-pieces P (one_option s) (length s.tasks) (λ t l. option_each t)) (All-pieces P (message_part s) (length s.messages) message_each))
+      (All-append P (options_chosen s) (flat_map (message_part s) (messages_of s)) (All-pieces P (one_option s) (length s.tasks) (λ t l. option_each t))
+      (All-pieces P (message_part s) (length s.messages) message_each))
       allocation_each
 
 -- the encoding is in normal form
 pub encoding_normal : (s : SpecValue) → IsWellFormed s → All (λ c. IsNormal c.terms c.degree) (encoding s)
 encoding_normal s wf =
     encoding_each s wf (λ (c : Linear). IsNormal c.terms c.degree)
-    (λ n ts h few. subst (λ (c : Linear). IsNormal c.terms c.degree) (sym (at_least-within (2 ^ 40) 0 (all_variables s) n ts h.rises)) (normal_of_rising (all_variables s) n ts h (omega (arith, wf.few_variables)) few))
+    (λ n ts h few. subst (λ (c : Linear). IsNormal c.terms c.degree) (sym (at_least_within (2 ^ 40) 0 (all_variables s) n ts h.rises))
+    (normal_of_rising (all_variables s) n ts h (omega (arith, wf.few_variables)) few))
 
 -- and has no variables but its own
 pub encoding_below : (s : SpecValue) → IsWellFormed s → All (λ c. VarsBelow (all_variables s) c.terms) (encoding s)
 encoding_below s wf =
     encoding_each s wf (λ (c : Linear). VarsBelow (all_variables s) c.terms)
-    (λ n ts h few. subst (λ (c : Linear). VarsBelow (all_variables s) c.terms) (sym (at_least-within (2 ^ 40) 0 (all_variables s) n ts h.rises)) (below_within (2 ^ 40) 0 (all_variables s) ts h.rises))
+    (λ n ts h few. subst (λ (c : Linear). VarsBelow (all_variables s) c.terms) (sym (at_least_within (2 ^ 40) 0 (all_variables s) n ts h.rises)) (below_within (2 ^ 40) 0 (all_variables s) ts h.rises))

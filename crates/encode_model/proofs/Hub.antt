@@ -18,11 +18,13 @@ abbrev holds_all : Bits → List Linear → Bool
 holds_all f cs = list_all (λ c. nat_le c.degree (true_weight f c.terms)) cs
 
 terms_hub : nat_le (sum_by (λ c. length c.terms) (encoding hub)) 266 ≡ true
-unfolding encoding base at_least step_after step_at carries has_cause for_receiver on_resource leads_to option_covers option_allocates cover_allocates cover_of resource_has_use arc_allocates link_arcs link_has_use of_task of_task_on goes_into leaves of_link
+unfolding encoding base at_least step_after step_at carries has_cause for_receiver on_resource leads_to option_covers option_allocates cover_allocates cover_of resource_has_use arc_allocates
+    link_arcs link_has_use of_task of_task_on goes_into leaves of_link
 terms_hub = refl
 
 holds_hub : holds_all hub_model (encoding hub) ≡ true
-unfolding encoding base at_least step_after step_at carries has_cause for_receiver on_resource leads_to option_covers option_allocates cover_allocates cover_of resource_has_use arc_allocates link_arcs link_has_use of_task of_task_on goes_into leaves of_link
+unfolding encoding base at_least step_after step_at carries has_cause for_receiver on_resource leads_to option_covers option_allocates cover_allocates cover_of resource_has_use arc_allocates
+    link_arcs link_has_use of_task of_task_on goes_into leaves of_link
 holds_hub = refl
 
 abbrev flipped : ℕ → Bits
@@ -30,5 +32,6 @@ flipped w v = if v == w then not (hub_model v) else hub_model v
 
 -- with any one bit changed the list no longer holds
 only_hub : filter (λ w. holds_all (flipped w) (encoding hub)) (below 36) ≡ []
-unfolding encoding base at_least step_after step_at carries has_cause for_receiver on_resource leads_to option_covers option_allocates cover_allocates cover_of resource_has_use arc_allocates link_arcs link_has_use of_task of_task_on goes_into leaves of_link
+unfolding encoding base at_least step_after step_at carries has_cause for_receiver on_resource leads_to option_covers option_allocates cover_allocates cover_of resource_has_use arc_allocates
+    link_arcs link_has_use of_task of_task_on goes_into leaves of_link
 only_hub = refl

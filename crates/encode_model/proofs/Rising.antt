@@ -1,23 +1,18 @@
 -- Terms in rising order are their own normal form.
-use Rattle.std.proofs.Common.{◌≡◌, ℕ, zero, suc, ◌+◌, ◌*◌, ◌<◌, ◌≤◌, ◌^◌, Bool, true, false, cond, List, [], ◌∷◌, ◌++◌, length, refl, sym, ap, ◌∙◌, subst, arith, add-one, ◌⊎◌, inl, inr}
+use Rattle.std.proofs.Common.{◌≡◌, ℕ, zero, suc, ◌+◌, ◌*◌, ◌<◌, ◌≤◌, ◌^◌, Bool, true, false, cond, List, [], ◌∷◌, ◌++◌, refl, sym, ap, ◌∙◌, subst, arith, add-one, inl, inr}
 use Rattle.std.specs.Prelude.{map, nat_lt, All}
-use Rattle.std.specs.List.{flat_map, sum_by, range_with_len}
+use Rattle.std.specs.List.{flat_map}
 use Rattle.std.proofs.lemmas.List.Elements.{All-cons, All-head, All-tail}
 use Rattle.std.proofs.lemmas.List.Sums.{sum_by-cons}
 use Rattle.std.proofs.lemmas.Bool.{lt-ltb, ltb-true, ltb-false, cases_lt}
 use Rattle.pb_rules.specs.declared.Term.{Term}
 use Rattle.pb_rules.specs.Linear.{Linear, IsNormal, VarsBelow, total}
 use Rattle.spec_model.specs.Spec.{below, those}
-use Rattle.spec_model.proofs.Those.{those-more, below-more, flat_map-below_more}
-use Rattle.pb_rules.proofs.Rising.{From, from-pairs}
+use Rattle.spec_model.proofs.Those.{those_more, below_more, flat_map-below_more}
+use Rattle.pb_rules.proofs.Rising.{From, from_pairs}
 use Rattle.spec_model.proofs.Joined.{All-those}
 use Rattle.encode_model.specs.Encoding.{weighted, has_weight, put, by_variable, at_least}
 use Rattle.encode_model.specs.Rising.{RisesWithin, IsTermFrom, TermsWithin, IsRising}
-
--- lists of numbers
-pub bounds : (a b : ℕ) (vs : List ℕ) → RisesWithin a b vs → a ≤ b
-bounds a b [] h = h
-bounds a b (v ∷ vs) h = omega (arith, h.0, bounds (v + 1) b vs h.1)
 
 pub wider : (a b c d : ℕ) (vs : List ℕ) → c ≤ a → b ≤ d → RisesWithin a b vs → RisesWithin c d vs
 wider a b c d [] hl hr h = omega (arith, hl, hr, h)
@@ -27,16 +22,13 @@ pub joined : (a b c : ℕ) (vs ws : List ℕ) → RisesWithin a b vs → RisesWi
 joined a b c [] ws h g = wider b c a c ws h (omega arith) g
 joined a b c (v ∷ vs) ws h g = (h.0, joined (v + 1) b c vs ws h.1 g)
 
-pub single : (a b v : ℕ) → a ≤ v → v < b → RisesWithin a b (v ∷ [])
-single a b v h g = (h, omega (arith, g))
-
 -- the values of a rising function at those that pass
-pub rises-those : (g : ℕ → ℕ) (p : ℕ → Bool) (n a b : ℕ) → a ≤ b → ((i : ℕ) → i < n → (a ≤ g i) × (g i < b)) → ((i j : ℕ) → i < j → j < n → g i < g j) → RisesWithin a b (map g (those p n))
-rises-those g p zero a b le within up = le
-rises-those g p (suc n) a b le within up =
-    subst (λ (k : ℕ). RisesWithin a b (map g (those p k))) (add-one n) (subst (λ (xs : List ℕ). RisesWithin a b (map g xs)) (sym (those-more p n)) (last (p n)
-    (rises-those g p n a (g n) (within n (omega arith)).0 (λ i l. ((within i (omega arith)).0, up i n l (omega arith))) (λ i j l k. up i j l (omega arith)))
-    (rises-those g p n a b le (λ i l. within i (omega arith)) (λ i j l k. up i j l (omega arith)))))
+pub rises_those : (g : ℕ → ℕ) (p : ℕ → Bool) (n a b : ℕ) → a ≤ b → ((i : ℕ) → i < n → (a ≤ g i) × (g i < b)) → ((i j : ℕ) → i < j → j < n → g i < g j) → RisesWithin a b (map g (those p n))
+rises_those g p zero a b le within up = le
+rises_those g p (suc n) a b le within up =
+    subst (λ (k : ℕ). RisesWithin a b (map g (those p k))) (add-one n) (subst (λ (xs : List ℕ). RisesWithin a b (map g xs)) (sym (those_more p n)) (last (p n)
+    (rises_those g p n a (g n) (within n (omega arith)).0 (λ i l. ((within i (omega arith)).0, up i n l (omega arith))) (λ i j l k. up i j l (omega arith)))
+    (rises_those g p n a b le (λ i l. within i (omega arith)) (λ i j l k. up i j l (omega arith)))))
   where
     spread : (c : ℕ) (xs ys : List ℕ) → (u : ℕ) → RisesWithin u c (map g xs) → RisesWithin c b (map g ys) → RisesWithin u b (map g (xs ++ ys))
     spread c [] ys u h k = wider c b u b (map g ys) h (omega arith) k
@@ -52,29 +44,31 @@ always i = true
 those_all : (n : ℕ) → those always n ≡ below n
 those_all zero = refl
 those_all (suc n) =
-    subst (λ (k : ℕ). those always k ≡ below k) (add-one n) (those-more always n ∙ (ap (λ (xs : List ℕ). xs ++ n ∷ []) (those_all n) ∙ sym (below-more n)))
+    subst (λ (k : ℕ). those always k ≡ below k) (add-one n) (those_more always n ∙ (ap (λ (xs : List ℕ). xs ++ n ∷ []) (those_all n) ∙ sym (below_more n)))
 
-pub rises-below : (g : ℕ → ℕ) (n a b : ℕ) → a ≤ b → ((i : ℕ) → i < n → (a ≤ g i) × (g i < b)) → ((i j : ℕ) → i < j → j < n → g i < g j) → RisesWithin a b (map g (below n))
-rises-below g n a b le within up = subst (λ (xs : List ℕ). RisesWithin a b (map g xs)) (those_all n) (rises-those g always n a b le within up)
+pub rises_below : (g : ℕ → ℕ) (n a b : ℕ) → a ≤ b → ((i : ℕ) → i < n → (a ≤ g i) × (g i < b)) → ((i j : ℕ) → i < j → j < n → g i < g j) → RisesWithin a b (map g (below n))
+rises_below g n a b le within up = subst (λ (xs : List ℕ). RisesWithin a b (map g xs)) (those_all n) (rises_those g always n a b le within up)
 
 map_same : (xs : List ℕ) → map (λ x. x) xs ≡ xs
 map_same [] = refl
 map_same (x ∷ xs) = ap (λ (ys : List ℕ). x ∷ ys) (map_same xs)
 
 -- those that pass rise
-pub rises-numbers : (p : ℕ → Bool) (n : ℕ) → RisesWithin 0 n (those p n)
-rises-numbers p n = subst (λ (xs : List ℕ). RisesWithin 0 n xs) (map_same (those p n)) (rises-those (λ x. x) p n 0 n (omega arith) (λ i l. (omega arith, l)) (λ i j l k. l))
+pub rises_numbers : (p : ℕ → Bool) (n : ℕ) → RisesWithin 0 n (those p n)
+rises_numbers p n = subst (λ (xs : List ℕ). RisesWithin 0 n xs) (map_same (those p n)) (rises_those (λ x. x) p n 0 n (omega arith) (λ i l. (omega arith, l)) (λ i j l k. l))
 
 -- pieces that follow one another
-pub rises-pieces : (g : ℕ → List ℕ) (c : ℕ → ℕ) (n : ℕ) → ((i : ℕ) → i < n → RisesWithin (c i) (c (i + 1)) (g i)) → RisesWithin (c 0) (c n) (flat_map g (below n))
-rises-pieces g c zero h = omega arith
-rises-pieces g c (suc n) h =
-    subst (λ (k : ℕ). RisesWithin (c 0) (c k) (flat_map g (below k))) (add-one n) (subst (λ (xs : List ℕ). RisesWithin (c 0) (c (n + 1)) xs) (sym (flat_map-below_more g n)) (joined (c 0) (c n) (c (n + 1)) (flat_map g (below n)) (g n) (rises-pieces g c n (λ i l. h i (omega arith))) (h n (omega arith))))
+pub rises_pieces : (g : ℕ → List ℕ) (c : ℕ → ℕ) (n : ℕ) → ((i : ℕ) → i < n → RisesWithin (c i) (c (i + 1)) (g i)) → RisesWithin (c 0) (c n) (flat_map g (below n))
+rises_pieces g c zero h = omega arith
+rises_pieces g c (suc n) h =
+    subst (λ (k : ℕ). RisesWithin (c 0) (c k) (flat_map g (below k))) (add-one n) (subst (λ (xs : List ℕ). RisesWithin (c 0) (c (n + 1)) xs) (sym (flat_map-below_more g n))
+    (joined (c 0) (c n) (c (n + 1)) (flat_map g (below n)) (g n) (rises_pieces g c n (λ i l. h i (omega arith))) (h n (omega arith))))
 
 -- a literal with coefficient 1
 abbrev pub literal : Bool → ℕ → Term
 literal sign v = record { coef = 1; lit = record { var = v; yes = sign } }
 
+-- a literal's term stands from each lower variable on
 pub literal_from : (a v : ℕ) (y : Bool) → a ≤ v → IsTermFrom (2 ^ 40) a (literal y v)
 literal_from a v y h = record { from = h; some = omega arith; small = omega arith }
 
@@ -87,6 +81,7 @@ pub terms_bounds : (c a b : ℕ) (ts : List Term) → TermsWithin c a b ts → a
 terms_bounds c a b [] h = h
 terms_bounds c a b (t ∷ ts) h = omega (arith, h.0.from, terms_bounds c (t.lit.var + 1) b ts h.1)
 
+-- terms within bounds are within wider ones
 pub terms_wider : (c d a b i j : ℕ) (ts : List Term) → c ≤ d → i ≤ a → b ≤ j → TermsWithin c a b ts → TermsWithin d i j ts
 terms_wider c d a b i j [] le hl hr h = omega (arith, hl, hr, h)
 terms_wider c d a b i j (t ∷ ts) le hl hr h =
@@ -147,28 +142,31 @@ sorted_each : (P : Term → Type 0) (ts : List Term) → All P ts → All P (by_
 sorted_each P [] h = h
 sorted_each P (t ∷ ts) h = put_each P t (by_variable ts) (All-head P t ts h) (sorted_each P ts (All-tail P t ts h))
 
-pub at_least-each : (P : Term → Type 0) (n : ℕ) (ts : List Term) → All P ts → All P (at_least n ts).terms
+-- what holds of each term holds of each of the constraint
+pub at_least_each : (P : Term → Type 0) (n : ℕ) (ts : List Term) → All P ts → All P (at_least n ts).terms
 unfolding at_least
-at_least-each P n ts h = sorted_each P ts h
+at_least_each P n ts h = sorted_each P ts h
 
 -- the variables that have a weight, each with it
-weights_within : (weight : ℕ → ℕ) (sign : Bool) (a b : ℕ) (xs : List ℕ) → RisesWithin a b xs → All (λ x. (0 < weight x) × (weight x ≤ 2 ^ 40)) xs → TermsWithin (2 ^ 40) a b (map (weighted weight sign) xs)
+weights_within : (weight : ℕ → ℕ) (sign : Bool) (a b : ℕ) (xs : List ℕ) → RisesWithin a b xs → All (λ x. (0 < weight x) × (weight x ≤ 2 ^ 40)) xs
+    → TermsWithin (2 ^ 40) a b (map (weighted weight sign) xs)
 unfolding weighted
 weights_within weight sign a b [] h small = h
 weights_within weight sign a b (x ∷ xs) h small =
     let one = All-head (λ (y : ℕ). (0 < weight y) × (weight y ≤ 2 ^ 40)) x xs small in
     (record { from = h.0; some = one.0; small = one.1 }, weights_within weight sign (x + 1) b xs h.1 (All-tail (λ (y : ℕ). (0 < weight y) × (weight y ≤ 2 ^ 40)) x xs small))
 
+-- the weighted terms of variables stand by rising variable
 pub weights_rise : (weight : ℕ → ℕ) (sign : Bool) (n : ℕ) → ((x : ℕ) → weight x ≤ 2 ^ 40) → TermsWithin (2 ^ 40) 0 n (map (weighted weight sign) (those (has_weight weight) n))
 unfolding has_weight
 weights_rise weight sign n small =
-    weights_within weight sign 0 n (those (has_weight weight) n) (rises-numbers (has_weight weight) n)
+    weights_within weight sign 0 n (those (has_weight weight) n) (rises_numbers (has_weight weight) n)
     (All-those (λ (x : ℕ). (0 < weight x) × (weight x ≤ 2 ^ 40)) (has_weight weight) n (λ x l e. (ltb-true 0 (weight x) e, small x)))
 
 -- a constraint whose terms are in order, and one of which the first was put in its place
-pub at_least-within : (c a b m : ℕ) (ts : List Term) → TermsWithin c a b ts → at_least m ts ≡ record { terms = ts; degree = m }
+pub at_least_within : (c a b m : ℕ) (ts : List Term) → TermsWithin c a b ts → at_least m ts ≡ record { terms = ts; degree = m }
 unfolding at_least
-at_least-within c a b m ts h = ap (λ (us : List Term). make us) (sorted_already c a b ts h)
+at_least_within c a b m ts h = ap (λ (us : List Term). make us) (sorted_already c a b ts h)
   where
     make : List Term → Linear
     make us = record { terms = us; degree = m }
@@ -190,9 +188,11 @@ some_each c a b [] h k d l = absurd (omega (arith, l))
 some_each c a b (t ∷ ts) h zero d l = h.0.some
 some_each c a b (t ∷ ts) h (suc k) d l = some_each c (t.lit.var + 1) b ts h.1 k d (omega (arith, l))
 
+-- terms within bounds, with a small sum and degree, are in normal form
 pub normal_within : (c a b m : ℕ) (ts : List Term) → TermsWithin c a b ts → total ts < 2 ^ 63 → m < 2 ^ 63 → IsNormal ts m
-normal_within c a b m ts h few small = record { positive = some_each c a b ts h; rising = from-pairs a ts (from_of c a b ts h); small = few; small_degree = small }
+normal_within c a b m ts h few small = record { positive = some_each c a b ts h; rising = from_pairs a ts (from_of c a b ts h); small = few; small_degree = small }
 
+-- terms within bounds are below the upper one
 pub below_within : (c a b : ℕ) (ts : List Term) → TermsWithin c a b ts → VarsBelow b ts
 below_within c a b [] h k d l = absurd (omega (arith, l))
 below_within c a b (t ∷ ts) h zero d l = omega (arith, terms_bounds c (t.lit.var + 1) b ts h.1)
@@ -202,5 +202,6 @@ total_few : (a b : ℕ) (ts : List Term) → TermsWithin (2 ^ 40) a b ts → a *
 total_few a b [] h = omega (arith, h)
 total_few a b (t ∷ ts) h = omega (arith, h.0.from, h.0.small, total_few (t.lit.var + 1) b ts h.1, sum_by-cons (λ (u : Term). u.coef) t ts)
 
+-- terms by rising variable, with a small degree, are in normal form
 pub normal_of_rising : (n m : ℕ) (ts : List Term) → IsRising n ts → n ≤ 2 ^ 20 → m < 2 ^ 63 → IsNormal ts m
 normal_of_rising n m ts h few small = normal_within (2 ^ 40) 0 n m ts h.rises (omega (arith, total_few 0 n ts h.rises, few)) small

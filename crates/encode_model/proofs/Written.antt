@@ -1,4 +1,4 @@
--- The encodings of two small specifications and a block, written out by hand: each family, and their order; and a line
+-- The encodings of two small specifications and a block, worked out by hand: each family, and their order; and a line
 -- that refutes one of them.
 use Rattle.std.specs.Prelude.{◌≡◌, ℕ, Bool, true, false, List, [], ◌∷◌, refl}
 use Rattle.pb_rules.specs.declared.Term.{Term}
@@ -73,7 +73,8 @@ families =
     ∷ []
 
 encoding_two_tasks : encoding two_tasks ≡ families
-unfolding encoding base at_least step_after step_at carries has_cause for_receiver on_resource leads_to option_covers option_allocates cover_allocates cover_of resource_has_use arc_allocates link_arcs link_has_use of_task of_task_on goes_into leaves of_link
+unfolding encoding base at_least step_after step_at carries has_cause for_receiver on_resource leads_to option_covers option_allocates cover_allocates cover_of resource_has_use arc_allocates
+    link_arcs link_has_use of_task of_task_on goes_into leaves of_link
 encoding_two_tasks = refl
 
 -- one task on one of two resources of cost 3: the options are 0 and 1, the resources 2 and 3

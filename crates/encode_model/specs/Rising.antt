@@ -1,5 +1,6 @@
 -- Numbers and terms in rising order.
-use Rattle.std.specs.Prelude.{ℕ, ◌+◌, ◌<◌, ◌≤◌, ◌^◌, List, [], ◌∷◌}
+use Rattle.std.specs.Prelude.{ℕ, ◌+◌, ◌<◌, ◌≤◌, List, [], ◌∷◌}
+use Rattle.spec_model.specs.Limits.{most_number}
 use Rattle.pb_rules.specs.declared.Term.{Term}
 
 -- numbers that rise from a on and stay below b
@@ -20,4 +21,4 @@ TermsWithin c a b (t ∷ ts) = IsTermFrom c a t × TermsWithin c (t.lit.var + 1)
 
 -- terms by rising variable, each below n, with coefficients as small as weights are
 pub record IsRising (n : ℕ) (ts : List Term) : Type 0 where
-  pub rises : TermsWithin (2 ^ 40) 0 n ts
+  pub rises : TermsWithin most_number 0 n ts

@@ -9,7 +9,8 @@ use Rattle.spec_model.proofs.Along.{IsValid-along}
 use Rattle.encode_model.specs.Encoding.{encoding}
 use Rattle.encode_laws.proofs.Laws.{valid_of_model}
 
-pub valid_part : (s : SpecValue) (model design : List Bool) (n : ℕ) → IsWellFormed s → IsModel (encoding s) (bits_of model) → n ≡ design_variables s → take n design ≡ take n model → IsValid s (bits_of design)
+pub valid_part : (s : SpecValue) (model design : List Bool) (n : ℕ) → IsWellFormed s → IsModel (encoding s) (bits_of model) → n ≡ design_variables s → take n design ≡ take n model
+    → IsValid s (bits_of design)
 valid_part s model design n wf h e same =
     IsValid-along s (bits_of model) (bits_of design)
     (λ v l. (let below_n : v < n = subst (λ (k : ℕ). v < k) (sym e) l in

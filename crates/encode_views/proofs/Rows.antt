@@ -22,13 +22,15 @@ maps_agree : {A : Type 0} (f g : ℕ → A) (n : ℕ) → ((i : ℕ) → i < n �
 maps_agree f g zero h = refl
 maps_agree {A = A} f g (suc n) h =
     subst (λ (k : ℕ). map f (below k) ≡ map g (below k)) (add-one n)
-    (map-below_more f n ∙ (ap (λ (x : A). map f (below n) ++ x ∷ []) (h n (omega arith)) ∙ (ap (λ (xs : List A). xs ++ g n ∷ []) (maps_agree f g n (λ i l. h i (omega arith))) ∙ sym (map-below_more g n))))
+    (map-below_more f n ∙ (ap (λ (x : A). map f (below n) ++ x ∷ []) (h n (omega arith)) ∙ (ap (λ (xs : List A). xs ++ g n ∷ []) (maps_agree f g n (λ i l. h i (omega arith)))
+    ∙ sym (map-below_more g n))))
 
 flat_maps_agree : {A : Type 0} (f g : ℕ → List A) (n : ℕ) → ((i : ℕ) → i < n → f i ≡ g i) → flat_map f (below n) ≡ flat_map g (below n)
 flat_maps_agree f g zero h = refl
 flat_maps_agree {A = A} f g (suc n) h =
     subst (λ (k : ℕ). flat_map f (below k) ≡ flat_map g (below k)) (add-one n)
-    (flat_map-below_more f n ∙ (ap (λ (x : List A). flat_map f (below n) ++ x) (h n (omega arith)) ∙ (ap (λ (xs : List A). xs ++ g n) (flat_maps_agree f g n (λ i l. h i (omega arith))) ∙ sym (flat_map-below_more g n))))
+    (flat_map-below_more f n ∙ (ap (λ (x : List A). flat_map f (below n) ++ x) (h n (omega arith)) ∙ (ap (λ (xs : List A). xs ++ g n) (flat_maps_agree f g n (λ i l. h i (omega arith)))
+    ∙ sym (flat_map-below_more g n))))
 
 some_agree : (p q : ℕ → Bool) (n : ℕ) → ((i : ℕ) → i < n → p i ≡ q i) → some_passes p n ≡ some_passes q n
 some_agree p q zero h = refl
@@ -40,13 +42,16 @@ map_below : {A B : Type 0} (f : A → B) (g : ℕ → A) (h : ℕ → B) (n : �
 map_below f g h zero e = refl
 map_below {A = A} {B = B} f g h (suc n) e =
     subst (λ (k : ℕ). map f (map g (below k)) ≡ map h (below k)) (add-one n)
-    (ap (λ (xs : List A). map f xs) (map-below_more g n) ∙ (map-append f (map g (below n)) (g n ∷ []) ∙ (ap (λ (x : B). map f (map g (below n)) ++ x ∷ []) (e n (omega arith)) ∙ (ap (λ (xs : List B). xs ++ h n ∷ []) (map_below f g h n (λ i l. e i (omega arith))) ∙ sym (map-below_more h n)))))
+    (ap (λ (xs : List A). map f xs) (map-below_more g n) ∙ (map-append f (map g (below n)) (g n ∷ [])
+    ∙ (ap (λ (x : B). map f (map g (below n)) ++ x ∷ []) (e n (omega arith)) ∙ (ap (λ (xs : List B). xs ++ h n ∷ []) (map_below f g h n (λ i l. e i (omega arith))) ∙ sym (map-below_more h n)))))
 
 any_below : {A : Type 0} (p : A → Bool) (g : ℕ → A) (h : ℕ → Bool) (n : ℕ) → ((i : ℕ) → i < n → p (g i) ≡ h i) → list_any p (map g (below n)) ≡ some_passes h n
 any_below p g h zero e = refl
 any_below {A = A} p g h (suc n) e =
     subst (λ (k : ℕ). list_any p (map g (below k)) ≡ cond (h n) true (some_passes h n)) (add-one n)
-    (ap (λ (xs : List A). list_any p xs) (map-below_more g n) ∙ (list_any-append p (map g (below n)) (g n ∷ []) ∙ (ap (λ (b : Bool). b || list_any p (g n ∷ [])) (any_below p g h n (λ i l. e i (omega arith))) ∙ (ap (λ (b : Bool). some_passes h n || (b || false)) (e n (omega arith)) ∙ either (some_passes h n) (h n)))))
+    (ap (λ (xs : List A). list_any p xs) (map-below_more g n) ∙ (list_any-append p (map g (below n)) (g n ∷ [])
+    ∙ (ap (λ (b : Bool). b || list_any p (g n ∷ [])) (any_below p g h n (λ i l. e i (omega arith)))
+    ∙ (ap (λ (b : Bool). some_passes h n || (b || false)) (e n (omega arith)) ∙ either (some_passes h n) (h n)))))
   where
     either : (a b : Bool) → (a || (b || false)) ≡ cond b true a
     either true true = refl
@@ -106,20 +111,26 @@ onward_row s f m t wf =
     subst (λ (k : ℕ). next_row s f m (reached_row s f m t) ≡ reached_row s f m k) (sym (add-one t))
     (maps_agree (comes_from s f m (reached_row s f m t)) (reached_in s f m (suc t)) (length s.resources)
     (λ r l. some_agree (comes_by s f m (reached_row s f m t) r) (λ a. f (arc_var s m a) && (nat_eq (arc_at s a).head r && walk_test s f m t (arc_at s a).tail)) (length s.arcs)
-    (λ a la. regroup (get_or (reached_row s f m t) (arc_at s a).tail false) (f (arc_var s m a)) (nat_eq (arc_at s a).head r) (walk_test s f m t (arc_at s a).tail) (bit_reads s f m (arc_at s a).tail t (arc_in s a wf la).tail))))
+    (λ a la. regroup (get_or (reached_row s f m t) (arc_at s a).tail false) (f (arc_var s m a)) (nat_eq (arc_at s a).head r) (walk_test s f m t (arc_at s a).tail)
+    (bit_reads s f m (arc_at s a).tail t (arc_in s a wf la).tail))))
 
 -- the bits of a message, by its rows
-pub bits_by_rows : (s : SpecValue) (f : Bits) (m : ℕ) (rows : List (List Bool)) → rows ≡ map (reached_row s f m) (below ((message_at s m).limit + 1)) → flat_map (bits_at rows) (below (length s.resources)) ++ map (is_in rows) (below (length s.resources)) ≡ message_bits s f m
+pub bits_by_rows : (s : SpecValue) (f : Bits) (m : ℕ) (rows : List (List Bool)) → rows ≡ map (reached_row s f m) (below ((message_at s m).limit + 1))
+    → flat_map (bits_at rows) (below (length s.resources)) ++ map (is_in rows) (below (length s.resources)) ≡ message_bits s f m
 unfolding cover_bit
 bits_by_rows s f m rows e =
     let k = (message_at s m).limit + 1 in
     let all = map (reached_row s f m) (below k) in
     ap (λ (xs : List (List Bool)). flat_map (bits_at xs) (below (length s.resources)) ++ map (is_in xs) (below (length s.resources))) e
-    ∙ (ap (λ (xs : List Bool). xs ++ map (is_in all) (below (length s.resources))) (flat_maps_agree (bits_at all) (step_row s f m) (length s.resources) (λ r l. map_below (bit_at r) (reached_row s f m) (step_bit s f m r) k (λ t lt. bit_reads s f m r t l)))
-    ∙ ap (λ (xs : List Bool). flat_map (step_row s f m) (below (length s.resources)) ++ xs) (maps_agree (is_in all) (cover_bit s f m) (length s.resources) (λ r l. any_below (bit_at r) (reached_row s f m) (step_bit s f m r) k (λ t lt. bit_reads s f m r t l))))
+    ∙ (ap (λ (xs : List Bool). xs ++ map (is_in all) (below (length s.resources))) (flat_maps_agree (bits_at all) (step_row s f m) (length s.resources)
+    (λ r l. map_below (bit_at r) (reached_row s f m) (step_bit s f m r) k (λ t lt. bit_reads s f m r t l)))
+    ∙ ap (λ (xs : List Bool). flat_map (step_row s f m) (below (length s.resources)) ++ xs) (maps_agree (is_in all) (cover_bit s f m) (length s.resources)
+    (λ r l. any_below (bit_at r) (reached_row s f m) (step_bit s f m r) k (λ t lt. bit_reads s f m r t l))))
 
 -- what a message adds
-pub message_more : (s : SpecValue) (f : Bits) (m : ℕ) (rows one two : List (List Bool)) (n k : ℕ) (old mid new : List Bool) → rows ≡ map (reached_row s f m) (below ((message_at s m).limit + 1)) → one ≡ rows → two ≡ rows → n ≡ length s.resources → k ≡ length s.resources → mid ≡ old ++ flat_map (bits_at one) (below n) → new ≡ mid ++ map (is_in two) (below k) → new ≡ old ++ message_bits s f m
+pub message_more : (s : SpecValue) (f : Bits) (m : ℕ) (rows one two : List (List Bool)) (n k : ℕ) (old mid new : List Bool) → rows ≡ map (reached_row s f m) (below ((message_at s m).limit + 1))
+    → one ≡ rows → two ≡ rows → n ≡ length s.resources → k ≡ length s.resources → mid ≡ old ++ flat_map (bits_at one) (below n) → new ≡ mid ++ map (is_in two) (below k)
+    → new ≡ old ++ message_bits s f m
 message_more s f m rows one two n k old mid new e e1 e2 en ek steps covers =
     covers
     ∙ (ap (λ (xs : List Bool). xs ++ map (is_in two) (below k)) steps

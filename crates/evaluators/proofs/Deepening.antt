@@ -1,36 +1,31 @@
 -- Chains of one message more, and the order in which tasks of rising depths are placed.
-use Rattle.std.proofs.Common.{◌≡◌, ℕ, zero, suc, ◌+◌, ◌<◌, ◌≤◌, Bool, true, false, cond, nat_eq, nat_lt, List, [], ◌∷◌, ◌++◌, length, get_or, take, replicate, refl, sym, ap, ap₂, ◌∙◌, subst, arith, add-one, append_assoc, inl, inr}
+use Rattle.std.proofs.Common.{◌≡◌, ℕ, zero, suc, ◌+◌, ◌<◌, ◌≤◌, Bool, true, false, cond, nat_eq, nat_lt, List, [], ◌∷◌, ◌++◌, length, get_or, take, refl, sym, ap, ap₂, ◌∙◌, subst, arith, add-one, append_assoc}
 use Rattle.std.specs.List.{flat_map}
 use Rattle.std.proofs.lemmas.Bool.Decides.{nat_tests}
-use Rattle.std.proofs.lemmas.Bool.{cases_Bool}
 use Rattle.std.proofs.Math.Seq.{take-append_seam}
-use Rattle.std.proofs.lemmas.List.{get_or-replicate, length-append, append-nil}
+use Rattle.std.proofs.lemmas.List.{length-append, append-nil}
 use Rattle.spec_model.specs.Spec.{SpecValue, below, those}
 use Rattle.spec_model.specs.Rules.{sender_of}
 use Rattle.spec_model.specs.WellFormed.{IsWellFormed}
 use Rattle.spec_model.specs.Schedule.{goes_to, ends_chain, depth, has_depth, tasks_of_depth, placing}
-use Rattle.spec_model.proofs.Those.{those-more, flat_map-below_more}
+use Rattle.spec_model.proofs.Those.{those_more, flat_map-below_more, few_those}
 use Rattle.spec_model.proofs.InRange.{message_in}
-use Rattle.impl_rules.proofs.Tests.{same_number}
 use Rattle.evaluators.specs.Marks.{AreChainMarks, AreDepthsBelow, AreDepths, is_marked, sender_marked, is_sent_to, depth_below}
 use Rattle.evaluators.proofs.Greatest.{greatest-those_more}
 use Rattle.evaluators.proofs.Marking.{any-those_agree}
 
 -- ---- chains
 
-pub chains_start : (s : SpecValue) (marks : List Bool) → marks ≡ replicate (length s.tasks) true → length marks ≡ length s.tasks → AreChainMarks s 0 marks
-chains_start s marks e long = record { each = long; marked = λ t l. ap (λ (ms : List Bool). is_marked ms t) e ∙ get_or-replicate (length s.tasks) t true false l }
-
-pub chains_more : (s : SpecValue) (marks next : List Bool) (n : ℕ) → IsWellFormed s → AreChainMarks s n marks → length next ≡ length s.tasks → ((t : ℕ) → is_marked next t ≡ is_sent_to s marks (length s.messages) t) → AreChainMarks s (n + 1) next
+pub chains_more : (s : SpecValue) (marks next : List Bool) (n : ℕ) → IsWellFormed s → AreChainMarks s n marks → length next ≡ length s.tasks
+    → ((t : ℕ) → is_marked next t ≡ is_sent_to s marks (length s.messages) t) → AreChainMarks s (n + 1) next
 chains_more s marks next n wf before long sent = record {
   each = long;
-  marked = λ t l. subst (λ (k : ℕ). is_marked next t ≡ ends_chain s t k) (sym (add-one n)) (sent t ∙ any-those_agree (sender_marked s marks) (λ m. ends_chain s (sender_of s m) n) (goes_to s t) (length s.messages) (λ m h. before.marked (sender_of s m) (message_in s m wf h).sender));
+  marked = λ t l. subst (λ (k : ℕ). is_marked next t ≡ ends_chain s t k) (sym (add-one n)) (sent t ∙ any-those_agree (sender_marked s marks) (λ m. ends_chain s (sender_of s m) n) (goes_to s t)
+      (length s.messages) (λ m h. before.marked (sender_of s m) (message_in s m wf h).sender));
 }
 
-pub depths_start : (s : SpecValue) (depths : List ℕ) → depths ≡ replicate (length s.tasks) 0 → length depths ≡ length s.tasks → AreDepthsBelow s 0 depths
-depths_start s depths e long = record { each = long; depths_are = λ t l. ap (λ (ds : List ℕ). get_or ds t 0) e ∙ get_or-replicate (length s.tasks) t 0 0 l }
-
-pub depths_more : (s : SpecValue) (marks : List Bool) (depths deeper : List ℕ) (n : ℕ) → AreChainMarks s n marks → AreDepthsBelow s n depths → length deeper ≡ length depths → ((t : ℕ) → t < length depths → get_or deeper t 0 ≡ cond (is_marked marks t) n (get_or depths t 0)) → AreDepthsBelow s (n + 1) deeper
+pub depths_more : (s : SpecValue) (marks : List Bool) (depths deeper : List ℕ) (n : ℕ) → AreChainMarks s n marks → AreDepthsBelow s n depths → length deeper ≡ length depths
+    → ((t : ℕ) → t < length depths → get_or deeper t 0 ≡ cond (is_marked marks t) n (get_or depths t 0)) → AreDepthsBelow s (n + 1) deeper
 depths_more s marks depths deeper n chains before long deepened = record {
   each = long ∙ before.each;
   depths_are = λ t l. deepened t (omega (arith, before.each, l)) ∙ (ap₂ (λ (b : Bool) (d : ℕ). cond b n d) (chains.marked t l) (before.depths_are t l) ∙ sym (greatest-those_more (ends_chain s t) n));
@@ -44,14 +39,12 @@ depths_end s depths n e all = record { each = all.each; depths_are = λ t l. all
 
 -- one more among those that pass, or not
 pub placed_yes : (p : ℕ → Bool) (n : ℕ) (start now : List ℕ) → p n ≡ true → now ≡ start ++ those p n → now ++ n ∷ [] ≡ start ++ those p (n + 1)
-placed_yes p n start now passes e = ap (λ (xs : List ℕ). xs ++ n ∷ []) e ∙ (append_assoc start (those p n) (n ∷ []) ∙ ap (λ (xs : List ℕ). start ++ xs) (sym (those-more p n ∙ ap (λ (b : Bool). those p n ++ cond b (n ∷ []) []) passes)))
+placed_yes p n start now passes e =
+    ap (λ (xs : List ℕ). xs ++ n ∷ []) e ∙ (append_assoc start (those p n) (n ∷ []) ∙ ap (λ (xs : List ℕ). start ++ xs)
+    (sym (those_more p n ∙ ap (λ (b : Bool). those p n ++ cond b (n ∷ []) []) passes)))
 
 pub placed_no : (p : ℕ → Bool) (n : ℕ) (start now : List ℕ) → p n ≡ false → now ≡ start ++ those p n → now ≡ start ++ those p (n + 1)
-placed_no p n start now fails e = e ∙ ap (λ (xs : List ℕ). start ++ xs) (sym (those-more p n ∙ (ap (λ (b : Bool). those p n ++ cond b (n ∷ []) []) fails ∙ append-nil (those p n))))
-
--- numbers that aren't equal
-pub unequal : (a b : ℕ) → (a ≡ b → ⊥) → nat_eq a b ≡ false
-unequal a b apart = elim (cases_Bool (nat_eq a b)) [ inl e ↦ absurd (apart (same_number a b e)) | inr e ↦ e ]
+placed_no p n start now fails e = e ∙ ap (λ (xs : List ℕ). start ++ xs) (sym (those_more p n ∙ (ap (λ (b : Bool). those p n ++ cond b (n ∷ []) []) fails ∙ append-nil (those p n))))
 
 -- a task's depth by the list of depths
 pub depth_test : (s : SpecValue) (depths : List ℕ) (d t : ℕ) → AreDepths s depths → t < length s.tasks → has_depth s d t ≡ nat_eq (get_or depths t 0) d
@@ -66,16 +59,8 @@ is_less_deep s n t = nat_lt (depth s t) n
 less_deep : (a n : ℕ) → cond (nat_lt a n) 1 0 + cond (nat_eq a n) 1 0 ≡ cond (nat_lt a (n + 1)) 1 0
 less_deep a n = grind (arith, nat_tests)
 
-few_those : (p : ℕ → Bool) (n : ℕ) → length (those p n) ≤ n
-few_those p zero = omega arith
-few_those p (suc n) = subst (λ (k : ℕ). length (those p k) ≤ k) (add-one n) (omega (arith, ap length (those-more p n), length-append (those p n) (cond (p n) (n ∷ []) []), one (p n), few_those p n))
-  where
-    one : (b : Bool) → length (cond b (n ∷ []) []) ≤ 1
-    one true = omega arith
-    one false = omega arith
-
 length-those_more : (p : ℕ → Bool) (n : ℕ) → length (those p (n + 1)) ≡ length (those p n) + cond (p n) 1 0
-length-those_more p n = ap length (those-more p n) ∙ (length-append (those p n) (cond (p n) (n ∷ []) []) ∙ ap (λ (k : ℕ). length (those p n) + k) (one (p n)))
+length-those_more p n = ap length (those_more p n) ∙ (length-append (those p n) (cond (p n) (n ∷ []) []) ∙ ap (λ (k : ℕ). length (those p n) + k) (one (p n)))
   where
     one : (b : Bool) → length (cond b (n ∷ []) []) ≡ cond b 1 0
     one true = refl

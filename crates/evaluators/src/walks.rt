@@ -1,9 +1,10 @@
 //! The walk of a message to a resource, followed from its end: at most one used arc goes into each resource.
 
-ghost use Rattle.std.specs.Prelude.{◌≡◌, ◌<◌, ◌↔◌, ◌^◌, IsTrue, length};
+ghost use Rattle.std.specs.Prelude.{◌≡◌, ◌<◌, ◌↔◌, IsTrue, length};
 ghost use Rattle.spec_model.specs.Spec.{bits_of, design_variables};
 ghost use Rattle.spec_model.specs.Rules.{IsValid, BoundOnce, IsOn, Uses, EntersAt, sender_of};
 ghost use Rattle.spec_model.specs.Schedule.{walk_length as length_of};
+ghost use Rattle.spec_model.specs.Limits.{most_resources};
 ghost use Rattle.impl_rules.specs.Least.{IsFirst};
 ghost use Rattle.impl_rules.specs.Routes.{EntersNot};
 
@@ -43,7 +44,7 @@ pub(crate) fn walk_length(spec: &Spec, design: &Design, m: MsgNo, source: ResNo,
     requires source { IsOn spec.now (bits_of design.now) (sender_of spec.now m.0) source.0 }
     requires to { to.0 < length spec.now.resources }
     ensures length { result ≡ length_of spec.now (bits_of design.now) m.0 to.0 }
-    ensures small { result < 2 ^ 8 }
+    ensures small { result < most_resources }
 {
     let mut at = to;
     for hops in 0..spec.hop_limit(m) + 1 {

@@ -2,7 +2,7 @@
 use Rattle.std.proofs.Common.{◌≡◌, ℕ, zero, suc, ◌<◌, List, [], ◌∷◌, length, get_or, refl, sym, ap, ap₂, ◌∙◌, arith, All, Result, Ok, Err, IfOk, OnOk}
 use Rattle.std.proofs.lemmas.List.{get_or-map}
 use Rattle.spec_model.specs.Genotypes.{GeneValue}
-use Rattle.genotype.specs.Draws.{below, random_genes, child_genes, after_gene, after_child}
+use Rattle.genotype.specs.Draws.{draw, random_genes, child_genes, after_gene, after_child}
 use Rattle.front_archive.specs.declared.member.Member.{Member}
 use Rattle.evo_explore.specs.Breeding.{genotype_of, genotype_at, HasGenes, bred, after_bred}
 
@@ -22,12 +22,12 @@ length-child gives after n (x ∷ xs) (y ∷ ys) s e = ap suc (length-child give
 
 -- the member at a drawn place, by the state of the words
 drawn_at : {S : Type 0} (gives : S → ℕ) (members : List Member) (count p : ℕ) (d : Member) (g : List GeneValue) (s t : S) → count ≡ length members
-    → p ≡ below gives count s → p < length members → g ≡ (get_or members p d).genotype → s ≡ t → g ≡ genotype_at members (below gives (length members) t)
+    → p ≡ draw gives count s → p < length members → g ≡ (get_or members p d).genotype → s ≡ t → g ≡ genotype_at members (draw gives (length members) t)
 drawn_at gives members count p d g s t all place l is same =
-    is ∙ (sym (genotype_there members p d l) ∙ ap (genotype_at members) (place ∙ (ap (λ (k : ℕ). below gives k s) all ∙ ap (below gives (length members)) same)))
+    is ∙ (sym (genotype_there members p d l) ∙ ap (genotype_at members) (place ∙ (ap (λ (k : ℕ). draw gives k s) all ∙ ap (draw gives (length members)) same)))
 
 pub bred_is : {S : Type 0} (gives : S → ℕ) (after : S → S) (n count p q : ℕ) (members : List Member) (d e : Member) (a b : List GeneValue) (s t u : S)
-    → All (HasGenes n) members → count ≡ length members → p ≡ below gives count s → t ≡ after s → q ≡ below gives count t → u ≡ after t → p < length members
+    → All (HasGenes n) members → count ≡ length members → p ≡ draw gives count s → t ≡ after s → q ≡ draw gives count t → u ≡ after t → p < length members
     → q < length members → a ≡ (get_or members p d).genotype → b ≡ (get_or members q e).genotype → child_genes gives after (length a) a b u ≡ bred gives after n members s
 unfolding bred
 bred_is gives after n count p q members d e a b s t u genes all first t_is second u_is l k a_is b_is =
@@ -36,10 +36,10 @@ bred_is gives after n count p q members d e a b s t u genes all first t_is secon
     let y = drawn_at gives members count q e b t (after s) all second k b_is t_is in
     ap (λ (i : ℕ). child_genes gives after i a b u) long
     ∙ (ap₂ (λ (v w : List GeneValue). child_genes gives after n v w u) x y
-    ∙ ap (child_genes gives after n (genotype_at members (below gives (length members) s)) (genotype_at members (below gives (length members) (after s)))) (u_is ∙ ap after t_is))
+    ∙ ap (child_genes gives after n (genotype_at members (draw gives (length members) s)) (genotype_at members (draw gives (length members) (after s)))) (u_is ∙ ap after t_is))
 
 pub after_bred_is : {S : Type 0} (gives : S → ℕ) (after : S → S) (n count p : ℕ) (members : List Member) (d : Member) (a : List GeneValue) (s t u : S)
-    → All (HasGenes n) members → count ≡ length members → p ≡ below gives count s → t ≡ after s → u ≡ after t → p < length members → a ≡ (get_or members p d).genotype
+    → All (HasGenes n) members → count ≡ length members → p ≡ draw gives count s → t ≡ after s → u ≡ after t → p < length members → a ≡ (get_or members p d).genotype
     → after_child gives after (length a) a u ≡ after_bred gives after n members s
 unfolding after_bred
 after_bred_is gives after n count p members d a s t u genes all first t_is u_is l a_is =
@@ -47,7 +47,7 @@ after_bred_is gives after n count p members d a s t u genes all first t_is u_is 
     let x = drawn_at gives members count p d a s s all first l a_is refl in
     ap (λ (i : ℕ). after_child gives after i a u) long
     ∙ (ap (λ (v : List GeneValue). after_child gives after n v u) x
-    ∙ ap (after_child gives after n (genotype_at members (below gives (length members) s))) (u_is ∙ ap after t_is))
+    ∙ ap (after_child gives after n (genotype_at members (draw gives (length members) s))) (u_is ∙ ap after t_is))
 
 -- ---- what a call answers, in other words
 

@@ -1,5 +1,5 @@
 -- The counts while a round goes over the chosen places.
-use Rattle.std.proofs.Common.{◌≡◌, ℕ, ◌+◌, ◌*◌, ◌^◌, ◌<◌, ◌≤◌, ◌≢◌, List, [], ◌∷◌, length, map, take, get_or, set, sym, ap, ◌∙◌, subst, refl, arith, inl, inr, mul-le-mul_right, cond, true, false, eqb, get_or-set_same, get_or-set_other, ◌++◌}
+use Rattle.std.proofs.Common.{◌≡◌, ℕ, ◌+◌, ◌*◌, ◌^◌, ◌<◌, ◌≤◌, ◌≢◌, List, [], ◌∷◌, length, map, take, get_or, set, sym, ap, ◌∙◌, subst, arith, inl, inr, mul-le-mul_right, cond, false, eqb, get_or-set_same, get_or-set_other, ◌++◌}
 use Rattle.std.proofs.lemmas.List.Sums.{sum_by_more, sum_by-take-le}
 use Rattle.std.proofs.lemmas.Bool.Decides.{eqb_tells}
 use Rattle.std.proofs.lemmas.Bool.{eq-eqb}
@@ -8,9 +8,6 @@ use Rattle.std.proofs.lemmas.List.Elements.{All-get_or}
 use Rattle.std.specs.List.{All}
 use Rattle.evo_explore.specs.Counts.{times, RoseBy, RoseAtMost, HasRoom, picked}
 
-eqb_same : (p : ℕ) → eqb p p ≡ true
-eqb_same p = eq-eqb p p refl
-
 times_grow : (k : ℕ) (ps : List ℕ) (i : ℕ) → times k (take i ps) ≤ times k ps
 times_grow k ps i = sum_by-take-le (λ p. cond (eqb p k) 1 0) ps i
 
@@ -18,7 +15,7 @@ times_more : (k : ℕ) (ps : List ℕ) (i : ℕ) → i < length ps → times k (
 times_more k ps i h = sum_by_more (λ p. cond (eqb p k) 1 0) ps i 0 h
 
 times_more_yes : (p : ℕ) (ps : List ℕ) (i : ℕ) → i < length ps → p ≡ get_or ps i 0 → times p (take (i + 1) ps) ≡ times p (take i ps) + 1
-times_more_yes p ps i h e = times_more p ps i h ∙ ap (λ b. times p (take i ps) + cond b 1 0) (subst (λ n. eqb n p ≡ true) e (eqb_same p))
+times_more_yes p ps i h e = times_more p ps i h ∙ ap (λ b. times p (take i ps) + cond b 1 0) (eq-eqb (get_or ps i 0) p (sym e))
 
 times_more_no : (k : ℕ) (ps : List ℕ) (i : ℕ) → i < length ps → eqb (get_or ps i 0) k ≡ false → times k (take (i + 1) ps) ≡ times k (take i ps)
 times_more_no k ps i h e = times_more k ps i h ∙ ap (λ b. times k (take i ps) + cond b 1 0) e ∙ omega arith

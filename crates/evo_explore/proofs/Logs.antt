@@ -4,7 +4,7 @@ use Rattle.std.specs.List.{count_by}
 use Rattle.std.proofs.lemmas.List.Elements.{All-cons}
 use Rattle.pb_rules.specs.Linear.{Linear}
 use Rattle.pb_rules.specs.Frames.{Line, Frame, base_of, derived_by, derived_from, derived_count, is_derived}
-use Rattle.pb_rules.proofs.Closed.{closed-front}
+use Rattle.pb_rules.proofs.Closed.{closed_front}
 use Rattle.pb_rules.proofs.Given.{derived-append}
 use Rattle.proof_log.specs.Log.{LogValue}
 use Rattle.spec_model.specs.Spec.{SpecValue, Bits, bits_of}
@@ -30,7 +30,7 @@ lines_after s (m ∷ ms) old new p =
 
 -- more constraints show what some of them show
 shown_by_more : (cs ds : List Linear) (genes : List GeneValue) (x : Bits) → ShowsFirstDesign cs genes x → ShowsFirstDesign (cs ++ ds) genes x
-shown_by_more cs ds genes x h v l differs p closed same = h v l differs p (closed-front cs ds p closed) same
+shown_by_more cs ds genes x h v l differs p closed same = h v l differs p (closed_front cs ds p closed) same
 
 shown_later : (s : SpecValue) (m : Member) (old next new : LogValue) (more : List Line) → Decodes s m old next → new.lines ≡ next.lines ++ more → (f : Frame) → IsFrameOf s f → IsShownBy s f new m
 shown_later s m old next new more d is f g =
@@ -54,7 +54,7 @@ decodings_stay_shown s entries log p f g = all_shown s entries (no_lines s) log 
 -- ---- how many lines
 
 -- each derived line counts
-all_count : (ls : List Line) → All (λ l. is_derived l ≡ true) ls → count_by is_derived ls ≡ length ls
+pub all_count : (ls : List Line) → All (λ l. is_derived l ≡ true) ls → count_by is_derived ls ≡ length ls
 all_count [] h = refl
 all_count (l ∷ ls) h =
     let first : is_derived l ≡ true = h 0 l (omega arith) in

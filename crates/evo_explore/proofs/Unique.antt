@@ -1,8 +1,9 @@
 -- There is one run.
-use Rattle.std.proofs.Common.{◌≡◌, ℕ, suc, ◌<◌, ◌⊎◌, ◌++◌, Bool, List, [], ◌∷◌, length, map, refl, sym, ap, ap₂, ◌∙◌, subst, arith, inl, inr}
-use Rattle.std.proofs.lemmas.Bool.{cases_lt}
+use Rattle.std.proofs.Common.{◌≡◌, ℕ, ◌++◌, Bool, List, [], ◌∷◌, length, map, refl, sym, ap, ap₂, ◌∙◌, subst, arith}
 use Rattle.spec_model.specs.Spec.{SpecValue, Bits, bits_of, design_variables}
-use Rattle.spec_model.specs.Genotypes.{GeneValue, gene_at, StandsBefore, IsBefore, IsSame, IsFirstValid}
+use Rattle.spec_model.specs.Genotypes.{GeneValue, IsFirstValid}
+use Rattle.spec_model.proofs.Ones.{first_is_one}
+use Rattle.spec_model.specs.Rules.{IsValid}
 use Rattle.front_archive.specs.declared.member.Member.{Member}
 use Rattle.front_archive.specs.Members.{covers}
 use Rattle.front_archive.specs.Best.{best}
@@ -12,58 +13,6 @@ use Rattle.evo_explore.specs.declared.run.Run.{Run}
 use Rattle.evo_explore.specs.declared.run.End.{End}
 use Rattle.evo_explore.specs.declared.run.End.TheVariants.{Done, Infeasible}
 use Rattle.evo_explore.proofs.Exploring.{no_rounds}
-
--- ---- one design is the first valid one
-
--- of two variables one stands before the other
-one_before : (genes : List GeneValue) (v w : ℕ) → StandsBefore genes v w ⊎ ((v ≡ w) ⊎ StandsBefore genes w v)
-one_before genes v w =
-    let p : ℕ = (gene_at genes v).priority in
-    let q : ℕ = (gene_at genes w).priority in
-    elim (cases_lt q p) [
-      | inl l ↦ inl (inl l)
-      | inr h ↦ elim (cases_lt p q) [
-        | inl l ↦ inr (inr (inl l))
-        | inr g ↦ elim (cases_lt v w) [
-          | inl l ↦ inl (inr (omega (arith, h, g), l))
-          | inr m ↦ elim (cases_lt w v) [
-            | inl l ↦ inr (inr (inr (omega (arith, h, g), l)))
-            | inr n ↦ inr (inl (omega (arith, m, n)))
-          ]
-        ]
-      ]
-    ]
-
--- not both before each other
-both_before : (genes : List GeneValue) (f g : Bits) → IsBefore genes f g → IsBefore genes g f → ⊥
-both_before genes f g a b =
-    elim (one_before genes a.variable b.variable) [
-      | inl early ↦ a.differ (b.same a.variable a.in_range early)
-      | inr other ↦ elim other [
-        | inl same ↦ a.differ (ap g same ∙ (b.phase ∙ sym (ap (λ (v : ℕ). (gene_at genes v).phase) same) ∙ sym a.phase))
-        | inr late ↦ b.differ (a.same b.variable b.in_range late)
-      ]
-    ]
-
-same_bits : (f g : List Bool) → length f ≡ length g → ((v : ℕ) → v < length f → bits_of f v ≡ bits_of g v) → f ≡ g
-same_bits [] [] e h = refl
-same_bits [] (y ∷ g) e h = absurd (omega (arith, e))
-same_bits (x ∷ f) [] e h = absurd (omega (arith, e))
-same_bits (x ∷ f) (y ∷ g) e h =
-    ap₂ (λ (b : Bool) (bs : List Bool). b ∷ bs) (h 0 (omega arith)) (same_bits f g (omega (arith, e)) (λ v l. h (suc v) (omega (arith, l))))
-
-first_is_one : (s : SpecValue) (genes : List GeneValue) (d e : List Bool)
-    → length d ≡ design_variables s → length e ≡ design_variables s → IsFirstValid s genes (bits_of d) → IsFirstValid s genes (bits_of e) → d ≡ e
-first_is_one s genes d e m n a b = same_bits d e (m ∙ sym n) (λ v l. agree v (omega (arith, l, m)))
-  where
-    agree : IsSame (design_variables s) (bits_of d) (bits_of e)
-    agree = elim (a.first (bits_of e) b.meets) [
-      | inl same ↦ same
-      | inr before ↦ elim (b.first (bits_of d) a.meets) [
-        | inl same ↦ (λ v l. sym (same v l))
-        | inr back ↦ absurd (both_before genes (bits_of d) (bits_of e) before back)
-      ]
-    ]
 
 same_member : (m k : Member) → m.genotype ≡ k.genotype → m.design ≡ k.design → m.vector ≡ k.vector → m ≡ k
 same_member m k genes design vector =
@@ -77,7 +26,7 @@ module _ {S : Type 0} (s : SpecValue) (gives : S → ℕ) (after : S → S) (mea
   round_is_one before words m k a b =
       let genes : m.genotype ≡ k.genotype = a.genes ∙ sym b.genes in
       let first : IsFirstValid s k.genotype (bits_of m.design) = subst (λ (g : List GeneValue). IsFirstValid s g (bits_of m.design)) genes a.first in
-      let design : m.design ≡ k.design = first_is_one s k.genotype m.design k.design a.one_each b.one_each first b.first in
+      let design : m.design ≡ k.design = first_is_one (IsValid s) (design_variables s) k.genotype m.design k.design a.one_each b.one_each first b.first in
       same_member m k genes design (a.vector ∙ (ap (λ (d : List Bool). whole_vector s measured (bits_of d)) design ∙ sym b.vector))
 
   rounds_are_one : (before es fs : List Member) (start w v : S) → length es ≡ length fs

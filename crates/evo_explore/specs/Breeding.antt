@@ -1,7 +1,7 @@
 -- The genotype of a round, of the words not yet used and of the best members so far.
 use Rattle.std.specs.Prelude.{◌≡◌, ℕ, ◌%◌, ◌==◌, if◌then◌else◌, List, [], ◌∷◌, length, map, slice_index_or}
 use Rattle.spec_model.specs.Genotypes.{GeneValue}
-use Rattle.genotype.specs.Draws.{below, random_genes, after_words, child_genes, after_child}
+use Rattle.genotype.specs.Draws.{draw, random_genes, after_words, child_genes, after_child}
 use Rattle.front_archive.specs.declared.member.Member.{Member}
 
 abbrev pub genotype_of : Member → List GeneValue
@@ -17,10 +17,10 @@ genotype_at members p = slice_index_or (map genotype_of members) p []
 
 -- the child of two members, each drawn by one word
 unfoldable pub bred : {S : Type 0} → (S → ℕ) → (S → S) → ℕ → List Member → S → List GeneValue
-bred gives after n members s = child_genes gives after n (genotype_at members (below gives (length members) s)) (genotype_at members (below gives (length members) (after s))) (after (after s))
+bred gives after n members s = child_genes gives after n (genotype_at members (draw gives (length members) s)) (genotype_at members (draw gives (length members) (after s))) (after (after s))
 
 unfoldable pub after_bred : {S : Type 0} → (S → ℕ) → (S → S) → ℕ → List Member → S → S
-after_bred gives after n members s = after_child gives after n (genotype_at members (below gives (length members) s)) (after (after s))
+after_bred gives after n members s = after_child gives after n (genotype_at members (draw gives (length members) s)) (after (after s))
 
 -- a genotype of n genes: a random one where there are no members, and for each fourth word; else a child
 abbrev pub next_genes : {S : Type 0} → (S → ℕ) → (S → S) → ℕ → List Member → S → List GeneValue

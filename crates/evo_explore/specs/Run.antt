@@ -63,7 +63,8 @@ abbrev pub vector_in : Member → List ℕ
 vector_in member = member.vector
 
 -- what so many rounds found: the vectors by round, and the best of all entries
-pub record IsFound {S : Type 0} (s : SpecValue) (gives : S → ℕ) (after : S → S) (measured : Bits → List ℕ) (start words : S) (log : LogValue) (history : List (List ℕ)) (members : List Member) (rounds : ℕ) : Type 0 where
+pub record IsFound {S : Type 0} (s : SpecValue) (gives : S → ℕ) (after : S → S) (measured : Bits → List ℕ) (start words : S) (log : LogValue) (history : List (List ℕ)) (members : List Member)
+    (rounds : ℕ) : Type 0 where
   pub entries : List Member
   pub rounds_are : AreRounds s gives after measured [] entries start words
   pub decodings_are : AreDecodings s entries (no_lines s) log

@@ -1,7 +1,7 @@
 //! The genotype of a round: a random one, or the child of two members.
 
 ghost use Rattle.std.specs.Prelude.{◌≡◌, ◌<◌, ◌≤◌, All, length, IfOk, OnOk};
-ghost use Rattle.genotype.specs.Draws.{below};
+ghost use Rattle.genotype.specs.Draws.{draw};
 ghost use Rattle.evo_explore.specs.Breeding.{bred as bred_genes, after_bred, next_genes, after_next, HasGenes};
 
 use front_archive::Member;
@@ -11,7 +11,7 @@ use std::alloc::{AllocError, Global};
 /// The place of one of so many members, by the next word.
 fn drawn_place<W: Words>(count: u32, words: &mut W) -> u32
     requires { 0 < count }
-    ensures place { result ≡ below W.gives count words.old }
+    ensures place { result ≡ draw W.gives count words.old }
     ensures there { result < count }
     ensures after { words.new ≡ W.after words.old }
 {

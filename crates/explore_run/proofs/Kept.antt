@@ -1,22 +1,16 @@
 -- What a command leaves of tools, where it calls none; and what is kept from the entries of a history to the best of them.
-use Rattle.std.proofs.Common.{◌≡◌, ◌+◌, ◌*◌, ◌≤◌, ◌++◌, ℕ, suc, Bool, true, false, cond, List, [], ◌∷◌, All, refl, arith, length}
+use Rattle.std.proofs.Common.{◌≡◌, ◌+◌, ◌++◌, ℕ, suc, Bool, true, false, cond, List, [], ◌∷◌, All, refl, arith, length}
 use Rattle.std.proofs.lemmas.List.Elements.{All-nil, All-cons}
 use Rattle.spec_model.specs.Spec.{SpecValue, Bits, design_variables}
 use Rattle.front_archive.specs.declared.member.Member.{Member}
 use Rattle.front_archive.specs.Best.{best, best_from, is_beaten}
-use Rattle.evo_explore.specs.Counts.{RoseAtMost, times}
+use Rattle.evo_explore.specs.Counts.{RoseAtMost}
 use Rattle.evo_explore.specs.Run.{AreRounds, after_round}
+use Rattle.evo_explore.proofs.Rounds.{none_rose}
 use Rattle.explore_run.specs.Tools.{ToolsValue, Keeps}
 
-at_most_sum : (a b : ℕ) → a ≤ a + b
-at_most_sum a b = omega arith
-
--- no tool is called
-pub same_calls : (n : ℕ) (chosen calls : List ℕ) → RoseAtMost n chosen calls calls
-same_calls n chosen calls = record { low = λ k. omega arith; high = λ k. at_most_sum _ (n * times k chosen) }
-
 pub same_tools : (n : ℕ) (chosen : List ℕ) (tools : ToolsValue) → Keeps (RoseAtMost n chosen) tools tools
-same_tools n chosen tools = record { tags = refl; values = λ s f. refl; calls = same_calls n chosen tools.calls }
+same_tools n chosen tools = record { tags = refl; values = λ s f. refl; calls = none_rose n chosen tools.calls }
 
 -- ---- the best entries
 
@@ -38,7 +32,8 @@ best_all P covers xs h = best_from_all P covers xs [] xs h
 abbrev pub IsSized : SpecValue → Member → Type 0
 IsSized s m = length m.design ≡ design_variables s
 
-pub rounds_sized : {S : Type 0} (s : SpecValue) (gives : S → ℕ) (after : S → S) (measured : Bits → List ℕ) (before entries : List Member) (start last : S) → AreRounds s gives after measured before entries start last → All (IsSized s) entries
+pub rounds_sized : {S : Type 0} (s : SpecValue) (gives : S → ℕ) (after : S → S) (measured : Bits → List ℕ) (before entries : List Member) (start last : S)
+    → AreRounds s gives after measured before entries start last → All (IsSized s) entries
 rounds_sized s gives after measured before [] start last h = All-nil (IsSized s)
 rounds_sized s gives after measured before (m ∷ ms) start last h =
     All-cons (IsSized s) m ms h.0.one_each (rounds_sized s gives after measured (before ++ m ∷ []) ms (after_round s gives after before start) last h.1)

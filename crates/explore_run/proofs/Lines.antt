@@ -16,7 +16,8 @@ spaced-push : (front : Words) (w : List ℕ) → spaced (front ++ w ∷ []) ≡ 
 spaced-push front w = flat_map-append after_space front (w ∷ []) ∙ ap (λ (t : List ℕ). spaced front ++ t) (append-nil (32 ∷ w))
 
 -- one more word
-pub word_more : (old now next : List ℕ) (words : Words) (j : ℕ) → now ≡ old ++ spaced (take j words) → next ≡ now ++ 32 ∷ get_or words j [] → j < length words → next ≡ old ++ spaced (take (j + 1) words)
+pub word_more : (old now next : List ℕ) (words : Words) (j : ℕ) → now ≡ old ++ spaced (take j words) → next ≡ now ++ 32 ∷ get_or words j [] → j < length words
+    → next ≡ old ++ spaced (take (j + 1) words)
 word_more old now next words j so_far push lt =
     push ∙ (ap (λ (t : List ℕ). t ++ 32 ∷ get_or words j []) so_far ∙ (append_assoc old (spaced (take j words)) (32 ∷ get_or words j [])
     ∙ ap (λ (t : List ℕ). old ++ t) (sym (ap spaced (take_more words j [] lt) ∙ spaced-push (take j words) (get_or words j [])))))
@@ -38,7 +39,8 @@ line_of old w vs ws =
     ap (λ (t : List ℕ). t ++ 10 ∷ []) near ∙ append_assoc old (join_with_byte 32 (w ∷ (vs ++ ws))) (10 ∷ [])
 
 -- one more member
-pub member_more : (s : SpecValue) (old now next : List ℕ) (members : List Member) (i : ℕ) (m : Member) → now ≡ old ++ entries_text s 1 (map entry_of (take i members)) → next ≡ now ++ entry_text s (i + 1) (entry_of m)
+pub member_more : (s : SpecValue) (old now next : List ℕ) (members : List Member) (i : ℕ) (m : Member) → now ≡ old ++ entries_text s 1 (map entry_of (take i members))
+    → next ≡ now ++ entry_text s (i + 1) (entry_of m)
     → m ≡ get_or members i m → i < length members → next ≡ old ++ entries_text s 1 (map entry_of (take (i + 1) members))
 member_more s old now next members i m so_far push is lt =
     let front = map entry_of (take i members) in

@@ -27,7 +27,7 @@ use Rattle.explore_run.specs.Tools.{ToolsValue, tags_at, measured_by}
 use Rattle.explore_run.specs.Saying.{explored_text}
 
 -- what is wanted: how many rounds, from which number the words are drawn, the places of the tools that measure, and the file that the proof is written to, where it is given
-pub record WantedValue : Type 0 where
+pub record ExplorationValue : Type 0 where
   pub rounds : ℕ
   pub seed : ℕ
   pub chosen : List ℕ
@@ -42,7 +42,8 @@ pub record AreRoundsFrom (s : SpecValue) (tools : ToolsValue) (chosen : List ℕ
   pub last : Lcg
   pub rounds : AreRounds s word_of next_of (measured_by tools chosen s) [] entries (seeded seed) last
 
--- the lines of all decodings, in order: each is a derived one and legal at its place, and the encoding and what all of them derive show by propagation alone of each round's design that it is the first
+-- the lines of all decodings, in order: each is a derived one and legal at its place,
+-- and the encoding and what all of them derive show by propagation alone of each round's design that it is the first
 pub record LinesShowEach (s : SpecValue) (entries : List Member) (ls : List Line) : Type 0 where
   pub derived_each : AreDerived ls
   pub legal : AreLegal (cover_frame s) ls
@@ -50,7 +51,7 @@ pub record LinesShowEach (s : SpecValue) (entries : List Member) (ls : List Line
   pub shown : All (IsShownBy s (cover_frame s) (record { first = length (encoding s) + 1; lines = ls })) entries
 
 -- all rounds were made: the best of their entries are said, the chosen tools were called once a round, and the proof file, if one is named, shows of each round's design that it is the first
-pub record ExploresAll (wanted : WantedValue) (tools : ToolsValue) (calls : List ℕ) (s : SpecValue) (outcome : Outcome) : Type 0 where
+pub record ExploresAll (wanted : ExplorationValue) (tools : ToolsValue) (calls : List ℕ) (s : SpecValue) (outcome : Outcome) : Type 0 where
   pub ending : outcome.ending ≡ Done
   pub entries : List Member
   pub rounds_are : AreRoundsFrom s tools wanted.chosen wanted.seed entries
@@ -61,7 +62,7 @@ pub record ExploresAll (wanted : WantedValue) (tools : ToolsValue) (calls : List
   pub proof : WritesIfNamed wanted.proof (OfFile (LinesShowEach s entries)) outcome.writes
 
 -- there is a round and no design is valid: an archive without members is said, no tool was called, and the proof file, if one is named, is accepted with the front without entries
-pub record ExploresNone (wanted : WantedValue) (tools : ToolsValue) (calls : List ℕ) (s : SpecValue) (outcome : Outcome) : Type 0 where
+pub record ExploresNone (wanted : ExplorationValue) (tools : ToolsValue) (calls : List ℕ) (s : SpecValue) (outcome : Outcome) : Type 0 where
   pub ending : outcome.ending ≡ No
   pub infeasible : FindsNone s wanted.rounds
   pub says : outcome.text.items ≡ explored_text s (tags_at tools.tags wanted.chosen) 0 [] ends.Infeasible
@@ -69,12 +70,12 @@ pub record ExploresNone (wanted : WantedValue) (tools : ToolsValue) (calls : Lis
   pub proof : WritesIfNamed wanted.proof (Refutes s None) outcome.writes
 
 -- what a specification comes to, with the calls that the tools had before and have after; memory may run out
-abbrev pub Finds : WantedValue → ToolsValue → List ℕ → SpecValue → Outcome → Type 0
+abbrev pub Finds : ExplorationValue → ToolsValue → List ℕ → SpecValue → Outcome → Type 0
 Finds wanted tools calls s outcome = ExploresAll wanted tools calls s outcome ⊎ ExploresNone wanted tools calls s outcome
 
-abbrev pub ExploresSpec : WantedValue → ToolsValue → List ℕ → SpecValue → Result Outcome ReadFault → Type 0
+abbrev pub ExploresSpec : ExplorationValue → ToolsValue → List ℕ → SpecValue → Result Outcome ReadFault → Type 0
 ExploresSpec wanted tools calls s result = Makes (Finds wanted tools calls s) result
 
 -- what the files come to
-abbrev pub Explores : WantedValue → ToolsValue → List ℕ → World → Result Outcome ReadFault → Type 0
+abbrev pub Explores : ExplorationValue → ToolsValue → List ℕ → World → Result Outcome ReadFault → Type 0
 Explores wanted tools calls world result = AfterSpec world (ExploresSpec wanted tools calls) result

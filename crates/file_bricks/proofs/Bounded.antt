@@ -3,7 +3,7 @@ use Rattle.std.proofs.Common.{◌≡◌, ℕ, zero, suc, ◌<◌, ◌^◌, inl, 
 use Rattle.std.specs.Prelude.{ℤ, pos}
 use Rattle.std.specs.Float.Numeral.{scan_numeral}
 use Rattle.std.proofs.lemmas.Bool.{cases_Bool, ltb-true}
-use Rattle.line_words.specs.Decimal.{most, units, signed, is_negative, is_numeral, without_sign, decimal_of}
+use Rattle.line_words.specs.Decimal.{most, units, signed, has_minus, is_numeral, without_sign, decimal_of}
 use Rattle.line_words.specs.declared.numbers.NumberFault.{NumberFault}
 use Rattle.line_words.specs.declared.numbers.NumberFault.TheVariants.{BadNumber, TooBig}
 use Rattle.file_bricks.specs.Numbers.{read_or, decimal_in}
@@ -29,6 +29,6 @@ decimal_small w =
       | inr g ↦ let e : decimal_of w ≡ Err BadNumber = rw g refl in subst IsAmount (sym (ap read e)) zero_small
       | inl t ↦ elim (cases_Bool (ltb n (10 ^ 27))) [
         | inr g ↦ let e : decimal_of w ≡ Err TooBig = rw (t, g) refl in subst IsAmount (sym (ap read e)) zero_small
-        | inl u ↦ let e : decimal_of w ≡ Ok (signed (is_negative w) n) = rw (t, u) refl in subst IsAmount (sym (ap read e)) (signed_small (is_negative w) n (ltb-true n (10 ^ 27) u))
+        | inl u ↦ let e : decimal_of w ≡ Ok (signed (has_minus w) n) = rw (t, u) refl in subst IsAmount (sym (ap read e)) (signed_small (has_minus w) n (ltb-true n (10 ^ 27) u))
       ]
     ]

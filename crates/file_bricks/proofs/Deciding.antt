@@ -1,12 +1,11 @@
 -- Lists of tests of which none is broken, the first broken one of two lists, and what a choice by a test gives.
-use Rattle.std.proofs.Common.{◌≡◌, ℕ, inl, inr, eqb, Bool, true, false, cond, List, [], ◌∷◌, ◌++◌, Option, Some, None, refl, sym, ap, ◌∙◌}
-use Rattle.std.specs.Prelude.{if◌then◌else◌, ◌||◌, not}
-use Rattle.std.specs.Option.{option_or}
-use Rattle.std.proofs.lemmas.Bool.{cases_Bool, false≢true}
+use Rattle.std.proofs.Common.{◌≡◌, ℕ, inl, inr, eqb, Bool, true, false, cond, List, [], ◌∷◌, Option, Some, None, refl, sym, ap, ◌∙◌}
+use Rattle.std.specs.Prelude.{if◌then◌else◌, ◌||◌}
+use Rattle.std.proofs.lemmas.Bool.{cases_Bool}
 use Rattle.line_words.specs.Refused.{rank}
 use Rattle.line_words.specs.Rules.{Test, IsRanked, first_broken}
 use Rattle.line_words.specs.declared.refusals.Why.{Why}
-use Rattle.line_words.proofs.Least.{first_broken-append-none, first_broken-append-some}
+use Rattle.line_words.proofs.Least.{first_later}
 
 -- no rule of a list is broken
 abbrev pub AllFalse : List Test → Type 0
@@ -22,9 +21,6 @@ none = None
 here : (t : Test) (ts : List Test) → t.1 ≡ true → first_broken (t ∷ ts) ≡ some t.0
 here t ts e = rw e refl
 
-later_on : (t : Test) (ts : List Test) → t.1 ≡ false → first_broken (t ∷ ts) ≡ first_broken ts
-later_on t ts e = rw e refl
-
 never : (w : Why) → some w ≡ none → ⊥
 never w e = cc
 
@@ -33,7 +29,7 @@ all_false [] e = tt
 all_false (t ∷ ts) e =
     elim (cases_Bool t.1) [
       | inl broken ↦ absurd (never t.0 (sym (here t ts broken) ∙ e))
-      | inr fine ↦ (fine, all_false ts (sym (later_on t ts fine) ∙ e))
+      | inr fine ↦ (fine, all_false ts (sym (first_later t ts fine) ∙ e))
     ]
 
 -- what the rule of a refusal asks for: that of the first test with the refusal, and nothing where there is none
@@ -54,15 +50,11 @@ all_fine why (t ∷ ts) h = chosen_false (eqb (rank t.0) (rank why)) t.1 (broken
 pub fine_for : (why : Why) (ts : List Test) → first_broken ts ≡ None → broken_for why ts ≡ false
 fine_for why ts e = all_fine why ts (all_false ts e)
 
--- the first broken rule of two lists
-pub first_of_two : (xs ys : List Test) (a b : Option Why) → a ≡ first_broken xs → b ≡ first_broken ys → option_or a b ≡ first_broken (xs ++ ys)
-first_of_two xs ys None b e f = f ∙ sym (first_broken-append-none xs ys (sym e))
-first_of_two xs ys (Some w) b e f = sym (first_broken-append-some xs ys w (sym e))
-
 -- a choice where the test holds, and where it doesn't
 pub chosen : {A : Type 0} (b : Bool) (x y : A) → b ≡ true → (if b then x else y) ≡ x
 chosen b x y e = ap (λ (c : Bool). if c then x else y) e
 
+-- the other case, where the test is false
 pub other : {A : Type 0} (b : Bool) (x y : A) → b ≡ false → (if b then x else y) ≡ y
 other b x y e = ap (λ (c : Bool). if c then x else y) e
 
@@ -71,18 +63,7 @@ pub ranked_if : (low : ℕ) (b : Bool) (xs ys : List Test) → IsRanked low xs �
 ranked_if low true xs ys h k = h
 ranked_if low false xs ys h k = k
 
-pub not_false : (b : Bool) → not b ≡ false → b ≡ true
-not_false true e = refl
-not_false false e = absurd (false≢true (sym e))
-
-pub not_true : (b : Bool) → not b ≡ true → b ≡ false
-not_true true e = absurd (false≢true e)
-not_true false e = refl
-
-pub or_false : (b : Bool) → (b || false) ≡ b
-or_false true = refl
-or_false false = refl
-
+-- brackets of three tests say nothing
 pub or_or : (a b c : Bool) → (a || (b || c)) ≡ ((a || b) || c)
 or_or true b c = refl
 or_or false b c = refl

@@ -23,5 +23,5 @@ pub some_word : (old new : Left) (line : Numbered) (ws : Words) → Gives old ne
 some_word old new line ws g e = omega (arith, g.some_word, ap length e, length-map (words_in line.content) (λ (w : Piece). w.text))
 
 -- one more word
-pub said-more : (ws : List (Bor (List ℕ))) (i : ℕ) (d : Bor (List ℕ)) → i < length ws → said (take (i + 1) ws) ≡ said (take i ws) ++ (get_or ws i d).now ∷ []
-said-more ws i d h = ap said (take_more ws i d h) ∙ map_push (λ (w : Bor (List ℕ)). w.now) (take i ws) (get_or ws i d)
+pub said_more : (ws : List (Bor (List ℕ))) (i : ℕ) (d : Bor (List ℕ)) → i < length ws → said (take (i + 1) ws) ≡ said (take i ws) ++ (get_or ws i d).now ∷ []
+said_more ws i d h = ap said (take_more ws i d h) ∙ map_push (λ (w : Bor (List ℕ)). w.now) (take i ws) (get_or ws i d)

@@ -70,7 +70,7 @@ impl<T> Items<T> {
     where
         T: Drop,
         ensures pushed { OnOk result (self.new ≡ self.old ++ item ∷ []) }
-        ensures kept { OnErr result (self.new ≡ self.old) }
+        ensures err { OnErr result (self.new ≡ self.old) }
     {
         self.items.push(item)?;
         Ok(())

@@ -1,8 +1,7 @@
 -- What writing leaves, step by step.
-use Rattle.std.proofs.Common.{◌≡◌, ◌≢◌, ◌⊎◌, ◌++◌, ◌∷◌, [], ◌+◌, ◌<◌, ◌≤◌, ◌∙◌, ℕ, Bool, true, false, List, Option, Some, None, All, cond, length, take, drop, refl, sym, ap, subst, inl, inr, arith}
-use Rattle.std.specs.Str.{bytes_eq}
-use Rattle.desk_io.specs.Files.{Files, HasDistinctNames, Edits, Empties, KeepsOrEmpties, Appends, AppendsPrefix, content, file_at}
-use Rattle.file_writes.specs.Writes.{Becomes, BecomesPart, KeepsOrBecomesPart, Leaves, Rewrites, IsWritten, IsPartlyWritten, KeepOthers, AreWritten, ArePartlyWritten}
+use Rattle.std.proofs.Common.{◌∙◌, ℕ, List, Option, Some, None}
+use Rattle.desk_io.specs.Files.{Files, Edits}
+use Rattle.file_writes.specs.Writes.{Leaves, Rewrites}
 
 -- ---- files that may not be told
 
@@ -18,11 +17,6 @@ leaves_and None b c C D E f h k = tt
 leaves_and (Some x) None c C D E f h k = absurd h
 leaves_and (Some x) (Some y) None C D E f h k = k
 leaves_and (Some x) (Some y) (Some z) C D E f h k = f x y z h k
-
--- no change
-pub leaves_same : (a b : Option Files) (C : Files → Files → Type 0) → ((x : Files) → C x x) → b ≡ a → Leaves a b C
-leaves_same None b C f e = tt
-leaves_same (Some x) b C f e = subst (λ (o : Option Files). Leaves (Some x) o C) (sym e) (f x)
 
 -- what a call does to one file
 pub of_edits : (a b : Option Files) (name : List ℕ) (C : List ℕ → List ℕ → Type 0) → Edits a b name C → Leaves a b (Rewrites name C)
@@ -41,19 +35,8 @@ rewrites_and name C D E x y z f h k = record { here = f _ _ _ h.here k.here; oth
 pub leaves_rewrites : (a b : Option Files) (name : List ℕ) (C D : List ℕ → List ℕ → Type 0) → ((u v : List ℕ) → C u v → D u v) → Leaves a b (Rewrites name C) → Leaves a b (Rewrites name D)
 leaves_rewrites a b name C D f h = leaves_then a b (Rewrites name C) (Rewrites name D) (λ x y k. rewrites_then name C D x y f k) h
 
-pub leaves_on : (a b c : Option Files) (name : List ℕ) (C D E : List ℕ → List ℕ → Type 0) → ((u v w : List ℕ) → C u v → D v w → E u w) → Leaves a b (Rewrites name C) → Leaves b c (Rewrites name D) → Leaves a c (Rewrites name E)
+pub leaves_on : (a b c : Option Files) (name : List ℕ) (C D E : List ℕ → List ℕ → Type 0) → ((u v w : List ℕ) → C u v → D v w → E u w) → Leaves a b (Rewrites name C) → Leaves b c (Rewrites name D)
+    → Leaves a c (Rewrites name E)
 leaves_on a b c name C D E f h k = leaves_and a b c (Rewrites name C) (Rewrites name D) (Rewrites name E) (λ x y z p q. rewrites_and name C D E x y z f p q) h k
 
 -- ---- a file that is made empty and then filled
-
-pub emptied_then : (a b c : Option Files) (name text : List ℕ) → Edits a b name Empties → Leaves b c (Rewrites name (Appends text)) → Leaves a c (Rewrites name (Becomes text))
-emptied_then a b c name text h k =
-    leaves_on a b c name Empties (Appends text) (Becomes text) (λ u v w none more. more ∙ ap (λ (t : List ℕ). t ++ text) none) (of_edits a b name Empties h) k
-
-pub emptied_part : (a b c : Option Files) (name text : List ℕ) → Edits a b name Empties → Leaves b c (Rewrites name (AppendsPrefix text)) → Leaves a c (Rewrites name (KeepsOrBecomesPart text))
-emptied_part a b c name text h k =
-    leaves_on a b c name Empties (AppendsPrefix text) (KeepsOrBecomesPart text) (λ u v w none more. inr (more.0, more.1 ∙ ap (λ (t : List ℕ). t ++ take more.0 text) none)) (of_edits a b name Empties h) k
-
-pub kept_or_emptied : (a b : Option Files) (name text : List ℕ) → Edits a b name KeepsOrEmpties → Leaves a b (Rewrites name (KeepsOrBecomesPart text))
-kept_or_emptied a b name text h =
-    leaves_rewrites a b name KeepsOrEmpties (KeepsOrBecomesPart text) (λ u v kept. elim kept [ inl same ↦ inl same | inr none ↦ inr (0, none) ]) (of_edits a b name KeepsOrEmpties h)

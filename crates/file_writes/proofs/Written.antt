@@ -1,21 +1,16 @@
 -- Files that are written one after another.
-use Rattle.std.proofs.Common.{◌≡◌, ◌≢◌, ◌⊎◌, ◌++◌, ◌∷◌, [], ◌+◌, ◌<◌, ◌≤◌, ◌∙◌, ℕ, zero, suc, Bool, true, false, List, Option, Some, None, All, cond, length, get_or, take, drop, refl, sym, ap, subst, inl, inr, arith, unwrap_or}
+use Rattle.std.proofs.Common.{◌≡◌, ◌≢◌, ◌++◌, ◌∷◌, [], ◌+◌, ◌∙◌, ℕ, suc, Bool, true, false, List, Option, Some, None, All, cond, length, get_or, take, drop, refl, sym, ap, subst, inl, inr, arith, unwrap_or}
 use Rattle.std.specs.Str.{bytes_eq}
-use Rattle.std.proofs.lemmas.List.{take-append-le, take_all, length-append, take-append-drop, append_assoc}
+use Rattle.std.proofs.lemmas.List.{take-append-le, take_all}
 use Rattle.std.proofs.lemmas.List.Elements.{All-nil, All-cons, All-push}
-use Rattle.std.proofs.Math.Seq.{take-suc, drop-cons}
 use Rattle.std.proofs.lemmas.Slice.Eq.{bytes_eq-Decides}
-use Rattle.desk_io.specs.Files.{Files, HasDistinctNames, content, file_at}
-use Rattle.file_writes.specs.Writes.{Becomes, BecomesPart, KeepsOrBecomesPart, Leaves, Rewrites, IsWritten, IsPartlyWritten, KeepOthers, AreWritten, ArePartlyWritten}
-use Rattle.file_writes.proofs.Rewriting.{leaves_and, leaves_then}
+use Rattle.desk_io.specs.Files.{Files, HasDistinctNames, file_at}
+use Rattle.file_writes.specs.Writes.{Becomes, KeepsOrBecomesPart, Rewrites, IsWritten, IsPartlyWritten, KeepOthers, AreWritten, ArePartlyWritten}
 
 abbrev File : Type 0
 File = List ℕ × List ℕ
 
 -- ---- names
-
-same : (name : List ℕ) → bytes_eq name name ≡ true
-same name = (bytes_eq-Decides name name).1 refl
 
 apart : (a b : List ℕ) → bytes_eq a b ≡ false → b ≢ a
 apart a b e q = let t : bytes_eq a b ≡ true = (bytes_eq-Decides a b).1 (sym q) in absurd (cc)
@@ -28,7 +23,8 @@ differ a b ne =
 -- what isn't among a file and others is that file's name no more
 head_apart : (f : File) (fs : Files) (name : List ℕ) → file_at (f ∷ fs) name ≡ None → (bytes_eq name f.0 ≡ false) × (file_at fs name ≡ None)
 head_apart f fs name =
-    let go : (r : Bool) → bytes_eq name f.0 ≡ r → cond r (Some f.1) (file_at fs name) ≡ None → (bytes_eq name f.0 ≡ false) × (file_at fs name ≡ None) = elim [ true ↦ λ is e. absurd (cc) | false ↦ λ is e. (is, e) ] in
+    let go : (r : Bool) → bytes_eq name f.0 ≡ r → cond r (Some f.1) (file_at fs name) ≡ None → (bytes_eq name f.0 ≡ false) × (file_at fs name ≡ None) =
+    elim [ true ↦ λ is e. absurd (cc) | false ↦ λ is e. (is, e) ] in
     go (bytes_eq name f.0) refl
 
 none_at : (files : Files) (name : List ℕ) → file_at files name ≡ None → All (λ f. f.0 ≢ name) files
@@ -70,7 +66,8 @@ drop_whole (f ∷ fs) = drop_whole fs
 -- ---- one step
 
 -- those before stay as they are
-stay : (done : Files) (file : File) (C : List ℕ → List ℕ → Type 0) (start mid new : Files) → file_at done file.0 ≡ None → AreWritten done start mid → Rewrites file.0 C mid new → All (IsWritten start new) done
+stay : (done : Files) (file : File) (C : List ℕ → List ℕ → Type 0) (start mid new : Files) → file_at done file.0 ≡ None → AreWritten done start mid → Rewrites file.0 C mid new
+    → All (IsWritten start new) done
 stay done file C start mid new fresh h r = λ k d l.
     ap (λ (o : Option (List ℕ)). unwrap_or o []) (r.others (get_or done k d).0 (none_at done file.0 fresh k d l)) ∙ h.all k d l
 
@@ -79,20 +76,23 @@ others_stay done file C start mid new h r = λ name e.
     let s = split_at done file [] name e in
     r.others name (λ q. s.1 (sym q)) ∙ h.others name s.0
 
-pub step : (done : Files) (file : File) (start mid new : Files) → file_at done file.0 ≡ None → AreWritten done start mid → Rewrites file.0 (Becomes file.1) mid new → AreWritten (done ++ file ∷ []) start new
+pub step : (done : Files) (file : File) (start mid new : Files) → file_at done file.0 ≡ None → AreWritten done start mid → Rewrites file.0 (Becomes file.1) mid new
+    → AreWritten (done ++ file ∷ []) start new
 step done file start mid new fresh h r = record {
   all = All-push (IsWritten start new) done file (stay done file (Becomes file.1) start mid new fresh h r) r.here;
   others = others_stay done file (Becomes file.1) start mid new h r;
 }
 
 -- what the file at a place has, where its writing was cut short
-part_here : (done : Files) (file : File) (start mid new : Files) → file_at done file.0 ≡ None → AreWritten done start mid → Rewrites file.0 (KeepsOrBecomesPart file.1) mid new → IsPartlyWritten start new file
+part_here : (done : Files) (file : File) (start mid new : Files) → file_at done file.0 ≡ None → AreWritten done start mid → Rewrites file.0 (KeepsOrBecomesPart file.1) mid new
+    → IsPartlyWritten start new file
 part_here done file start mid new fresh h r = elim r.here [
   | inl kept ↦ inl (kept ∙ ap (λ (o : Option (List ℕ)). unwrap_or o []) (h.others file.0 fresh))
   | inr part ↦ inr part
 ]
 
-pub cut : (done : Files) (file : File) (rest start mid new : Files) → file_at done file.0 ≡ None → AreWritten done start mid → Rewrites file.0 (KeepsOrBecomesPart file.1) mid new → ArePartlyWritten (done ++ file ∷ rest) start new
+pub cut : (done : Files) (file : File) (rest start mid new : Files) → file_at done file.0 ≡ None → AreWritten done start mid → Rewrites file.0 (KeepsOrBecomesPart file.1) mid new
+    → ArePartlyWritten (done ++ file ∷ rest) start new
 cut done file rest start mid new fresh h r =
     let taken : take (length done) (done ++ file ∷ rest) ≡ done = take-append-le (length done) done (file ∷ rest) (omega arith) ∙ take_all (length done) done (omega arith) in
     let begun : take (length done + 1) (done ++ file ∷ rest) ≡ done ++ file ∷ [] = take_one done file rest in
@@ -100,7 +100,9 @@ cut done file rest start mid new fresh h r =
     record {
       place = length done;
       all = subst (λ (fs : Files). All (IsWritten start new) fs) (sym taken) (stay done file (KeepsOrBecomesPart file.1) start mid new fresh h r);
-      part = subst (λ (fs : Files). All (IsPartlyWritten start new) (take 1 fs)) (sym left) (All-cons (IsPartlyWritten start new) file [] (part_here done file start mid new fresh h r) (All-nil (IsPartlyWritten start new)));
+      part =
+          subst (λ (fs : Files). All (IsPartlyWritten start new) (take 1 fs)) (sym left) (All-cons (IsPartlyWritten start new) file [] (part_here done file start mid new fresh h r)
+          (All-nil (IsPartlyWritten start new)));
       others = subst (λ (fs : Files). KeepOthers start new fs) (sym begun) (others_stay done file (KeepsOrBecomesPart file.1) start mid new h r);
     }
 

@@ -18,10 +18,11 @@ use Rattle.clap.specs.declared.parser.matches.ArgMatches.{ArgMatches}
 use Rattle.clap.specs.declared.error.kind.ErrorKind.{ErrorKind}
 use Rattle.form_words.specs.Reads.{Reads}
 use Rattle.std.proofs.lemmas.List.Elements.{All-head, All-tail, All-nil, All-cons}
+use Rattle.std.proofs.Math.Bool.{and_assoc}
 use Rattle.clap.specs.declared.error.Error.{Error}
 use Rattle.clap.specs.declared.error.kind.ErrorKind.TheVariants as kind
 use Rattle.form_words.specs.Commands.{ParsesTo, is_nothing as none}
-use Rattle.form_words.specs.Line.{Text, Form, Use, free, uses, line, only_if, has_name, are_new, are_there, value_of}
+use Rattle.form_words.specs.Line.{Text, Form, Use, free, uses, line, only_if, has_name, are_new, are_there, value_under}
 use Rattle.form_words.specs.Served.{HasPlaces, shape}
 use Rattle.form_words.proofs.Walks.{none-or_else, passes, rows_at_end, row, Serves, Agrees, walks}
 
@@ -35,10 +36,6 @@ pub record Builds (R : List Rule) (f : Form) : Type 0 where
   pub places : HasPlaces R 1 f.places
   pub defaults : NoDefaults R
   pub needs : (g : Text → Bool) → not (list_any (λ a. a.required && not (g a.id)) R) ≡ (list_all g f.places && list_all g f.required)
-
-and_assoc : (a b c : Bool) → ((a && b) && c) ≡ (a && (b && c))
-and_assoc true b c = refl
-and_assoc false b c = refl
 
 passes_is : (s : Shape) (w : Walk) (words : List Text) → s.args_override_self ≡ false
     → (none (walk_fault s [] w words) && none (settle_fault s.rules false (fold (walked s.rules []) w words).held)) ≡ passes s w words
@@ -76,7 +73,7 @@ given_is id (u ∷ us) =
       | false ↦ given_is id us
     ]
 
-pub first_is : (id : Text) (us : List Use) → first_of id (map row us) ≡ value_of id us
+pub first_is : (id : Text) (us : List Use) → first_of id (map row us) ≡ value_under id us
 first_is id [] = refl
 first_is id (u ∷ us) =
     elim (bytes_eq u.0 id) as (λ b. option_and_then (λ r. slice_get r.values 0) (cond b (Some (row u)) (find (λ r. bytes_eq r.id id) (map row us)))
@@ -111,7 +108,8 @@ level_is title R words d =
     let last : none (or_else (defaults_fault (settled R end).rows R) (check_fault s (finished R end) false)) ≡ none (check_fault s (finished R end) false) =
     rw (no_faults (settled R end).rows R d) refl in
     none-or_else (walk_fault s [] (walk_from nothing_held) words) (or_else (settle_fault R false end) (or_else (defaults_fault (settled R end).rows R) (check_fault s (finished R end) false)))
-    ∙ ap (λ b. none (walk_fault s [] (walk_from nothing_held) words) && b) (none-or_else (settle_fault R false end) (or_else (defaults_fault (settled R end).rows R) (check_fault s (finished R end) false)))
+    ∙ ap (λ b. none (walk_fault s [] (walk_from nothing_held) words) && b) (none-or_else (settle_fault R false end)
+    (or_else (defaults_fault (settled R end).rows R) (check_fault s (finished R end) false)))
     ∙ sym (and_assoc (none (walk_fault s [] (walk_from nothing_held) words)) (none (settle_fault R false end)) _)
     ∙ ap₂ (λ a b. a && b) (passes_is s (walk_from nothing_held) words refl) (last ∙ checks)
 

@@ -38,7 +38,8 @@ pub names_found : (R : List Rule) (os : List (Text × Bool)) → HaveIds R os �
 names_found R [] ids name e = e
 names_found R (o ∷ os) ids name e = go (bytes_eq o.0 name) refl (λ f. names_found R os ids.1 name f)
   where
-    go : (b : Bool) → bytes_eq o.0 name ≡ b → (arg_by_long R name ≡ option_named os name → ByName R name (has_text (map (λ x. x.0) os) name)) → ByName R name (bytes_eq o.0 name || has_text (map (λ x. x.0) os) name)
+    go : (b : Bool) → bytes_eq o.0 name ≡ b → (arg_by_long R name ≡ option_named os name → ByName R name (has_text (map (λ x. x.0) os) name))
+        → ByName R name (bytes_eq o.0 name || has_text (map (λ x. x.0) os) name)
     go true k rest =
         let is = (bytes_eq-Decides o.0 name).0 k in
         let found : arg_by_long R name ≡ Some (taken o) = e ∙ ap (λ b. cond (b || false) (Some (taken o)) (option_named os name)) k in

@@ -10,6 +10,8 @@ use Rattle.std.proofs.lemmas.Str.{encodes-chars, chars_past_char}
 use Rattle.std.specs.List.{All}
 use Rattle.std.proofs.lemmas.List.Elements.{All-head, All-tail}
 use Rattle.std.specs.Str.{bytes_eq, chars}
+use Rattle.std.proofs.lemmas.Bool.{or_parts}
+use Rattle.std.proofs.Math.Bool.{and_assoc, and-true, and-false}
 use Rattle.clap.specs.Lexer.{long_of, short_of, usize_max}
 use Rattle.clap.specs.Kinds.{Kinds, or_else}
 use Rattle.clap.specs.Walk.{Held, Rule, Row, Walk, arg_by_id, arg_by_index, arg_by_long, arg_by_short, settled, walked, idle, option as waits_for, is_pending, settled_rows, Waiting, value, to_positional, pushed, has_row, more_values, at_row, with_values, without, used, reading_by}
@@ -43,15 +45,11 @@ pub fault_new : (id : Text) (long : Option Text) (index : Option ℕ) (required 
 fault_new id long index required v rows =
     elim (has_row id rows) as (λ b. none (or_else (cond (b && true) (kind.ArgumentConflict ∷ []) []) []) ≡ not b) [ true ↦ refl | false ↦ refl ]
 
-or_false : (a b : Bool) → (a || b) ≡ false → (a ≡ false) × (b ≡ false)
-or_false true b e = cc
-or_false false b e = (refl, e)
-
 -- a row that isn't there goes to the end
 row_at_end : (id : Text) (change : Row → List Row) (missing rows : List Row) → has_row id rows ≡ false → at_row id change missing rows ≡ rows ++ missing
 row_at_end id change missing [] e = refl
 row_at_end id change missing (r ∷ rs) e =
-    let both = or_false (bytes_eq r.id id) (has_row id rs) e in
+    let both = or_parts (bytes_eq r.id id) (has_row id rs) e in
     rw both.0 (ap (λ t. r ∷ t) (row_at_end id change missing rs both.1))
 
 pub append_nil : {X : Type 0} (xs : List X) → xs ++ [] ≡ xs
@@ -121,18 +119,6 @@ pub record Serves (R : List Rule) (options : List Text) : Type 0 where
   pub by_name : (name : Text) → ByName R name (has_text options name)
   pub by_short : (x : ℕ) → arg_by_short R x ≡ None
 
-and_true : (b : Bool) → (b && true) ≡ b
-and_true true = refl
-and_true false = refl
-
-and_false : (b : Bool) → (b && false) ≡ false
-and_false true = refl
-and_false false = refl
-
-and_assoc : (a b c : Bool) → ((a && b) && c) ≡ (a && (b && c))
-and_assoc true b c = refl
-and_assoc false b c = refl
-
 same_text : (t : Text) → bytes_eq t t ≡ true
 same_text t = (bytes_eq-Decides t t).1 refl
 
@@ -185,15 +171,12 @@ module _ (title : Text) (R : List Rule) (options : List Text) where
       ]
       )
     where
-      same_end : (t : Bool) → state (settled_rows R pending rows) (Some (id, x ∷ [])) idle (t || false) (min (p + 1) usize_max) ≡ state (settled_rows R pending rows) (Some (id, x ∷ [])) idle t (min (p + 1) usize_max)
+      same_end : (t : Bool) → state (settled_rows R pending rows) (Some (id, x ∷ [])) idle (t || false) (min (p + 1) usize_max)
+          ≡ state (settled_rows R pending rows) (Some (id, x ∷ [])) idle t (min (p + 1) usize_max)
       same_end true = refl
       same_end false = refl
 
   -- after `--`
-
-  ended_turn : (rows : List Row) (pending : Pending) (waiting : Waiting) (p : ℕ) (x : Text)
-      → none (turn_fault s [] (state rows pending waiting true p) x) ≡ none (step_fault s p (held rows pending) value)
-  ended_turn rows pending waiting p x = refl
 
   ended_next : (rows : List Row) (pending : Pending) (waiting : Waiting) (p : ℕ) (x : Text)
       → walked R [] (state rows pending waiting true p) x ≡ to_positional R (arg_by_index R p) x (state rows pending waiting true p) (held rows pending)
@@ -227,9 +210,11 @@ module _ (title : Text) (R : List Rule) (options : List Text) where
       → none (turn_fault s [] (state rows pending waiting false p) x)
       ≡ (settles rows pending && none (use_fault false (taker n long i required) (v ∷ []) (settled_rows R pending rows)))
   given_turn rows pending waiting p x n v long i required (inl w) e l a =
-      rw (w, e, l, a) (none-or_else (or_else (settle_fault R false (held rows pending)) (use_fault false (taker n long i required) (v ∷ []) (settled_rows R pending rows))) [] ∙ and_true _ ∙ none-or_else _ _)
+      rw (w, e, l, a) (none-or_else (or_else (settle_fault R false (held rows pending)) (use_fault false (taker n long i required) (v ∷ []) (settled_rows R pending rows))) [] ∙ and-true _
+      ∙ none-or_else _ _)
   given_turn rows pending waiting p x n v long i required (inr w) e l a =
-      rw (w.1, e, l, a) (none-or_else (or_else (settle_fault R false (held rows pending)) (use_fault false (taker n long i required) (v ∷ []) (settled_rows R pending rows))) [] ∙ and_true _ ∙ none-or_else _ _)
+      rw (w.1, e, l, a) (none-or_else (or_else (settle_fault R false (held rows pending)) (use_fault false (taker n long i required) (v ∷ []) (settled_rows R pending rows))) [] ∙ and-true _
+      ∙ none-or_else _ _)
 
   given_next : (rows : List Row) (pending : Pending) (waiting : Waiting) (p : ℕ) (x n v : Text) (long : Option Text) (i : Option ℕ) (required : Bool) → Asks waiting
       → bytes_eq x hyphens ≡ false → long_of x ≡ Some (n, Some v) → arg_by_long R n ≡ Some (taker n long i required)
@@ -242,8 +227,8 @@ module _ (title : Text) (R : List Rule) (options : List Text) where
   named_turn : (rows : List Row) (pending : Pending) (waiting : Waiting) (p : ℕ) (x n : Text) (long : Option Text) (i : Option ℕ) (required : Bool) → Asks waiting
       → bytes_eq x hyphens ≡ false → long_of x ≡ Some (n, None) → arg_by_long R n ≡ Some (taker n long i required)
       → none (turn_fault s [] (state rows pending waiting false p) x) ≡ settles rows pending
-  named_turn rows pending waiting p x n long i required (inl w) e l a = rw (w, e, l, a) (none-or_else (settle_fault R false (held rows pending)) [] ∙ and_true _)
-  named_turn rows pending waiting p x n long i required (inr w) e l a = rw (w.1, e, l, a) (none-or_else (settle_fault R false (held rows pending)) [] ∙ and_true _)
+  named_turn rows pending waiting p x n long i required (inl w) e l a = rw (w, e, l, a) (none-or_else (settle_fault R false (held rows pending)) [] ∙ and-true _)
+  named_turn rows pending waiting p x n long i required (inr w) e l a = rw (w.1, e, l, a) (none-or_else (settle_fault R false (held rows pending)) [] ∙ and-true _)
 
   named_next : (rows : List Row) (pending : Pending) (waiting : Waiting) (p : ℕ) (x n : Text) (long : Option Text) (i : Option ℕ) (required : Bool) → Asks waiting
       → bytes_eq x hyphens ≡ false → long_of x ≡ Some (n, None) → arg_by_long R n ≡ Some (taker n long i required)
@@ -297,7 +282,7 @@ module _ (title : Text) (R : List Rule) (options : List Text) where
   Lags ok later settled rows later_rows = (ok ≡ (settled && later)) × (ok ≡ true → rows ≡ later_rows)
 
   lag_fails : (ok later settled : Bool) (rows later_rows : List Row) → ok ≡ false → later ≡ false → Lags ok later settled rows later_rows
-  lag_fails ok later settled rows later_rows e l = (e ∙ sym (ap (λ b. settled && b) l ∙ and_false settled), λ t. let bad : false ≡ true = sym e ∙ t in cc)
+  lag_fails ok later settled rows later_rows e l = (e ∙ sym (ap (λ b. settled && b) l ∙ and-false settled), λ t. let bad : false ≡ true = sym e ∙ t in cc)
 
   abbrev LagsAt : List Row → Pending → Waiting → Bool → ℕ → List Text → Type 0
   LagsAt rows pending waiting t p words = Lags (passes s (state rows pending waiting t p) words) (passes s (state (settled_rows R pending rows) None waiting t p) words) (settles rows pending)
@@ -314,7 +299,7 @@ module _ (title : Text) (R : List Rule) (options : List Text) where
   )
 
   lag_ended : (words : List Text) (rows : List Row) (pending : Pending) (waiting : Waiting) (p : ℕ) (places : List Text) → HasPlaces R p places → LagsAt rows pending waiting true p words
-  lag_ended [] rows pending waiting p places has = (sym (and_true _), λ _. refl)
+  lag_ended [] rows pending waiting p places has = (sym (and-true _), λ _. refl)
   lag_ended (x ∷ xs) rows pending waiting p [] has =
       lag_fails _ _ _ _ _ (step_fails (state rows pending waiting true p) x xs (no_place p (held rows pending) has))
       (step_fails (state (settled_rows R pending rows) None waiting true p) x xs (no_place p (held (settled_rows R pending rows) None) has))
@@ -325,8 +310,9 @@ module _ (title : Text) (R : List Rule) (options : List Text) where
       (place_turn p (settled_rows R pending rows) None id (Some p) true has.0)
       (ended_next (settled_rows R pending rows) None waiting p x ∙ place_next p x (settled_rows R pending rows) None waiting true id (Some p) true has.0)
 
-  lag_free : Serves R options → (words : List Text) → All IsUtf8 words → (rows : List Row) (pending : Pending) (p : ℕ) (places : List Text) → HasPlaces R p places → LagsAt rows pending idle false p words
-  lag_free serves [] utf8 rows pending p places has = (sym (and_true _), λ _. refl)
+  lag_free : Serves R options → (words : List Text) → All IsUtf8 words → (rows : List Row) (pending : Pending) (p : ℕ) (places : List Text) → HasPlaces R p places
+      → LagsAt rows pending idle false p words
+  lag_free serves [] utf8 rows pending p places has = (sym (and-true _), λ _. refl)
   lag_free serves (x ∷ xs) utf8 rows pending p places has = by_look_of (look x) (looks x) places has
     where
       later : List Row
@@ -360,7 +346,8 @@ module _ (title : Text) (R : List Rule) (options : List Text) where
           let l1 : passes s (state rows pending idle false p) (x ∷ xs) ≡ ((settles rows pending && f) && passes s nw xs) = step_passes (state rows pending idle false p) nw x xs _
           (given_turn rows pending idle p x n v (Some n) None by.0 (inl refl) e l by.1)
           (given_next rows pending idle p x n v (Some n) None by.0 (inl refl) e l by.1) in
-          let l2 : passes s (state (settled_rows R pending rows) None idle false p) (x ∷ xs) ≡ ((true && f) && passes s nw xs) = step_passes (state (settled_rows R pending rows) None idle false p) nw x xs _
+          let l2 : passes s (state (settled_rows R pending rows) None idle false p) (x ∷ xs) ≡ ((true && f) && passes s nw xs) =
+          step_passes (state (settled_rows R pending rows) None idle false p) nw x xs _
           (given_turn (settled_rows R pending rows) None idle p x n v (Some n) None by.0 (inl refl) e l by.1)
           (given_next (settled_rows R pending rows) None idle p x n v (Some n) None by.0 (inl refl) e l by.1) in (
             l1 ∙ and_assoc (settles rows pending) f (passes s nw xs) ∙ ap (λ b. settles rows pending && b) (sym l2),
@@ -371,13 +358,15 @@ module _ (title : Text) (R : List Rule) (options : List Text) where
       by_look_of : (l : Look) → Looks x l → (places : List Text) → HasPlaces R p places → LagsAt rows pending idle false p (x ∷ xs)
       by_look_of ends k places has =
           let rest = lag_ended xs rows pending idle p places has in
-          let l1 = step_passes (state rows pending idle false p) (state rows pending idle true p) x xs true (ends_turn rows pending idle p x (inl refl) k) (ends_next rows pending idle p x (inl refl) k) in
+          let l1 = step_passes (state rows pending idle false p) (state rows pending idle true p) x xs true (ends_turn rows pending idle p x (inl refl) k)
+          (ends_next rows pending idle p x (inl refl) k) in
           let l2 = step_passes (state (settled_rows R pending rows) None idle false p) (state (settled_rows R pending rows) None idle true p) x xs true
           (ends_turn (settled_rows R pending rows) None idle p x (inl refl) k) (ends_next (settled_rows R pending rows) None idle p x (inl refl) k) in (
             l1 ∙ rest.0 ∙ ap (λ b. settles rows pending && b) (sym l2),
             λ ok. step_rows (state rows pending idle false p) (state rows pending idle true p) x xs (ends_next rows pending idle p x (inl refl) k)
                 ∙ rest.1 (sym l1 ∙ ok)
-                ∙ sym (step_rows (state (settled_rows R pending rows) None idle false p) (state (settled_rows R pending rows) None idle true p) x xs (ends_next (settled_rows R pending rows) None idle p x (inl refl) k)),
+                ∙ sym (step_rows (state (settled_rows R pending rows) None idle false p) (state (settled_rows R pending rows) None idle true p) x xs
+                (ends_next (settled_rows R pending rows) None idle p x (inl refl) k)),
           )
       by_look_of (option n v) k places has = by_option n v (has_text options n) (serves.by_name n) k.0 k.1
       by_look_of dashed k places has =
@@ -406,10 +395,6 @@ module _ (title : Text) (R : List Rule) (options : List Text) where
   map_row_end : (us : List Use) (u : Use) → map row (us ++ u ∷ []) ≡ map row us ++ row u ∷ []
   map_row_end [] u = refl
   map_row_end (x ∷ us) u = ap (λ t. row x ∷ t) (map_row_end us u)
-
-  abbrev pub flag : Mode → Bool
-  flag ended = true
-  flag _ = false
 
   abbrev pub start : Mode → List Use → ℕ → Walk
   start free us p = state (map row us) None idle false p
@@ -463,10 +448,6 @@ module _ (title : Text) (R : List Rule) (options : List Text) where
       agrees_as us (passes s w (x ∷ xs)) (passes s nw xs) (rows_at_end s w (x ∷ xs)) (rows_at_end s nw xs) t
       (step_passes w nw x xs true e n) (step_rows w nw x xs n) h
 
-  abbrev is_free : Bool → Mode
-  is_free true = ended
-  is_free false = free
-
   -- a value that waits, between words
   pended : (f : Bool) (words : List Text) (us : List Use) (id v : Text) (p : ℕ) (long : Option Text) (i : Option ℕ) (required : Bool) (t : Option (List Use))
       → arg_by_id R id ≡ Some (taker id long i required)
@@ -511,7 +492,8 @@ module _ (title : Text) (R : List Rule) (options : List Text) where
           (lag_ended xs (map row us) (Some (id, x ∷ [])) idle (min (p + 1) usize_max) ids has.2)
           (rest ended tt (us ++ (id, x) ∷ []) (min (p + 1) usize_max) ids has.2))
 
-      by_option : (places : List Text) → HasPlaces R p places → Walks xs → (n : Text) (v : Option Text) (b : Bool) → has_text options n ≡ b → ByName R n b → bytes_eq x hyphens ≡ false → long_of x ≡ Some (n, v)
+      by_option : (places : List Text) → HasPlaces R p places → Walks xs → (n : Text) (v : Option Text) (b : Bool) → has_text options n ≡ b → ByName R n b → bytes_eq x hyphens ≡ false
+          → long_of x ≡ Some (n, v)
           → AgreesAt free us p (x ∷ xs) (by_name b n v places (uses options xs))
       by_option places has rest n v false k by e l = step_fails (start free us p) x xs (unknown_turn (map row us) None idle p x n v (inl refl) e l by)
       by_option places has rest n None true k by e l =
@@ -547,7 +529,8 @@ module _ (title : Text) (R : List Rule) (options : List Text) where
       unmet : (o : Text) → (required : Bool) → arg_by_id R o ≡ Some (taker o (Some o) None required) → settles (map row us) (Some (o, [])) ≡ false
       unmet o required by = rw by refl
 
-      by_value_of : (o : Text) → has_text options o ≡ true → (l : Look) → Looks x l → (places : List Text) → HasPlaces R p places → Walks xs → AgreesAt (after o) us p (x ∷ xs) (as_value l (o, x) places (uses options xs))
+      by_value_of : (o : Text) → has_text options o ≡ true → (l : Look) → Looks x l → (places : List Text) → HasPlaces R p places → Walks xs
+          → AgreesAt (after o) us p (x ∷ xs) (as_value l (o, x) places (uses options xs))
       by_value_of o known ends k places has rest =
           let by = rw known at (serves.by_name o) in
           let lag = lag_ended xs (map row us) (Some (o, [])) (waits_for o) p places has in

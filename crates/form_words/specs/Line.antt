@@ -128,5 +128,5 @@ line f words = option_and_then (λ us. only_if (are_new [] us && are_there f us)
     (uses f.options words f.places free)
 
 -- the value under a name
-abbrev pub value_of : Text → List Use → Option Text
-value_of name us = option_map (λ u. u.1) (find (λ u. bytes_eq u.0 name) us)
+abbrev pub value_under : Text → List Use → Option Text
+value_under name us = option_map (λ u. u.1) (find (λ u. bytes_eq u.0 name) us)

@@ -2,28 +2,14 @@
 use Rattle.std.proofs.Common.{◌≡◌, ◌++◌, ◌&&◌, ◌||◌, not, cond, List, [], ◌∷◌, Bool, true, false, refl, sym, ap, ap₂, ◌∙◌, subst, append_assoc, append-nil, inl, inr, ◌⊎◌}
 use Rattle.std.proofs.Common.{ℕ, ltb, length, Option, Some, None, arith, suc, ◌+◌}
 use Rattle.std.proofs.lemmas.Bool.Decides.{nat_tests}
-use Rattle.std.proofs.lemmas.Bool.{lt-ltb, cases_Bool}
+use Rattle.std.proofs.lemmas.Bool.{lt-ltb, cases_Bool, or_left, or_right, or_cases, or_parts, false_from_ne_true}
 use Rattle.std.proofs.lemmas.List.Folds.{list_any-append}
 use Rattle.std.specs.List.{list_any, filter, position, position_or_len}
+use Rattle.std.proofs.Math.Bool.{or-false, and-not_self}
+use Rattle.std.specs.Cmp.{both_ways}
 use Rattle.front_archive.specs.Best.{dominates, equals, is_beaten, best_from, best, offered}
 
 -- plain tests
-or_left : (a b : Bool) → a ≡ true → (a || b) ≡ true
-or_left true b e = refl
-or_left false b e = absurd (cc)
-
-or_right : (a b : Bool) → b ≡ true → (a || b) ≡ true
-or_right true b e = refl
-or_right false b e = e
-
-or_false : (a : Bool) → (a || false) ≡ a
-or_false true = refl
-or_false false = refl
-
-or_cases : (a b : Bool) → (a || b) ≡ true → (a ≡ true) ⊎ (b ≡ true)
-or_cases true b e = inl refl
-or_cases false b e = inr e
-
 or_middle : (a b c : Bool) → ((a || b) || c) ≡ ((a || c) || b)
 or_middle true b c = refl
 or_middle false true true = refl
@@ -37,10 +23,6 @@ split_cover true true = refl
 split_cover true false = refl
 split_cover false b = refl
 
-never_itself : (a : Bool) → (a && not a) ≡ false
-never_itself true = refl
-never_itself false = refl
-
 not_back : (a b : Bool) → b ≡ false → not (a && not b) ≡ not a
 not_back true b e = ap (λ c. not (not c)) e
 not_back false b e = refl
@@ -50,14 +32,6 @@ or_four true b c d = refl
 or_four false true true d = refl
 or_four false true false d = refl
 or_four false false c d = refl
-
-or_false_left : (a b : Bool) → (a || b) ≡ false → a ≡ false
-or_false_left true b e = e
-or_false_left false b e = refl
-
-or_false_right : (a b : Bool) → (a || b) ≡ false → b ≡ false
-or_false_right true b e = absurd (cc)
-or_false_right false b e = e
 
 and_both : (a b : Bool) → a ≡ true → b ≡ false → (a && not b) ≡ true
 and_both a b p q = ap₂ (λ x y. x && not y) p q
@@ -75,15 +49,6 @@ and_right : (a b : Bool) → (a && not b) ≡ true → b ≡ false
 and_right true true e = absurd (cc)
 and_right true false e = refl
 and_right false b e = absurd (cc)
-
-pub same_bool : (a b : Bool) → (a ≡ true → b ≡ true) → (b ≡ true → a ≡ true) → a ≡ b
-same_bool true b f g = sym (f refl)
-same_bool false true f g = g refl
-same_bool false false f g = refl
-
-pub is_false : (a : Bool) → (a ≡ true → ⊥) → a ≡ false
-is_false true n = absurd (n refl)
-is_false false n = refl
 
 module _ {X : Type 0} where
   cond_append : (b : Bool) (x : X) (xs ys t : List X) → cond b xs (x ∷ ys) ++ t ≡ cond b (xs ++ t) (x ∷ (ys ++ t))
@@ -113,7 +78,7 @@ module _ {X : Type 0} where
 
   none_of : (p : X → Bool) (xs : List X) → list_any p xs ≡ false → Every (λ x. p x ≡ false) xs
   none_of p [] e = tt
-  none_of p (x ∷ xs) e = (or_false_left (p x) _ e, none_of p xs (or_false_right (p x) _ e))
+  none_of p (x ∷ xs) e = let parts = or_parts (p x) _ e in (parts.0, none_of p xs parts.1)
 
   filter_whole : (p : X → Bool) (xs : List X) → Every (λ x. p x ≡ true) xs → filter p xs ≡ xs
   filter_whole p [] a = refl
@@ -137,7 +102,7 @@ module _ {X : Type 0} (cov : X → X → Bool) (trans : (a b c : X) → cov a b 
   beaten_snoc : (all e : List X) (m x : X) → is_beaten cov (all ++ m ∷ []) e x ≡ (is_beaten cov all e x || dominates cov m x)
   beaten_snoc all e m x =
       let d = λ (y : X). dominates cov y x in
-      ap (λ b. b || list_any (λ y. equals cov y x) e) (list_any-append d all (m ∷ []) ∙ ap (λ b. list_any d all || b) (or_false (d m)))
+      ap (λ b. b || list_any (λ y. equals cov y x) e) (list_any-append d all (m ∷ []) ∙ ap (λ b. list_any d all || b) (or-false (d m)))
       ∙ or_middle (list_any d all) (d m) (list_any (λ y. equals cov y x) e)
 
   -- one more that may dominate
@@ -153,7 +118,7 @@ module _ {X : Type 0} (cov : X → X → Bool) (trans : (a b c : X) → cov a b 
 
   unbeaten : (all e xs : List X) → Every (λ x. list_any (λ y. dominates cov y x) all ≡ false) (best_from cov all e xs)
   unbeaten all e [] = tt
-  unbeaten all e (x ∷ xs) = every_cond _ (is_beaten cov all e x) x _ (or_false_left _ _) (unbeaten all (e ++ x ∷ []) xs)
+  unbeaten all e (x ∷ xs) = every_cond _ (is_beaten cov all e x) x _ (λ none. (or_parts (list_any (λ y. dominates cov y x) all) _ none).0) (unbeaten all (e ++ x ∷ []) xs)
 
   any_cond : (p : X → Bool) (b : Bool) (x : X) (xs ys : List X) → (list_any p xs ≡ true → list_any p ys ≡ true) → list_any p (cond b xs (x ∷ xs)) ≡ true → (p x || list_any p ys) ≡ true
   any_cond p true x xs ys f e = or_right (p x) _ (f e)
@@ -172,7 +137,7 @@ module _ {X : Type 0} (cov : X → X → Bool) (trans : (a b c : X) → cov a b 
   any_dominates : (m y : X) (xs : List X) → cov m y ≡ true → cov y m ≡ false → list_any (λ x. cov x m) xs ≡ true → list_any (λ x. dominates cov x y) xs ≡ true
   any_dominates m y [] c n e = e
   any_dominates m y (x ∷ xs) c n e = elim (or_cases (cov x m) _ e) [
-    | inl h ↦ or_left (dominates cov x y) _ (and_both (cov x y) (cov y x) (trans x m y h c) (is_false (cov y x) (λ back. let yes = trans y x m back h in absurd (cc))))
+    | inl h ↦ or_left (dominates cov x y) _ (and_both (cov x y) (cov y x) (trans x m y h c) (false_from_ne_true (cov y x) (λ back. let yes = trans y x m back h in absurd (cc))))
     | inr t ↦ or_right (dominates cov x y) _ (any_dominates m y xs c n t)
   ]
 
@@ -199,23 +164,27 @@ module _ {X : Type 0} (cov : X → X → Bool) (trans : (a b c : X) → cov a b 
   new_beaten : (h : List X) (m : X) → is_beaten cov (h ++ m ∷ []) h m ≡ list_any (λ x. cov x m) h
   new_beaten h m =
       beaten_snoc h h m m
-      ∙ ap (λ b. is_beaten cov h h m || b) (never_itself (cov m m))
-      ∙ or_false (is_beaten cov h h m)
+      ∙ ap (λ b. is_beaten cov h h m || b) (and-not_self (cov m m))
+      ∙ or-false (is_beaten cov h h m)
       ∙ any_two (λ y. dominates cov y m) (λ y. equals cov y m) h
       ∙ any_same _ _ (λ x. split_cover (cov x m) (cov m x)) h
 
-  finish : (h : List X) (m : X) (c : Bool) → list_any (λ x. cov x m) (best cov h) ≡ c → filter (λ x. not (dominates cov m x)) (best cov h) ++ cond c [] (m ∷ []) ≡ cond c (best cov h) (filter (λ x. not (cov m x)) (best cov h) ++ m ∷ [])
-  finish h m true e = append-nil _ ∙ filter_whole _ _ (every_more _ _ (λ x n. not_and (cov m x) (cov x m) (λ d. let yes = any_dominates m x h (and_left _ _ d) (and_right _ _ d) (any_best _ h [] h e) in absurd (cc))) (best cov h) (unbeaten h [] h))
+  finish : (h : List X) (m : X) (c : Bool) → list_any (λ x. cov x m) (best cov h) ≡ c → filter (λ x. not (dominates cov m x)) (best cov h) ++ cond c [] (m ∷ [])
+      ≡ cond c (best cov h) (filter (λ x. not (cov m x)) (best cov h) ++ m ∷ [])
+  finish h m true e =
+      append-nil _ ∙ filter_whole _ _ (every_more _ _ (λ x n. not_and (cov m x) (cov x m) (λ d. let yes = any_dominates m x h (and_left _ _ d) (and_right _ _ d) (any_best _ h [] h e) in
+      absurd (cc))) (best cov h) (unbeaten h [] h))
   finish h m false e = ap (λ l. l ++ m ∷ []) (filter_same _ _ _ (every_more _ _ (λ x n. not_back (cov m x) (cov x m) n) (best cov h) (none_of _ _ e)))
 
   step : (h : List X) (m : X) → Covers h → best cov (h ++ m ∷ []) ≡ offered cov (best cov h) m
   step h m covers =
       let c = list_any (λ x. cov x m) (best cov h) in
       from_snoc (h ++ m ∷ []) [] h m
-      ∙ ap₂ (λ l b. l ++ cond b [] (m ∷ [])) (all_snoc h [] h m) (new_beaten h m ∙ same_bool _ _ (covers m) (any_best _ h [] h))
+      ∙ ap₂ (λ l b. l ++ cond b [] (m ∷ [])) (all_snoc h [] h m) (new_beaten h m ∙ both_ways _ _ (covers m) (any_best _ h [] h))
       ∙ finish h m c refl
 
-  covers_offered : (h : List X) (m y : X) (c : Bool) → list_any (λ x. cov x m) (best cov h) ≡ c → (list_any (λ x. cov x y) h ≡ true) ⊎ (cov m y ≡ true) → Covers h → list_any (λ x. cov x y) (cond c (best cov h) (filter (λ x. not (cov m x)) (best cov h) ++ m ∷ [])) ≡ true
+  covers_offered : (h : List X) (m y : X) (c : Bool) → list_any (λ x. cov x m) (best cov h) ≡ c → (list_any (λ x. cov x y) h ≡ true) ⊎ (cov m y ≡ true) → Covers h
+      → list_any (λ x. cov x y) (cond c (best cov h) (filter (λ x. not (cov m x)) (best cov h) ++ m ∷ [])) ≡ true
   covers_offered h m y true e (inl t) covers = covers y t
   covers_offered h m y true e (inr k) covers = any_covers m y (best cov h) k e
   covers_offered h m y false e cases covers =
@@ -227,7 +196,8 @@ module _ {X : Type 0} (cov : X → X → Bool) (trans : (a b c : X) → cov a b 
       ]
 
   covers_step : (h : List X) (m : X) → Covers h → Covers (h ++ m ∷ [])
-  covers_step h m covers y e = subst (λ l. list_any (λ x. cov x y) l ≡ true) (sym (step h m covers)) (covers_offered h m y _ refl (elim (or_cases _ _ (sym (list_any-append (λ x. cov x y) h (m ∷ [])) ∙ e)) [ inl t ↦ inl t | inr k ↦ inr (sym (or_false (cov m y)) ∙ k) ]) covers)
+  covers_step h m covers y e = subst (λ l. list_any (λ x. cov x y) l ≡ true) (sym (step h m covers))
+      (covers_offered h m y _ refl (elim (or_cases _ _ (sym (list_any-append (λ x. cov x y) h (m ∷ [])) ∙ e)) [ inl t ↦ inl t | inr k ↦ inr (sym (or-false (cov m y)) ∙ k) ]) covers)
 
   covers_all : (h rest : List X) → Covers h → Covers (h ++ rest)
   covers_all h [] c = subst Covers (sym (append-nil h)) c

@@ -1,9 +1,9 @@
 -- The test of vectors and "at most in each place".
 use Rattle.std.proofs.Common.{◌≡◌, ℕ, zero, suc, ◌&&◌, Bool, true, List, [], ◌∷◌, length, get_or, refl, ap₂, arith}
 use Rattle.std.proofs.lemmas.Bool.{leb-true, le-leb}
+use Rattle.std.specs.Cmp.{first_so, second_so}
 use Rattle.spec_model.specs.Vectors.{IsAtMost}
 use Rattle.front_archive.specs.AtMost.{at_most}
-use Rattle.front_archive.proofs.Offering.{both_left, both_right}
 
 none_at : (j : ℕ) → get_or {A = ℕ} [] j 0 ≡ 0
 none_at zero = refl
@@ -12,8 +12,8 @@ none_at (suc j) = refl
 pub each_place : (u v : List ℕ) → at_most u v ≡ true → IsAtMost u v
 each_place [] v e j = omega (arith, none_at j)
 each_place (x ∷ u) [] e j = absurd (cc)
-each_place (x ∷ u) (y ∷ v) e zero = leb-true x y (both_left _ _ e)
-each_place (x ∷ u) (y ∷ v) e (suc j) = each_place u v (both_right _ _ e) j
+each_place (x ∷ u) (y ∷ v) e zero = leb-true x y (first_so _ _ e)
+each_place (x ∷ u) (y ∷ v) e (suc j) = each_place u v (second_so _ _ e) j
 
 pub by_places : (u v : List ℕ) → length u ≡ length v → IsAtMost u v → at_most u v ≡ true
 by_places [] v long h = refl
@@ -25,7 +25,7 @@ same_both [] [] e g = refl
 same_both [] (y ∷ v) e g = absurd (cc)
 same_both (x ∷ u) [] e g = absurd (cc)
 same_both (x ∷ u) (y ∷ v) e g =
-    let a = leb-true x y (both_left _ _ e) in
-    let b = leb-true y x (both_left _ _ g) in
+    let a = leb-true x y (first_so _ _ e) in
+    let b = leb-true y x (first_so _ _ g) in
     let same : x ≡ y = omega (arith, a, b) in
-    ap₂ (λ (z : ℕ) (zs : List ℕ). z ∷ zs) same (same_both u v (both_right _ _ e) (both_right _ _ g))
+    ap₂ (λ (z : ℕ) (zs : List ℕ). z ∷ zs) same (same_both u v (second_so _ _ e) (second_so _ _ g))

@@ -111,7 +111,7 @@ impl Archive {
         ensures entered { IfOk result (λ o. o ≡ Offer.Entered) }
         ensures members { OnOk result (self.new.members ≡ filter (λ x. not (covers m x)) self.old.members ++ m ∷ []) }
         ensures width { self.new.width ≡ self.old.width }
-        ensures unchanged { OnErr result (self.new ≡ self.old) }
+        ensures err { OnErr result (self.new ≡ self.old) }
     {
         let Some(places) = self.members.len().checked_add(1) else {
             return Err(AllocError);
@@ -133,7 +133,7 @@ impl Archive {
         ensures members { OnOk result (self.new.members ≡ offered covers self.old.members m) }
         ensures best { OnOk result ((history : List Member) → self.old.members ≡ best covers history → self.new.members ≡ best covers (history ++ m ∷ [])) }
         ensures width { self.new.width ≡ self.old.width }
-        ensures unchanged { OnErr result (self.new ≡ self.old) }
+        ensures err { OnErr result (self.new ≡ self.old) }
     {
         match self.first_covering(&m) {
             Some(p) => Ok(Offer::Covered(p)),

@@ -44,6 +44,7 @@ distinct_within (u ∷ us) vs d h =
 
 -- ---- the found vectors are distinct
 
+-- no vector is found twice
 pub found_distinct : (s : SpecValue) (found : List EntryValue) → FoundPrefix s found → AreDistinct (vectors_in found)
 found_distinct s found p i j d lt l q =
     let len : length (vectors_in found) ≡ length found = length-map found vector_in in
@@ -60,6 +61,7 @@ found_distinct s found p i j d lt l q =
     let same : e.vector ≡ vector_of s (bits_of (get_or found j none).design) = ei ∙ (q ∙ (ej ∙ sym next.stated)) in
     next.first.meets.uncovered (record { vector = e.vector; there = there; below = subst (IsAtMost e.vector) same (at_most_itself e.vector) })
 
+-- no more entries are found than a list of all vectors has
 pub found_are_few : FoundAreFew
 found_are_few s found vs p all =
     let len : length (vectors_in found) ≡ length found = length-map found vector_in in

@@ -4,20 +4,21 @@ use Rattle.std.specs.Prelude.{Contains}
 use Rattle.std.proofs.lemmas.Bool.{cases_lt}
 use Rattle.std.proofs.lemmas.List.{length-map, get_or-map}
 use Rattle.std.proofs.lemmas.List.Elements.{Contains-get_or}
-use Rattle.spec_model.specs.Spec.{SpecValue, Bits, bits_of}
+use Rattle.spec_model.specs.Spec.{SpecValue, Bits}
 use Rattle.spec_model.specs.Rules.{IsValid}
 use Rattle.spec_model.specs.Vectors.{vector_of, IsAtMost}
 use Rattle.result_text.specs.Answers.{EntryValue}
 use Rattle.front_model.specs.Fronts.{vector_in, StandsBefore, IsEntry, Rise, AreApart}
 use Rattle.front_model.specs.Proofs.{HasBelow}
 use Rattle.spec_model.proofs.Vectors.{at_most_through}
-use Rattle.front_model.proofs.Exact.{below_or_none, vector_long, claim_is_front}
+use Rattle.front_model.proofs.Exact.{below_or_none, claim_is_front, entry_long}
 use Rattle.front_lists.specs.Lists.{AreLong, IsNext, FoundPrefix, FoundWhole, vectors_in, IsUndominated, IsKept, AreUndominated, front_with}
 use Rattle.front_lists.specs.Laws.{FoundHaveBelow, UndominatedAreClaim, WholeIsFront}
 use Rattle.front_lists.proofs.Least.{least}
 
 -- ---- entries and their vectors
 
+-- the vector of an entry is among those of its list
 pub vector_there : (es : List EntryValue) (e : EntryValue) → Contains es e → Contains (vectors_in es) e.vector
 vector_there es e c =
     (c.0, omega (arith, c.1, length-map es vector_in), get_or-map vector_in es c.0 e e.vector c.1 ∙ ap vector_in c.2)
@@ -28,6 +29,7 @@ pub record HasEntry (es : List EntryValue) (w : List ℕ) : Type 0 where
   pub there : Contains es entry
   pub has : entry.vector ≡ w
 
+-- a vector among those of entries is that of one of them
 pub entry_there : (es : List EntryValue) (w : List ℕ) → Contains (vectors_in es) w → HasEntry es w
 entry_there es w c =
     let none : EntryValue = record { design = []; vector = w } in
@@ -41,9 +43,7 @@ found_entry s found e p c =
     let n : IsNext s (vectors_in (take c.0 found)) e = subst (IsNext s (vectors_in (take c.0 found))) c.2 (p c.0 e c.1) in
     record { valid = n.first.meets.valid; stated = n.stated }
 
-entry_long : (s : SpecValue) (e : EntryValue) → IsEntry s e → length e.vector ≡ length s.objectives
-entry_long s e h = sym (ap length h.stated) ∙ vector_long s (bits_of e.design)
-
+-- each found vector has a number for each objective
 pub vectors_long : (s : SpecValue) (found : List EntryValue) → FoundPrefix s found → AreLong (length s.objectives) (vectors_in found)
 vectors_long s found p k d l =
     let x = entry_there found (get_or (vectors_in found) k d) (Contains-get_or (vectors_in found) k d l) in
@@ -68,10 +68,6 @@ pub not_before_itself : (u v : List ℕ) → u ≡ v → ¬ StandsBefore u v
 not_before_itself u v e b =
     let same : get_or u b.place 0 ≡ get_or v b.place 0 = ap (λ (w : List ℕ). get_or w b.place 0) e in
     absurd (omega (arith, same, b.less))
-
--- the entry at a place
-kept_at : (found front : List EntryValue) (i : ℕ) → AreUndominated found front → i < length front → (d : EntryValue) → IsKept found (get_or front i d)
-kept_at found front i kept l d = kept.only i d l
 
 none_of : EntryValue
 none_of = record { design = []; vector = [] }
@@ -128,5 +124,6 @@ reached s found front whole kept x valid =
       | inr none ↦ absurd (whole.none_left x (record { valid = valid; uncovered = none }))
     ]
 
+-- the undominated entries of a whole found list are the front
 pub whole_is_front : WholeIsFront
 whole_is_front s found front whole kept = claim_is_front s (front_with front true) (undominated_are_claim s found front whole.prefix kept) (reached s found front whole kept)

@@ -22,11 +22,11 @@ total-le (x ∷ u) (y ∷ v) e h =
     let len : length u ≡ length v = omega (arith, e) in
     omega (arith, first, total-le u v len (λ j. h (suc j)))
 
-total-less : (u v : List ℕ) → length u ≡ length v → Dominates u v → total u < total v
-total-less [] [] e d = absurd (d.1 refl)
-total-less [] (y ∷ v) e d = absurd (omega (arith, e))
-total-less (x ∷ u) [] e d = absurd (omega (arith, e))
-total-less (x ∷ u) (y ∷ v) e d =
+total_less : (u v : List ℕ) → length u ≡ length v → Dominates u v → total u < total v
+total_less [] [] e d = absurd (d.1 refl)
+total_less [] (y ∷ v) e d = absurd (omega (arith, e))
+total_less (x ∷ u) [] e d = absurd (omega (arith, e))
+total_less (x ∷ u) (y ∷ v) e d =
     let first : x ≤ y = d.0 0 in
     let len : length u ≡ length v = omega (arith, e) in
     let rest : IsAtMost u v = λ j. d.0 (suc j) in
@@ -34,7 +34,7 @@ total-less (x ∷ u) (y ∷ v) e d =
       | inl less ↦ omega (arith, less, total-le u v len rest)
       | inr more ↦
           let same : x ≡ y = omega (arith, first, more) in
-          omega (arith, same, total-less u v len (rest, λ q. d.1 (ap₂ (λ (a : ℕ) (more : List ℕ). a ∷ more) same q)))
+          omega (arith, same, total_less u v len (rest, λ q. d.1 (ap₂ (λ (a : ℕ) (more : List ℕ). a ∷ more) same q)))
     ]
 
 -- a vector of some that dominates the given one
@@ -84,7 +84,7 @@ least_below k (suc n) us v all c l =
       | inr none ↦ record { vector = v; there = c; below = at_most_itself v; undominated = none }
       | inl d ↦
           let long : length d.vector ≡ length v = All-contains (λ (w : List ℕ). length w ≡ k) us d.vector all d.there ∙ sym e in
-          let r = least_below k n us d.vector all d.there (omega (arith, l, total-less d.vector v long d.dominates)) in
+          let r = least_below k n us d.vector all d.there (omega (arith, l, total_less d.vector v long d.dominates)) in
           record { vector = r.vector; there = r.there; below = at_most_through r.vector d.vector v r.below d.dominates.0; undominated = r.undominated }
     ]
 

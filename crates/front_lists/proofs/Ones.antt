@@ -1,54 +1,16 @@
 -- There is one found list.
-use Rattle.std.proofs.Common.{◌≡◌, ℕ, zero, suc, ◌+◌, ◌<◌, ◌≤◌, ◌⊎◌, Bool, List, [], ◌∷◌, ◌++◌, length, get_or, take, refl, sym, ap, ap₂, ◌∙◌, subst, arith, inl, inr}
+use Rattle.std.proofs.Common.{◌≡◌, ℕ, zero, suc, ◌+◌, ◌<◌, ◌≤◌, Bool, List, [], ◌∷◌, ◌++◌, length, get_or, take, refl, sym, ap, ap₂, ◌∙◌, subst, arith, inl, inr}
 use Rattle.std.proofs.lemmas.Bool.{cases_lt}
 use Rattle.std.proofs.lemmas.List.{take_more, take_all}
-use Rattle.spec_model.specs.Spec.{SpecValue, Bits, bits_of, design_variables}
+use Rattle.spec_model.specs.Spec.{SpecValue, bits_of, design_variables}
 use Rattle.spec_model.specs.Vectors.{vector_of}
-use Rattle.spec_model.specs.Genotypes.{GeneValue, gene_at, StandsBefore, IsBefore, IsSame}
+use Rattle.spec_model.specs.Genotypes.{natural}
+use Rattle.spec_model.proofs.Ones.{first_is_one}
 use Rattle.result_text.specs.Answers.{EntryValue}
-use Rattle.front_lists.specs.Lists.{IsNext, FoundPrefix, vectors_in}
+use Rattle.front_lists.specs.Lists.{IsNext, FoundPrefix, vectors_in, IsLeft}
 use Rattle.front_lists.specs.Laws.{FoundIsOne, WholeIsLongest}
 
--- ---- one of two designs is the first
-
--- of two variables one stands before the other
-one_before : (genes : List GeneValue) (v w : ℕ) → StandsBefore genes v w ⊎ ((v ≡ w) ⊎ StandsBefore genes w v)
-one_before genes v w =
-    let p : ℕ = (gene_at genes v).priority in
-    let q : ℕ = (gene_at genes w).priority in
-    elim (cases_lt q p) [
-      | inl l ↦ inl (inl l)
-      | inr h ↦ elim (cases_lt p q) [
-        | inl l ↦ inr (inr (inl l))
-        | inr g ↦ elim (cases_lt v w) [
-          | inl l ↦ inl (inr (omega (arith, h, g), l))
-          | inr m ↦ elim (cases_lt w v) [
-            | inl l ↦ inr (inr (inr (omega (arith, h, g), l)))
-            | inr n ↦ inr (inl (omega (arith, m, n)))
-          ]
-        ]
-      ]
-    ]
-
--- not both before each other
-both_before : (genes : List GeneValue) (f g : Bits) → IsBefore genes f g → IsBefore genes g f → ⊥
-both_before genes f g a b =
-    elim (one_before genes a.variable b.variable) [
-      | inl early ↦ a.differ (b.same a.variable a.in_range early)
-      | inr other ↦ elim other [
-        | inl same ↦ a.differ (ap g same ∙ (b.phase ∙ sym (ap (λ (v : ℕ). (gene_at genes v).phase) same) ∙ sym a.phase))
-        | inr late ↦ b.differ (a.same b.variable b.in_range late)
-      ]
-    ]
-
 -- ---- one entry is found next
-
-same_bits : (f g : List Bool) → length f ≡ length g → ((v : ℕ) → v < length f → bits_of f v ≡ bits_of g v) → f ≡ g
-same_bits [] [] e h = refl
-same_bits [] (y ∷ g) e h = absurd (omega (arith, e))
-same_bits (x ∷ f) [] e h = absurd (omega (arith, e))
-same_bits (x ∷ f) (y ∷ g) e h =
-    ap₂ (λ (b : Bool) (bs : List Bool). b ∷ bs) (h 0 (omega arith)) (same_bits f g (omega (arith, e)) (λ v l. h (suc v) (omega (arith, l))))
 
 same_entry : (d e : EntryValue) → d.design ≡ e.design → d.vector ≡ e.vector → d ≡ e
 same_entry d e p q = ap₂ (λ (bits : List Bool) (numbers : List ℕ). record { design = bits; vector = numbers }) p q
@@ -56,17 +18,8 @@ same_entry d e p q = ap₂ (λ (bits : List Bool) (numbers : List ℕ). record {
 next_is_one : (s : SpecValue) (us : List (List ℕ)) (d e : EntryValue) → IsNext s us d → IsNext s us e → d ≡ e
 next_is_one s us d e a b = same_entry d e designs (sym a.stated ∙ (ap (λ (bits : List Bool). vector_of s (bits_of bits)) designs ∙ b.stated))
   where
-    agree : IsSame (design_variables s) (bits_of d.design) (bits_of e.design)
-    agree = elim (a.first.first (bits_of e.design) b.first.meets) [
-      | inl same ↦ same
-      | inr before ↦ elim (b.first.first (bits_of d.design) a.first.meets) [
-        | inl same ↦ (λ v l. sym (same v l))
-        | inr back ↦ absurd (both_before _ (bits_of d.design) (bits_of e.design) before back)
-      ]
-    ]
-
     designs : d.design ≡ e.design
-    designs = same_bits d.design e.design (a.one_each ∙ sym b.one_each) (λ v l. agree v (omega (arith, l, a.one_each)))
+    designs = first_is_one (IsLeft s us) (design_variables s) (natural (design_variables s)) d.design e.design a.one_each b.one_each a.first b.first
 
 -- ---- one found list
 
@@ -96,6 +49,7 @@ whole_is_longest s whole found w p =
       | inr le ↦ le
       | inl longer ↦
           let same : whole ≡ take (length whole) found = found_is_one s whole found w.prefix p (omega (arith, longer)) in
-          let next : IsNext s (vectors_in whole) (get_or found (length whole) none_of) = subst (λ (es : List EntryValue). IsNext s (vectors_in es) (get_or found (length whole) none_of)) (sym same) (p (length whole) none_of longer) in
+          let next : IsNext s (vectors_in whole) (get_or found (length whole) none_of) = subst (λ (es : List EntryValue). IsNext s (vectors_in es) (get_or found (length whole) none_of)) (sym same)
+          (p (length whole) none_of longer) in
           absurd (w.none_left (bits_of (get_or found (length whole) none_of).design) next.first.meets)
     ]

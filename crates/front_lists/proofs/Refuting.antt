@@ -10,7 +10,7 @@ use Rattle.spec_model.specs.Spec.{SpecValue, Bits, bits_of, below, design_variab
 use Rattle.spec_model.specs.Vectors.{weight, weight_if_true, vector_at, vector_of}
 use Rattle.encode_model.specs.Block.{total_weight, IsWithinWeights}
 use Rattle.spec_model.proofs.Those.{sum_by-below_more}
-use Rattle.block_encode.proofs.Adding.{total-small}
+use Rattle.block_encode.proofs.Adding.{total_small}
 use Rattle.spec_model.specs.WellFormed.{IsWellFormed}
 use Rattle.result_text.specs.Answers.{EntryValue}
 use Rattle.result_text.specs.Fronts.{IsShaped}
@@ -40,6 +40,7 @@ number_at_most : (s : SpecValue) (f : Bits) (j : ℕ) → vector_at s f j ≤ to
 unfolding vector_at total_weight
 number_at_most s f j = sum_at_most s f j (design_variables s)
 
+-- in each objective a design's number is at most the sum of all weights
 pub vector_within : (s : SpecValue) (f : Bits) → IsWithinWeights s (vector_of s f)
 vector_within s f j l =
     let there : j < length s.objectives = omega (arith, l, vector_long s f) in
@@ -51,7 +52,7 @@ vector_within s f j l =
 vector_small : (s : SpecValue) (f : Bits) → IsWellFormed s → All (λ n. n < 2 ^ 63) (vector_of s f)
 vector_small s f wf j d l =
     let at : get_or (vector_of s f) j d ≡ get_or (vector_of s f) j 0 = get_or_default (vector_of s f) j d 0 l in
-    omega (arith, at, vector_within s f j l, total-small s j wf)
+    omega (arith, at, vector_within s f j l, total_small s j wf)
 
 pub next_is_shaped : (s : SpecValue) (us : List (List ℕ)) (e : EntryValue) → IsWellFormed s → IsNext s us e → IsShaped s e
 next_is_shaped s us e wf next = record {
@@ -60,6 +61,7 @@ next_is_shaped s us e wf next = record {
   small = subst (All (λ (n : ℕ). n < 2 ^ 63)) next.stated (vector_small s (bits_of e.design) wf);
 }
 
+-- each found entry has the specification's shape
 pub found_are_shaped : FoundAreShaped
 found_are_shaped s found wf p k d l = next_is_shaped s (vectors_in (take k found)) (get_or found k d) wf (p k d l)
 
@@ -100,6 +102,7 @@ undominated_refute s found front ls p kept r = record {
   clashes = r.clashes;
 }
 
+-- the text of the undominated entries is accepted with that of lines that refute
 pub texts_are_accepted : TextsAreAccepted
 texts_are_accepted s found front ls wf p kept r = record {
   front = front_with front true;

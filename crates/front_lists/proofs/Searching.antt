@@ -8,7 +8,7 @@ use Rattle.pb_rules.specs.Literal.{Literal}
 use Rattle.pb_rules.specs.Linear.{Linear, IsModel, HasNoModel}
 use Rattle.pb_rules.specs.Order.{IsFirstModel}
 use Rattle.pb_rules.specs.Frames.{Line, derived, cover, blocks_from}
-use Rattle.pb_rules.proofs.Closed.{models-front, models-back}
+use Rattle.pb_rules.proofs.Closed.{models_front, models_back}
 use Rattle.spec_model.specs.Spec.{SpecValue, Bits, bits_of, design_variables}
 use Rattle.spec_model.specs.Vectors.{vector_of, IsAtMost}
 use Rattle.spec_model.specs.Genotypes.{IsSameDesign, IsBefore, natural, plain_gene}
@@ -33,15 +33,16 @@ use Rattle.front_lists.proofs.Refuting.{may_cover}
 
 -- ---- a model of the blocks is of a design that no cover covers
 
-no_cover_below : (s : SpecValue) (m : Bits) (ls : List Line) (b : ℕ) → ((v : List ℕ) → Contains (covers_of ls) v → length v ≡ length s.objectives) → IsModel (blocks_from (cover_frame s) b ls) m → (v : List ℕ) → Contains (covers_of ls) v → ¬ IsAtMost v (vector_of s m)
+no_cover_below : (s : SpecValue) (m : Bits) (ls : List Line) (b : ℕ) → ((v : List ℕ) → Contains (covers_of ls) v → length v ≡ length s.objectives) → IsModel (blocks_from (cover_frame s) b ls) m
+    → (v : List ℕ) → Contains (covers_of ls) v → ¬ IsAtMost v (vector_of s m)
 no_cover_below s m [] b long model v c = absurd (let l = c.1 in omega arith)
 no_cover_below s m (derived ops ∷ ls) b long model v c = no_cover_below s m ls b long model v c
 no_cover_below s m (cover u ∷ ls) b long model v c =
     let block : List Linear = block_of s (b + 1) u in
     let rest : List Linear = blocks_from (cover_frame s) (b + 1) ls in
     elim (split u (covers_of ls) v c) [
-      | inl e ↦ subst (λ (w : List ℕ). ¬ IsAtMost w (vector_of s m)) e (models_are_uncovered s (b + 1) u m (long u (0, omega arith, refl)) (models-front m block rest model))
-      | inr later ↦ no_cover_below s m ls (b + 1) (λ w k. long w (before_all u (covers_of ls) w k)) (models-back m block rest model) v later
+      | inl e ↦ subst (λ (w : List ℕ). ¬ IsAtMost w (vector_of s m)) e (models_are_uncovered s (b + 1) u m (long u (0, omega arith, refl)) (models_front m block rest model))
+      | inr later ↦ no_cover_below s m ls (b + 1) (λ w k. long w (before_all u (covers_of ls) w k)) (models_back m block rest model) v later
     ]
 
 -- ---- the search
@@ -60,8 +61,9 @@ module _ (s : SpecValue) (found : List EntryValue) (ls : List Line) (wf : IsWell
   -- the design of a model is left
   pub model_is_left : (m : Bits) → IsModel (searched s ls) m → IsLeft s us m
   model_is_left m model = record {
-    valid = valid_of_model s m wf (models-front m (encoding s) (blocks_from (cover_frame s) 0 ls) model);
-    uncovered = λ h. no_cover_below s m ls 0 (λ v c. (itself v (found_of v c)).one_each) (models-back m (encoding s) (blocks_from (cover_frame s) 0 ls) model) h.vector (subst (λ (ws : List (List ℕ)). Contains ws h.vector) (sym covers) h.there) h.below;
+    valid = valid_of_model s m wf (models_front m (encoding s) (blocks_from (cover_frame s) 0 ls) model);
+    uncovered = λ h. no_cover_below s m ls 0 (λ v c. (itself v (found_of v c)).one_each) (models_back m (encoding s) (blocks_from (cover_frame s) 0 ls) model) h.vector
+        (subst (λ (ws : List (List ℕ)). Contains ws h.vector) (sym covers) h.there) h.below;
   }
 
   -- no cover covers a design that is left
@@ -128,14 +130,17 @@ module _ (s : SpecValue) (found : List EntryValue) (ls : List Line) (wf : IsWell
   pub none_is_whole : HasNoModel (searched s ls) → FoundWhole s found
   none_is_whole none = record { prefix = p; none_left = λ g left. (let x = left_has_model g left in none x.0 x.1) }
 
+-- the first model, cut to the design, is what is found next
 pub first_model_is_next : FirstModelIsNext
 first_model_is_next s found ls n order m design wf p covers few o first len same = first_is_next s found ls wf p covers n order m design few o first len same
 
+-- where there is no model the found list is whole
 pub no_model_is_whole : NoModelIsWhole
 no_model_is_whole s found ls wf p covers none = none_is_whole s found ls wf p covers none
 
 -- ---- one found entry more
 
+-- with what is found next, a found list is one still
 pub next_is_found : NextIsFound
 next_is_found s found e p next i d l =
     let long = length_push found e in

@@ -1,10 +1,9 @@
 -- The tests of a cover.
-use Rattle.std.proofs.Common.{◌≡◌, ℕ, zero, suc, ◌+◌, ◌<◌, ◌≤◌, Bool, true, false, leb, ltb, List, [], ◌∷◌, length, get_or, refl, sym, subst, arith, inl, inr}
+use Rattle.std.proofs.Common.{◌≡◌, ℕ, zero, suc, ◌+◌, ◌<◌, ◌≤◌, Bool, true, false, ltb, List, [], ◌∷◌, length, get_or, refl, sym, subst, arith, inl, inr}
 use Rattle.std.specs.Prelude.{slice_index}
 use Rattle.std.specs.List.{list_any, list_all, position_or_len, range_with_len}
-use Rattle.std.proofs.lemmas.Bool.{cases_lt, cases_Bool, ltb-false, le-ltb, leb-true, leb-false}
+use Rattle.std.proofs.lemmas.Bool.{cases_lt, cases_Bool, ltb-false, le-ltb, leb-true, le-leb, and_parts}
 use Rattle.std.proofs.lemmas.List.{get_or_past}
-use Rattle.line_words.proofs.Whys.{both}
 use Rattle.spec_model.specs.Spec.{SpecValue}
 use Rattle.spec_model.specs.Vectors.{IsAtMost}
 use Rattle.encode_model.specs.Block.{total_weight, IsWithinWeights}
@@ -18,10 +17,10 @@ all_at : (p : ℕ → Bool) (n a i : ℕ) → list_all p (range_with_len a n) �
 all_at p zero a i h l = absurd (omega arith)
 all_at p (suc n) a zero h l =
     let e : a ≡ a + 0 = omega arith in
-    subst (λ (k : ℕ). p k ≡ true) e (both (p a) (list_all p (range_with_len (a + 1) n)) h).0
+    subst (λ (k : ℕ). p k ≡ true) e (and_parts (p a) (list_all p (range_with_len (a + 1) n)) h).0
 all_at p (suc n) a (suc i) h l =
     let e : (a + 1) + i ≡ a + suc i = omega arith in
-    subst (λ (k : ℕ). p k ≡ true) e (all_at p n (a + 1) i (both (p a) (list_all p (range_with_len (a + 1) n)) h).1 (omega arith))
+    subst (λ (k : ℕ). p k ≡ true) e (all_at p n (a + 1) i (and_parts (p a) (list_all p (range_with_len (a + 1) n)) h).1 (omega arith))
 
 at_all : (p : ℕ → Bool) (n a : ℕ) → ((i : ℕ) → i < n → p (a + i) ≡ true) → list_all p (range_with_len a n) ≡ true
 at_all p zero a h = refl
@@ -39,20 +38,7 @@ at_most_of u v h j =
       | inr l ↦ omega (arith, get_or_past u j 0 l)
     ]
 
-le-leb : (a b : ℕ) → a ≤ b → leb a b ≡ true
-le-leb a b h =
-    elim (cases_Bool (leb a b)) [
-      | inl t ↦ t
-      | inr f ↦ absurd (omega (arith, h, leb-false a b f))
-    ]
-
-pub gt-leb : (a b : ℕ) → b < a → leb a b ≡ false
-gt-leb a b h =
-    elim (cases_Bool (leb a b)) [
-      | inl t ↦ absurd (omega (arith, h, leb-true a b t))
-      | inr f ↦ f
-    ]
-
+-- a vector that is at most another one passes the test
 pub of_at_most : (u v : List ℕ) → IsAtMost u v → is_at_most v u ≡ true
 of_at_most u v h = at_all (is_at_most_at u v) (length u) 0 (λ i l. le-leb (slice_index u (0 + i)) (slice_index v (0 + i)) (h (0 + i)))
 
@@ -89,10 +75,12 @@ none_before p zero a i h l = absurd (omega arith)
 none_before p (suc n) a i h l =
     elim (cases_Bool (p a)) [
       | inl t ↦ absurd (let z : position_or_len p (range_with_len a (suc n)) ≡ 0 = rw t refl in omega (arith, h, z))
-      | inr f ↦ go (λ k. none_before p n (a + 1) k) i (let s : position_or_len p (range_with_len a (suc n)) ≡ position_or_len p (range_with_len (a + 1) n) + 1 = rw f (omega arith) in omega (arith, h, s)) l f
+      | inr f ↦ go (λ k. none_before p n (a + 1) k) i (let s : position_or_len p (range_with_len a (suc n)) ≡ position_or_len p (range_with_len (a + 1) n) + 1 = rw f (omega arith) in
+          omega (arith, h, s)) l f
     ]
   where
-    go : ((k : ℕ) → k < position_or_len p (range_with_len (a + 1) n) → k < n → p ((a + 1) + k) ≡ false) → (i : ℕ) → i < position_or_len p (range_with_len (a + 1) n) + 1 → i < suc n → p a ≡ false → p (a + i) ≡ false
+    go : ((k : ℕ) → k < position_or_len p (range_with_len (a + 1) n) → k < n → p ((a + 1) + k) ≡ false) → (i : ℕ) → i < position_or_len p (range_with_len (a + 1) n) + 1 → i < suc n → p a ≡ false
+        → p (a + i) ≡ false
     go ih zero h l f = (let e : a ≡ a + 0 = omega arith in subst (λ (k : ℕ). p k ≡ false) e f)
     go ih (suc i) h l f = (let e : (a + 1) + i ≡ a + suc i = omega arith in subst (λ (k : ℕ). p k ≡ false) e (ih i (omega (arith, h)) (omega (arith, l))))
 

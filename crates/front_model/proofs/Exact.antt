@@ -8,9 +8,9 @@ use Rattle.std.proofs.lemmas.List.FromFn.{length-map-range_with_len}
 use Rattle.pb_rules.specs.declared.Term.{Term}
 use Rattle.pb_rules.specs.Linear.{Linear, Holds, IsModel}
 use Rattle.pb_rules.specs.Frames.{Line, derived, cover, base_of, blocks_by, context_of}
-use Rattle.pb_rules.proofs.Closed.{models-front, models-back}
-use Rattle.pb_rules.proofs.Given.{given-sound, under-holds}
-use Rattle.pb_rules.proofs.Sound.{line-sound}
+use Rattle.pb_rules.proofs.Closed.{models_front, models_back}
+use Rattle.pb_rules.proofs.Given.{given_sound, under_holds}
+use Rattle.pb_rules.proofs.Sound.{line_sound}
 use Rattle.spec_model.specs.Spec.{SpecValue, Bits, bits_of}
 use Rattle.spec_model.specs.Rules.{IsValid}
 use Rattle.spec_model.specs.Vectors.{vector_at, vector_of, IsAtMost, Dominates, IsInFront}
@@ -31,17 +31,24 @@ use Rattle.front_model.specs.Laws.{ClaimIsFront, AcceptedIsFront, AcceptedTextIs
 pub vector_long : (s : SpecValue) (f : Bits) → length (vector_of s f) ≡ length s.objectives
 vector_long s f = length-map-range_with_len (vector_at s f) 0 (length s.objectives)
 
+-- and so has that of an entry
+pub entry_long : (s : SpecValue) (e : EntryValue) → IsEntry s e → length e.vector ≡ length s.objectives
+entry_long s e h = sym (ap length h.stated) ∙ vector_long s (bits_of e.design)
+
 -- ---- some vector of a list is at most a given one, or none is
 
+-- what a list has, it has with one more in front
 pub before_all : (u : List ℕ) (us : List (List ℕ)) (w : List ℕ) → Contains us w → Contains (u ∷ us) w
 before_all u us w h =
     let e : suc h.0 ≡ h.0 + 1 = omega arith in
     (h.0 + 1, omega (arith, h.1), subst (λ (n : ℕ). get_or (u ∷ us) n w ≡ w) e h.2)
 
+-- an entry of a list is its first, or one of the rest
 pub split : (u : List ℕ) (us : List (List ℕ)) (w : List ℕ) → Contains (u ∷ us) w → (u ≡ w) ⊎ Contains us w
 split u us w (zero, l, e) = inl e
 split u us w (suc k, l, e) = inr (k, omega (arith, l), e)
 
+-- some vector of a list is at most the given one, or none is
 pub below_or_none : (us : List (List ℕ)) (v : List ℕ) → HasBelow us v ⊎ (¬ HasBelow us v)
 below_or_none [] v = inr (λ h. (let l = h.there.1 in absurd (omega arith)))
 below_or_none (u ∷ us) v =
@@ -83,11 +90,13 @@ refuted s us ls x wf r valid none =
     let one = valid_are_models s x wf valid in
     let whole : All (MayStand s us) (r.early ++ derived r.last ∷ []) = subst (λ (ks : List Line). All (MayStand s us) ks) r.whole r.covers in
     let early : All (MayStand s us) r.early = All-left (MayStand s us) r.early (derived r.last ∷ []) whole in
-    let open_each : All (OfCover (LeavesOpen s one.model)) r.early = All-weaker (MayStand s us) (OfCover (LeavesOpen s one.model)) (leaves s us one.model x (same_vector s one.model x one.only.same) none) r.early early in
+    let open_each : All (OfCover (LeavesOpen s one.model)) r.early = All-weaker (MayStand s us) (OfCover (LeavesOpen s one.model))
+    (leaves s us one.model x (same_vector s one.model x one.only.same) none) r.early early in
     let made = all_extend s r.early one.model wf one.only.holds open_each in
     let f = cover_frame s in
-    let given : IsModel r.before.constraints made.values = given-sound made.values f (base_of f) r.before r.early r.legal (models-front made.values f.base (blocks_by f r.early) made.model) (models-back made.values f.base (blocks_by f r.early) made.model) in
-    empty_clash made.values r.clash r.clashes (line-sound made.values (context_of r.before) r.last r.clash (under-holds (Holds made.values) r.before.constraints given) r.gives)
+    let given : IsModel r.before.constraints made.values = given_sound made.values f (base_of f) r.before r.early r.legal (models_front made.values f.base (blocks_by f r.early) made.model)
+    (models_back made.values f.base (blocks_by f r.early) made.model) in
+    empty_clash made.values r.clash r.clashes (line_sound made.values (context_of r.before) r.last r.clash (under_holds (Holds made.values) r.before.constraints given) r.gives)
 
 pub reached : (s : SpecValue) (us : List (List ℕ)) (ls : List Line) (x : Bits) → IsWellFormed s → Refute s us ls → IsValid s x → HasBelow us (vector_of s x)
 reached s us ls x wf r valid =
@@ -147,7 +156,8 @@ module _ (s : SpecValue) (front : FrontValue) (claim : IsClaim s front) (below_e
       let vector : vector_of s (bits_of x.0.design) ≡ b.vector = x.1.stated ∙ x.2 in
       elim (at_most_or_not w b.vector) [
         | inl le ↦ subst (λ (y : List ℕ). Contains us y) (at_most_both b.vector w (long b.vector b.there ∙ sym (sym (ap length h.vector) ∙ vector_long s h.design)) below le) b.there
-        | inr not ↦ absurd (h.undominated (bits_of x.0.design) x.1.valid (subst (λ (y : List ℕ). Dominates y w) (sym vector) (below, λ e. not (subst (λ (y : List ℕ). IsAtMost w y) (sym e) (at_most_itself w)))))
+        | inr not ↦ absurd (h.undominated (bits_of x.0.design) x.1.valid (subst (λ (y : List ℕ). Dominates y w) (sym vector)
+            (below, λ e. not (subst (λ (y : List ℕ). IsAtMost w y) (sym e) (at_most_itself w)))))
       ]
 
   pub exact : IsFrontOf s front
@@ -159,6 +169,7 @@ module _ (s : SpecValue) (front : FrontValue) (claim : IsClaim s front) (below_e
         claim.apart i j d (omega arith) many (λ q. absurd (omega (arith, q, lt))) (subst (λ (y : List ℕ). IsAtMost (get_or us i d) y) e (at_most_itself (get_or us i d))));
   }
 
+-- a claim that has a vector at most that of each valid design is the front
 pub claim_is_front : ClaimIsFront
 claim_is_front s front claim below_each = exact s front claim below_each
 

@@ -10,7 +10,7 @@ use Rattle.pb_rules.specs.declared.Op.{Op}
 use Rattle.pb_rules.specs.Linear.{Linear}
 use Rattle.pb_rules.specs.Operations.{line_gives}
 use Rattle.pb_rules.specs.Frames.{Line, derived, Given, base_of, context_of, with_derived, given_from}
-use Rattle.pb_rules.proofs.Given.{first-line, given-push}
+use Rattle.pb_rules.proofs.Given.{first_line, given-push}
 use Rattle.proof_words.proofs.Legal.{lines_are}
 use Rattle.spec_model.specs.Spec.{SpecValue}
 use Rattle.spec_model.proofs.Joined.{All-left}
@@ -78,7 +78,8 @@ Ended s us g b ps = ((ps ≡ []) × (b ≡ true)) ⊎ Closing s us g ps
 next_taken : (s : SpecValue) (us : List (List ℕ)) (n : ℕ) (g : Given) (b : Bool) (p : List ℕ) → eqb n 0 ≡ false → take_line s us (going n g b) p ≡ judged (going n g b) (judge_piece s us g p)
 next_taken s us n g b p z = ap (λ (x : Bool). judged (going n g b) (cond x (judge_header g p) (judge_piece s us g p))) z
 
-closing_step : (s : SpecValue) (us : List (List ℕ)) (g : Given) (stand : Stand) (p : List ℕ) (ps : List (List ℕ)) → IsJudged s us g stand p → Ended s us stand.given stand.closed ps → Closing s us g (p ∷ ps)
+closing_step : (s : SpecValue) (us : List (List ℕ)) (g : Given) (stand : Stand) (p : List ℕ) (ps : List (List ℕ)) → IsJudged s us g stand p → Ended s us stand.given stand.closed ps
+    → Closing s us g (p ∷ ps)
 closing_step s us g stand p ps x (inl e) =
     let c = x.legal.closes e.1 in
     let none : each_said line_in ps ≡ Some [] = ap (λ (qs : List (List ℕ)). each_said line_in qs) e.0 in
@@ -114,10 +115,12 @@ closed_end n true e = refl
 closed_end n false e = absurd cc
 
 forth : (s : SpecValue) (us ps : List (List ℕ)) (n : ℕ) (g : Given) (b : Bool) → eqb n 0 ≡ false → verdict_of (take_lines s us (going n g b) ps) ≡ accepted → Ended s us g b ps
-forth s us [] n g b z e = inl (refl, closed_end n b (sym (ap (λ (x : Bool). cond x (verdicts.Refused (refusal_at 1 BadStep)) (cond b accepted (verdicts.Refused (refusal_at (n + 1) NoContradiction)))) z) ∙ e))
+forth s us [] n g b z e =
+    inl (refl, closed_end n b (sym (ap (λ (x : Bool). cond x (verdicts.Refused (refusal_at 1 BadStep)) (cond b accepted (verdicts.Refused (refusal_at (n + 1) NoContradiction)))) z) ∙ e))
 forth s us (p ∷ ps) n g b z e = go (λ m k d. forth s us ps m k d) (judge_piece s us g p) refl (sym (ap (λ (x : Progress). verdict_of (take_lines s us x ps)) (next_taken s us n g b p z)) ∙ e)
   where
-    go : ((m : ℕ) (k : Given) (d : Bool) → eqb m 0 ≡ false → verdict_of (take_lines s us (going m k d) ps) ≡ accepted → Ended s us k d ps) → (o : Result Stand ProofWhy) → judge_piece s us g p ≡ o → verdict_of (take_lines s us (judged (going n g b) o) ps) ≡ accepted → Ended s us g b (p ∷ ps)
+    go : ((m : ℕ) (k : Given) (d : Bool) → eqb m 0 ≡ false → verdict_of (take_lines s us (going m k d) ps) ≡ accepted → Ended s us k d ps) → (o : Result Stand ProofWhy) → judge_piece s us g p ≡ o
+        → verdict_of (take_lines s us (judged (going n g b) o) ps) ≡ accepted → Ended s us g b (p ∷ ps)
     go ih (Ok stand) q f = inr (closing_step s us g stand p ps (line_of_piece s us g stand p q) (ih (n + 1) stand.given stand.closed (next_not_zero n) f))
     go ih (Err why) q f =
         let r : Refused = refusal_at (n + 1) why in
@@ -136,7 +139,8 @@ accepted_so : (s : SpecValue) (us ps : List (List ℕ)) → verdict_of (take_lin
 accepted_so s us [] e = absurd (let f : verdicts.Refused (refusal_at 1 BadStep) ≡ accepted = e in cc)
 accepted_so s us (p ∷ ps) e = go (bytes_eq p header) refl e
   where
-    go : (b : Bool) → bytes_eq p header ≡ b → verdict_of (take_lines s us (judged (begun s) (cond b (Ok (record { given = base_of (cover_frame s); closed = false })) (Err BadStep))) ps) ≡ accepted → IsAccepted s us (p ∷ ps)
+    go : (b : Bool) → bytes_eq p header ≡ b → verdict_of (take_lines s us (judged (begun s) (cond b (Ok (record { given = base_of (cover_frame s); closed = false })) (Err BadStep))) ps) ≡ accepted
+        → IsAccepted s us (p ∷ ps)
     go false q f =
         let r : Refused = refusal_at 1 BadStep in
         let w : verdicts.Refused r ≡ accepted = sym (ap verdict_of (stays s us ps 0 (base_of (cover_frame s)) false r)) ∙ f in
@@ -147,7 +151,8 @@ accepted_so s us (p ∷ ps) e = go (bytes_eq p header) refl e
           | inr c ↦ record { more = ps; is = ap (λ (w : List ℕ). w ∷ ps) ((bytes_eq-Decides p header).0 q); closing = c }
         ]
 
-pub proves_of : (s : SpecValue) (us : List (List ℕ)) (text : List ℕ) (ps : List (List ℕ)) → concat ps ≡ text → AllByRecursion Cut ps → verdict_of (take_lines s us (begun s) ps) ≡ accepted → Proves s us text
+pub proves_of : (s : SpecValue) (us : List (List ℕ)) (text : List ℕ) (ps : List (List ℕ)) → concat ps ≡ text → AllByRecursion Cut ps → verdict_of (take_lines s us (begun s) ps) ≡ accepted
+    → Proves s us text
 proves_of s us text ps t h e =
     let x = accepted_so s us ps e in
     let c = x.closing in
@@ -164,7 +169,8 @@ taken : (s : SpecValue) (us ps : List (List ℕ)) (n : ℕ) (g : Given) (b : Boo
     → take_lines s us (going n g b) (p ∷ ps) ≡ take_lines s us (going (n + 1) stand.given stand.closed) ps
 taken s us ps n g b p stand z e = ap (λ (x : Progress). take_lines s us x ps) (next_taken s us n g b p z ∙ ap (judged (going n g b)) e)
 
-back : (s : SpecValue) (us : List (List ℕ)) (early : List Line) (last : List Op) (ps : List (List ℕ)) (n : ℕ) (g before : Given) (b : Bool) (clash : Linear) → eqb n 0 ≡ false → each_said line_in ps ≡ Some (early ++ derived last ∷ []) → All (MayStand s us) early
+back : (s : SpecValue) (us : List (List ℕ)) (early : List Line) (last : List Op) (ps : List (List ℕ)) (n : ℕ) (g before : Given) (b : Bool) (clash : Linear) → eqb n 0 ≡ false
+    → each_said line_in ps ≡ Some (early ++ derived last ∷ []) → All (MayStand s us) early
     → given_from (cover_frame s) g early ≡ Some before → line_gives (context_of before) last ≡ Ok clash → IsClash clash → verdict_of (take_lines s us (going n g b) ps) ≡ accepted
 back s us early last [] n g before b clash z said may e gives clashes = absurd (some_line early cc)
   where
@@ -191,7 +197,7 @@ back s us (l ∷ early) last (p ∷ ps) n g before b clash z said may e gives cl
     let rest : x.more ≡ early ++ derived last ∷ [] = let f = x.is in cc in
     let here : line_in p ≡ Some l = x.said ∙ ap (λ (k : Line). Some k) first in
     let others : each_said line_in ps ≡ Some (early ++ derived last ∷ []) = x.others ∙ ap (λ (ls : List Line). Some ls) rest in
-    let m = first-line (cover_frame s) g before l early e in
+    let m = first_line (cover_frame s) g before l early e in
     let y = legal_judged s us g m.0 l (All-head (MayStand s us) l early may) m.1 in
     let stand : Stand = record { given = m.0; closed = y.0 } in
     ap verdict_of (taken s us ps n g b p stand z (piece_judged s us g p l here ∙ y.1))
@@ -206,7 +212,8 @@ of_proves s us text x =
     let early : All (MayStand s us) r.early = All-left (MayStand s us) r.early (derived r.last ∷ []) may in
     let legal = given-push f (base_of f) r.before r.early r.last r.clash r.legal r.gives in
     let cut = file_cut text ls (ap (λ (t : List ℕ). lines_in t) (x.is ∙ ap proof_text r.whole) ∙ read_again ls (lines_are f (base_of f) (with_derived r.before r.clash) ls legal)) in
-    ap (λ (ps : List (List ℕ)). verdict_of (take_lines s us (begun s) ps)) cut.cut ∙ back s us r.early r.last cut.more 1 (base_of f) r.before false r.clash refl cut.said early r.legal r.gives r.clashes
+    ap (λ (ps : List (List ℕ)). verdict_of (take_lines s us (begun s) ps)) cut.cut ∙ back s us r.early r.last cut.more 1 (base_of f) r.before false r.clash refl cut.said early r.legal r.gives
+    r.clashes
 
 pub judged_exactly : JudgedExactly
 judged_exactly s us text = (proves_of s us text (pieces text) (pieces_join text) (pieces_cut text), of_proves s us text)
@@ -217,9 +224,11 @@ take_more : (s : SpecValue) (us ps : List (List ℕ)) (p : Progress) (piece : Li
 take_more s us [] p piece = refl
 take_more s us (q ∷ ps) p piece = take_more s us ps (take_line s us p q) piece
 
+-- a checker begins where no piece was read
 pub begins_reached : BeginsReached
 begins_reached s us = record { pieces = []; each = All-nil IsPiece; is = refl }
 
+-- one piece more reaches what is judged of it
 pub reaches_on : ReachesOn
 reaches_on s us p piece r h = record {
   pieces = r.pieces ++ piece ∷ [];
@@ -227,6 +236,7 @@ reaches_on s us p piece r h = record {
   is = take_more s us r.pieces (begun s) piece ∙ ap (λ (q : Progress). take_line s us q piece) r.is;
 }
 
+-- where the pieces are accepted, the claim is the front of its specification
 pub reached_is_front : ReachedIsFront
 reached_is_front s front p wf claim r e =
     let us = vectors_of front in

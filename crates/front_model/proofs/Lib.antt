@@ -6,3 +6,4 @@ pub mod Lines
 pub mod Files
 pub mod Known
 pub mod Rows
+pub mod Rising

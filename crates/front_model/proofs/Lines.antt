@@ -4,18 +4,16 @@ use Rattle.std.specs.Prelude.{All, codes, ◌==◌, ◌||◌, option_map}
 use Rattle.std.specs.Result.{result_ok}
 use Rattle.std.specs.List.{list_any, list_all}
 use Rattle.std.specs.Str.{bytes_eq}
-use Rattle.std.proofs.lemmas.Bool.{eqb-true, ltb-true, lt-ltb}
-use Rattle.std.proofs.lemmas.Bool.Decides.{nat_tests}
+use Rattle.std.proofs.lemmas.Bool.{eqb-true, ltb-true, lt-ltb, eq-eqb, and_parts}
 use Rattle.std.proofs.lemmas.List.Elements.{All-head, All-tail}
 use Rattle.line_words.specs.Rules.{Words}
-use Rattle.line_words.proofs.Whys.{both}
 use Rattle.pb_rules.specs.declared.Op.{Op}
 use Rattle.pb_rules.specs.declared.Term.{Term}
 use Rattle.pb_rules.specs.Linear.{Linear}
 use Rattle.pb_rules.specs.Operations.{Fault, and_then, only_one, line_gives, small_number}
 use Rattle.pb_rules.specs.Frames.{Line, derived, cover, Given, context_of, with_derived, with_block, given_with}
 use Rattle.pb_rules.proofs.Given.{Goes, by_ops, by_block, goes}
-use Rattle.proof_words.specs.Words.{op_of, number_of}
+use Rattle.proof_words.specs.Words.{op_of, numeral_number}
 use Rattle.proof_words.specs.Legal.{IsWritableLine}
 use Rattle.spec_model.specs.Spec.{SpecValue}
 use Rattle.encode_model.specs.Block.{cover_frame}
@@ -50,17 +48,19 @@ piece_judged s us g piece l e =
 
 -- ---- a piece that is judged without fault says a line
 
-said_derived : (s : SpecValue) (us : List (List ℕ)) (g : Given) (stand : Stand) (ws : Words) → after_derived g (judge_derivation (context_of g) ws) ≡ Ok stand → (ops : List Op) × (each_said op_of ws ≡ Some ops)
+said_derived : (s : SpecValue) (us : List (List ℕ)) (g : Given) (stand : Stand) (ws : Words) → after_derived g (judge_derivation (context_of g) ws) ≡ Ok stand → (ops : List Op)
+    × (each_said op_of ws ≡ Some ops)
 said_derived s us g stand ws e = go (judge_derivation (context_of g) ws) refl e
   where
     go : (o : Result Linear Fault) → judge_derivation (context_of g) ws ≡ o → after_derived g o ≡ Ok stand → (ops : List Op) × (each_said op_of ws ≡ Some ops)
     go (Err fault) q f = absurd cc
     go (Ok c) q f = let d = derives (context_of g) c ws q in (d.ops, d.said)
 
-said_cover : (s : SpecValue) (us : List (List ℕ)) (g : Given) (stand : Stand) (ws : Words) → after_cover s g (judge_cover s us (each_said number_of ws)) ≡ Ok stand → (v : List ℕ) × (each_said number_of ws ≡ Some v)
-said_cover s us g stand ws e = go (each_said number_of ws) refl e
+said_cover : (s : SpecValue) (us : List (List ℕ)) (g : Given) (stand : Stand) (ws : Words) → after_cover s g (judge_cover s us (each_said numeral_number ws)) ≡ Ok stand → (v : List ℕ)
+    × (each_said numeral_number ws ≡ Some v)
+said_cover s us g stand ws e = go (each_said numeral_number ws) refl e
   where
-    go : (o : Option (List ℕ)) → each_said number_of ws ≡ o → after_cover s g (judge_cover s us o) ≡ Ok stand → (v : List ℕ) × (each_said number_of ws ≡ Some v)
+    go : (o : Option (List ℕ)) → each_said numeral_number ws ≡ o → after_cover s g (judge_cover s us o) ≡ Ok stand → (v : List ℕ) × (each_said numeral_number ws ≡ Some v)
     go None q f = absurd cc
     go (Some v) q f = (v, q)
 
@@ -68,8 +68,8 @@ words_said : (s : SpecValue) (us : List (List ℕ)) (g : Given) (stand : Stand) 
 words_said s us g stand [] e = absurd cc
 words_said s us g stand (k ∷ ws) e = go (bytes_eq k (codes "p")) (bytes_eq k (codes "c")) e
   where
-    go : (a b : Bool) → cond a (after_derived g (judge_derivation (context_of g) ws)) (cond b (after_cover s g (judge_cover s us (each_said number_of ws))) (Err BadStep)) ≡ Ok stand
-        → (l : Line) × (cond a (option_map derived (each_said op_of ws)) (cond b (option_map cover (each_said number_of ws)) None) ≡ Some l)
+    go : (a b : Bool) → cond a (after_derived g (judge_derivation (context_of g) ws)) (cond b (after_cover s g (judge_cover s us (each_said numeral_number ws))) (Err BadStep)) ≡ Ok stand
+        → (l : Line) × (cond a (option_map derived (each_said op_of ws)) (cond b (option_map cover (each_said numeral_number ws)) None) ≡ Some l)
     go true b f = let d = said_derived s us g stand ws f in (derived d.0, ap (option_map derived) d.1)
     go false true f = let d = said_cover s us g stand ws f in (cover d.0, ap (option_map cover) d.1)
     go false false f = absurd cc
@@ -101,7 +101,7 @@ pub record IsLine (s : SpecValue) (us : List (List ℕ)) (g : Given) (stand : St
 
 clash_of : (c : Linear) → is_clash c ≡ true → IsClash c
 clash_of c h =
-    let parts = both (length c.terms == 0) (ltb 0 c.degree) h in
+    let parts = and_parts (length c.terms == 0) (ltb 0 c.degree) h in
     record { no_terms = none c.terms (eqb-true (length c.terms) 0 parts.0); asks = ltb-true 0 c.degree parts.1 }
   where
     none : {X : Type 0} (xs : List X) → length xs ≡ 0 → xs ≡ []
@@ -133,8 +133,8 @@ numbers_may s us v w e = go (length v == length s.objectives) (ltb (first_above 
     go true false true p q r e = (cc, record { one_each = eqb-true (length v) (length s.objectives) p; within = within_of s v q; dominated = below_of_any us v r })
 
 -- the numbers of a cover that is judged without fault may stand
-pub cover_may : (s : SpecValue) (us : List (List ℕ)) (w : List ℕ) (ws : Words) → judge_cover s us (each_said number_of ws) ≡ Ok w → MayCover s us w
-cover_may s us w ws e = go (each_said number_of ws) e
+pub cover_may : (s : SpecValue) (us : List (List ℕ)) (w : List ℕ) (ws : Words) → judge_cover s us (each_said numeral_number ws) ≡ Ok w → MayCover s us w
+cover_may s us w ws e = go (each_said numeral_number ws) e
   where
     go : (o : Option (List ℕ)) → judge_cover s us o ≡ Ok w → MayCover s us w
     go None f = absurd cc
@@ -176,16 +176,14 @@ line_of_piece s us g stand piece e =
 
 -- ---- and the other way round
 
-same_count : (n : ℕ) → (n == n) ≡ true
-same_count n = grind (arith, nat_tests)
-
 numbers_judged : (s : SpecValue) (us : List (List ℕ)) (v : List ℕ) → MayCover s us v → judge_numbers s us v ≡ Ok v
 numbers_judged s us v h =
-    let one : (length v == length s.objectives) ≡ true = subst (λ (n : ℕ). (length v == n) ≡ true) h.one_each (same_count (length v)) in
+    let one : (length v == length s.objectives) ≡ true = eq-eqb (length v) (length s.objectives) h.one_each in
     rw (one, of_within s v h.within, any_of_below us v h.dominated) refl
 
 -- what a legal line leaves is what is judged of it
-pub legal_judged : (s : SpecValue) (us : List (List ℕ)) (g h : Given) (l : Line) → MayStand s us l → given_with (cover_frame s) g l ≡ Some h → (closed : Bool) × (judge_said s us g l ≡ Ok (record { given = h; closed = closed }))
+pub legal_judged : (s : SpecValue) (us : List (List ℕ)) (g h : Given) (l : Line) → MayStand s us l → given_with (cover_frame s) g l ≡ Some h → (closed : Bool)
+    × (judge_said s us g l ≡ Ok (record { given = h; closed = closed }))
 legal_judged s us g h l may e = go l may (goes (cover_frame s) g h l e)
   where
     go : (l : Line) → MayStand s us l → Goes (cover_frame s) g h l → (closed : Bool) × (judge_said s us g l ≡ Ok (record { given = h; closed = closed }))
@@ -200,5 +198,6 @@ clash_is c h =
     rw (none, lt-ltb 0 c.degree h.asks) refl
 
 -- a line that derives a clash closes
-pub clash_judged : (s : SpecValue) (us : List (List ℕ)) (g : Given) (ops : List Op) (c : Linear) → line_gives (context_of g) ops ≡ Ok c → IsClash c → judge_said s us g (derived ops) ≡ Ok (record { given = with_derived g c; closed = true })
+pub clash_judged : (s : SpecValue) (us : List (List ℕ)) (g : Given) (ops : List Op) (c : Linear) → line_gives (context_of g) ops ≡ Ok c → IsClash c
+    → judge_said s us g (derived ops) ≡ Ok (record { given = with_derived g c; closed = true })
 clash_judged s us g ops c e h = ap (after_derived g) e ∙ ap (λ (b : Bool). Ok (record { given = with_derived g c; closed = b })) (clash_is c h)

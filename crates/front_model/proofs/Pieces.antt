@@ -6,7 +6,7 @@ use Rattle.std.proofs.lemmas.List.{append-nil, append_assoc}
 use Rattle.std.proofs.lemmas.List.Elements.{All-head, All-tail}
 use Rattle.line_words.specs.Front.{is_lf}
 use Rattle.spelled_lines.specs.Lines.{pieces}
-use Rattle.spelled_lines.proofs.FirstPiece.{pieces-nil, pieces-end, pieces-byte, pieces-last}
+use Rattle.spelled_lines.proofs.FirstPiece.{pieces-nil, pieces_end, pieces_byte, pieces_last}
 use Rattle.proof_log.proofs.Pieces.{Cut}
 use Rattle.front_model.specs.Laws.{IsPiece, CutIsPieces, IsEnded, EndedAreFirst}
 
@@ -31,18 +31,18 @@ piece_alone (b ∷ p) more h has =
       | inr f ↦
           let n : position_or_len is_lf (b ∷ p) ≡ suc (position_or_len is_lf p) = rw f (omega arith) in
           let later : list_any is_lf p ≡ true = rw f at has in
-          pieces-byte b (p ++ more) f ∙ ap (onto_first b) (piece_alone p more (omega (arith, h, n)) later)
+          pieces_byte b (p ++ more) f ∙ ap (onto_first b) (piece_alone p more (omega (arith, h, n)) later)
     ]
   where
     alone : (p : List ℕ) → length (b ∷ p) ≤ 1 → is_lf b ≡ true → pieces ((b ∷ p) ++ more) ≡ (b ∷ p) ∷ pieces more
-    alone [] l t = pieces-end b more t
+    alone [] l t = pieces_end b more t
     alone (c ∷ p) l t = absurd (omega (arith, l))
 
 last_alone : (p : List ℕ) → IsPiece p → pieces p ≡ p ∷ []
 last_alone p h =
     elim (cases_Bool (list_any is_lf p)) [
       | inl t ↦ ap pieces (sym (append-nil p)) ∙ (piece_alone p [] h.one_lf t ∙ ap (λ (ps : List (List ℕ)). p ∷ ps) pieces-nil)
-      | inr f ↦ pieces-last p h.some (omega (arith, no_lf p f)) ∙ ap (λ (ps : List (List ℕ)). p ∷ ps) pieces-nil
+      | inr f ↦ pieces_last p h.some (omega (arith, no_lf p f)) ∙ ap (λ (ps : List (List ℕ)). p ∷ ps) pieces-nil
     ]
 
 pub cut_is_pieces : CutIsPieces

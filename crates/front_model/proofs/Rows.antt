@@ -66,12 +66,14 @@ unfolding pieces encoding block_of below_place is_below at_least weighted has_we
 cover_and_sum = refl
 
 none_cheaper : said two_resources three_front (proof (codes "c 3" ∷ codes "p 1 3 + 4 + *3 8 + 7 *4 +" ∷ [])) ≡ accepted
-unfolding pieces encoding on_resource option_allocates resource_has_use of_task block_of below_place is_below at_least weighted has_weight total_weight weights_of arc_weight all_variables plain_whole_of whole_of
+unfolding pieces encoding on_resource option_allocates resource_has_use of_task block_of below_place is_below at_least weighted has_weight total_weight weights_of arc_weight all_variables
+    plain_whole_of whole_of
 none_cheaper = refl
 
 -- the division of `x0 + x1 >= 1` by 2 rounds up
 rounds_up : said two_resources three_front (proof (codes "c 3" ∷ codes "p 1 /2 3 + 4 + *3 8 + 7 *4 +" ∷ [])) ≡ accepted
-unfolding pieces encoding on_resource option_allocates resource_has_use of_task block_of below_place is_below at_least weighted has_weight total_weight weights_of arc_weight all_variables plain_whole_of whole_of
+unfolding pieces encoding on_resource option_allocates resource_has_use of_task block_of below_place is_below at_least weighted has_weight total_weight weights_of arc_weight all_variables
+    plain_whole_of whole_of
 rounds_up = refl
 
 -- ---- the form of a file

@@ -1,14 +1,12 @@
 -- The words of a line that are judged without fault are those of legal operations, and the other way round.
-use Rattle.std.proofs.Common.{◌≡◌, List, [], ◌∷◌, map, Option, Some, None, Result, Ok, Err, refl, ap, ◌∙◌, subst}
-use Rattle.std.specs.Prelude.{All}
+use Rattle.std.proofs.Common.{◌≡◌, List, [], ◌∷◌, Option, Some, None, Result, Ok, Err, refl, ap, ◌∙◌, subst}
 use Rattle.line_words.specs.Rules.{Words}
 use Rattle.pb_rules.specs.declared.Op.{Op}
 use Rattle.pb_rules.specs.Linear.{Linear}
 use Rattle.pb_rules.specs.Operations.{Context, Fault, and_then, apply, apply_all, only_one, line_gives}
-use Rattle.proof_words.specs.Words.{op_text, op_of, IsWritable}
-use Rattle.proof_words.proofs.Spellings.{read_back}
+use Rattle.proof_words.specs.Words.{op_of}
 use Rattle.proof_log.specs.Files.{each_said}
-use Rattle.proof_log.proofs.Words.{first_said, said_cons, said_back}
+use Rattle.proof_log.proofs.Words.{first_said, said_cons}
 use Rattle.front_model.specs.Judging.{judge_op, judge_words, judge_derivation}
 
 abbrev Stack : Type 0
@@ -26,13 +24,15 @@ pub words_legal : (context : Context) (ws : Words) (st r : Stack) → judge_word
 words_legal context [] st r e = record { ops = []; said = refl; legal = e }
 words_legal context (w ∷ ws) st r e = go (λ m. words_legal context ws m r) (op_of w) refl e
   where
-    applied : ((m : Stack) → judge_words context ws m ≡ Ok r → LegalWords context m r ws) → (op : Op) → op_of w ≡ Some op → (o : Result Stack Fault) → apply context op st ≡ o → and_then (judge_words context ws) o ≡ Ok r → LegalWords context st r (w ∷ ws)
+    applied : ((m : Stack) → judge_words context ws m ≡ Ok r → LegalWords context m r ws) → (op : Op) → op_of w ≡ Some op → (o : Result Stack Fault) → apply context op st ≡ o
+        → and_then (judge_words context ws) o ≡ Ok r → LegalWords context st r (w ∷ ws)
     applied ih op q (Err why) a e = absurd cc
     applied ih op q (Ok m) a e =
         let more = ih m e in
         record { ops = op ∷ more.ops; said = said_cons op_of w ws op more.ops q more.said; legal = ap (and_then (apply_all context more.ops)) a ∙ more.legal }
 
-    go : ((m : Stack) → judge_words context ws m ≡ Ok r → LegalWords context m r ws) → (o : Option Op) → op_of w ≡ o → and_then (judge_words context ws) (judge_op context st o) ≡ Ok r → LegalWords context st r (w ∷ ws)
+    go : ((m : Stack) → judge_words context ws m ≡ Ok r → LegalWords context m r ws) → (o : Option Op) → op_of w ≡ o → and_then (judge_words context ws) (judge_op context st o) ≡ Ok r
+        → LegalWords context st r (w ∷ ws)
     go ih None q e = absurd cc
     go ih (Some op) q e = applied ih op q (apply context op st) refl e
 
@@ -66,6 +66,3 @@ derives context c ws e = go (judge_words context ws []) refl e
     go (Ok st) q e =
         let all = words_legal context ws [] st q in
         record { ops = all.ops; said = all.said; gives = ap (and_then only_one) all.legal ∙ e }
-
-pub derived_is : (context : Context) (ops : List Op) → All IsWritable ops → judge_derivation context (map op_text ops) ≡ line_gives context ops
-derived_is context ops h = ap (and_then only_one) (judged_ops context (map op_text ops) ops [] (said_back op_text op_of IsWritable read_back ops h))

@@ -7,7 +7,7 @@ use Rattle.pb_rules.specs.declared.Op.{Op}
 use Rattle.pb_rules.specs.Linear.{Linear}
 use Rattle.pb_rules.specs.Operations.{Context, Fault, unknown, zero_divisor, too_large, no_step, and_then, apply, only_one}
 use Rattle.pb_rules.specs.Frames.{Given, context_of, base_of, with_derived, with_block}
-use Rattle.proof_words.specs.Words.{op_of, number_of}
+use Rattle.proof_words.specs.Words.{op_of, numeral_number}
 use Rattle.spec_model.specs.Spec.{SpecValue, below}
 use Rattle.encode_model.specs.Block.{total_weight, cover_frame}
 use Rattle.spelled_lines.specs.Lines.{words_of}
@@ -46,7 +46,7 @@ judge_derivation context ws = and_then only_one (judge_words context ws [])
 
 -- the numbers that words write, where each is a numeral
 abbrev pub numbers_of : Words → Option (List ℕ)
-numbers_of ws = each_said number_of ws
+numbers_of ws = each_said numeral_number ws
 
 -- number j is above its objective's weights
 abbrev pub is_above : SpecValue → List ℕ → ℕ → Bool

@@ -4,7 +4,8 @@ use Rattle.pb_rules.specs.Frames.{Line, derived_count, base_of, with_derived}
 use Rattle.pb_rules.proofs.Given.{given-push}
 use Rattle.proof_log.specs.Log.{LogValue}
 use Rattle.proof_log.specs.Text.{proof_text}
-use Rattle.proof_log.specs.Files.{OfFile, LegalReadBack, AreLegal}
+use Rattle.proof_log.specs.Files.{LegalReadBack, AreLegal}
+use Rattle.proof_log.proofs.Legal.{of_lines}
 use Rattle.spec_model.specs.Spec.{SpecValue}
 use Rattle.encode_model.specs.Block.{cover_frame}
 use Rattle.result_text.specs.Answers.{EntryValue}
@@ -16,12 +17,8 @@ use Rattle.front_search.specs.declared.ending.SearchEnd.{SearchEnd}
 use Rattle.front_search.specs.declared.ending.SearchEnd.TheVariants as ends
 use Rattle.front_search.specs.Searches.{EndSays, is_complete}
 use Rattle.run_base.specs.declared.outcome.Outcome.{Outcome}
-use Rattle.front_run.specs.Fronting.{WantedValue, LinesFind, LinesUseUp, Finds, both_files, complete_text, open_text}
+use Rattle.front_run.specs.Fronting.{WantedFrontValue, LinesFind, LinesUseUp, Finds, both_files, complete_text, open_text}
 use Rattle.front_run.specs.Wanting.{ending_of, said_of}
-
--- legal lines are those of their file
-of_lines : LegalReadBack → (P : List Line → Type 0) (s : SpecValue) (ls : List Line) → AreLegal (cover_frame s) ls → P ls → OfFile P (proof_text ls)
-of_lines back P s ls legal h = record { lines = ls; read = back (cover_frame s) legal.0 ls legal.1; holds = h }
 
 -- lines that refute are legal
 legal_refuting : (s : SpecValue) (us : List (List ℕ)) (ls : List Line) → Refute s us ls → AreLegal (cover_frame s) ls
@@ -45,7 +42,7 @@ within_given o budget lines n e within is =
     let same : budget ≡ n = e ∙ ap (λ (p : Option ℕ). unwrap_or p (2 ^ 64 - 1)) is in
     omega (arith, same, within)
 
-pub finds : LegalReadBack → (s : SpecValue) (wanted : WantedValue) (budget : ℕ) (found : List EntryValue) (front : FrontValue) (log : LogValue) (end : SearchEnd) (outcome : Outcome)
+pub finds : LegalReadBack → (s : SpecValue) (wanted : WantedFrontValue) (budget : ℕ) (found : List EntryValue) (front : FrontValue) (log : LogValue) (end : SearchEnd) (outcome : Outcome)
     → budget ≡ unwrap_or wanted.budget (2 ^ 64 - 1) → derived_count log.lines < 2 ^ 63
     → FoundPrefix s found → covers_of log.lines ≡ vectors_in found → AreUndominated found front.entries → front.complete ≡ is_complete end → EndSays s budget found log.lines end
     → (end ≡ ends.Complete → IsFrontOf s front) → (end ≡ ends.Complete → AcceptsTexts s (front_text s front) (proof_text log.lines))
@@ -59,7 +56,7 @@ finds back s wanted budget found front log ends.Complete outcome given few prefi
   exact = exact refl;
   proof = proof_text log.lines;
   accepted = accepted refl;
-  lines = of_lines back (LinesFind s found wanted.budget) s log.lines (legal_refuting s (vectors_in found) log.lines says.refute) (record {
+  lines = of_lines back (LinesFind s found wanted.budget) (cover_frame s) log.lines (legal_refuting s (vectors_in found) log.lines says.refute) (record {
     covers = covers;
     last = says.last;
     within = λ n is. within_given wanted.budget budget (derived_count log.lines) n given says.within is;
@@ -78,7 +75,8 @@ finds back s wanted budget found front log ends.Budget outcome given few prefix 
   undominated = kept;
   is_open = complete;
   proof = proof_text log.lines;
-  lines = of_lines back (LinesUseUp s found budget) s log.lines (says.honest.honest.after, says.honest.honest.legal) (record { covers = covers; count = says.used_up; honest = says.honest });
+  lines = of_lines back (LinesUseUp s found budget) (cover_frame s) log.lines (says.honest.honest.after, says.honest.honest.legal)
+      (record { covers = covers; count = says.used_up; honest = says.honest });
   writes = writes;
   says = text ∙ said_open front.complete (length front.entries) complete;
 })

@@ -19,13 +19,13 @@ use Rattle.run_base.specs.declared.outcome.Ending.TheVariants.{Done, Budget}
 use Rattle.run_base.specs.declared.outcome.Outcome.{Outcome}
 
 -- what is wanted: how many lines the search may derive, where it is given, and the files that the front and its proof are written to
-pub record WantedValue : Type 0 where
+pub record WantedFrontValue : Type 0 where
   pub budget : Option ℕ
   pub front : List ℕ
   pub proof : List ℕ
 
 -- the two files that are written, in order
-abbrev pub both_files : WantedValue → List ℕ → List ℕ → Files
+abbrev pub both_files : WantedFrontValue → List ℕ → List ℕ → Files
 both_files wanted front proof = (wanted.front, front) ∷ (wanted.proof, proof) ∷ []
 
 -- what is said of a front with so many entries: that it is complete, or open
@@ -48,7 +48,7 @@ pub record LinesUseUp (s : SpecValue) (found : List EntryValue) (budget : ℕ) (
   pub honest : IsHonestLog (cover_frame s) ls
 
 -- the front of the specification is written, with a proof that is accepted with it: it has the undominated entries of the whole found list, whose vectors are the covers of the proof
-pub record FindsAll (wanted : WantedValue) (s : SpecValue) (outcome : Outcome) : Type 0 where
+pub record FindsAll (wanted : WantedFrontValue) (s : SpecValue) (outcome : Outcome) : Type 0 where
   pub ending : outcome.ending ≡ Done
   pub found : List EntryValue
   pub whole : FoundWhole s found
@@ -62,7 +62,7 @@ pub record FindsAll (wanted : WantedValue) (s : SpecValue) (outcome : Outcome) :
   pub says : outcome.text.items ≡ complete_text (length front.entries)
 
 -- the budget is used up, as the proof shows that is written, and is below what the vectors of the valid designs allow: the front has the undominated entries of what was found before, and is open
-pub record FindsSome (wanted : WantedValue) (s : SpecValue) (outcome : Outcome) : Type 0 where
+pub record FindsSome (wanted : WantedFrontValue) (s : SpecValue) (outcome : Outcome) : Type 0 where
   pub ending : outcome.ending ≡ Budget
   pub budget : ℕ
   pub given : wanted.budget ≡ Some budget
@@ -78,12 +78,12 @@ pub record FindsSome (wanted : WantedValue) (s : SpecValue) (outcome : Outcome) 
   pub says : outcome.text.items ≡ open_text (length front.entries)
 
 -- what a specification comes to; memory may run out
-abbrev pub Finds : WantedValue → SpecValue → Outcome → Type 0
+abbrev pub Finds : WantedFrontValue → SpecValue → Outcome → Type 0
 Finds wanted s outcome = FindsAll wanted s outcome ⊎ FindsSome wanted s outcome
 
-abbrev pub FrontsSpec : WantedValue → SpecValue → Result Outcome ReadFault → Type 0
+abbrev pub FrontsSpec : WantedFrontValue → SpecValue → Result Outcome ReadFault → Type 0
 FrontsSpec wanted s result = Makes (Finds wanted s) result
 
 -- what the files come to
-abbrev pub Fronts : WantedValue → World → Result Outcome ReadFault → Type 0
+abbrev pub Fronts : WantedFrontValue → World → Result Outcome ReadFault → Type 0
 Fronts wanted world result = AfterSpec world (FrontsSpec wanted) result

@@ -5,11 +5,11 @@ use Rattle.front_search.specs.declared.ending.SearchEnd.{SearchEnd}
 use Rattle.front_search.specs.declared.ending.SearchEnd.TheVariants as ends
 use Rattle.run_base.specs.declared.outcome.Ending.{Ending}
 use Rattle.run_base.specs.declared.outcome.Ending.TheVariants.{Done, Budget}
-use Rattle.front_run.specs.Fronting.{WantedValue, complete_text, open_text}
+use Rattle.front_run.specs.Fronting.{WantedFrontValue, complete_text, open_text}
 use Rattle.front_run.specs.declared.fronting.Wanted.{Wanted}
 
 -- what is wanted
-abbrev pub wanted_value : Wanted → WantedValue
+abbrev pub wanted_value : Wanted → WantedFrontValue
 wanted_value wanted = record { budget = wanted.budget; front = wanted.front_file.now; proof = wanted.proof_file.now }
 
 -- what is said of a front

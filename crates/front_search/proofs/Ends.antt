@@ -20,7 +20,8 @@ use Rattle.front_search.specs.Searches.{EndSays, IsWholeSearch, is_complete}
 pub front_shaped : (s : SpecValue) (found front : List EntryValue) → IsWellFormed s → FoundPrefix s found → AreUndominated found front → All (IsShaped s) front
 front_shaped s found front wf prefix kept k d l = All-contains (IsShaped s) found (get_or front k d) (found_are_shaped s found wf prefix) (kept.only k d l).there
 
-module _ (s : SpecValue) (budget : ℕ) (found : List EntryValue) (front : FrontValue) (ls : List Line) (end : SearchEnd) (wf : IsWellFormed s) (prefix : FoundPrefix s found) (kept : AreUndominated found front.entries) (complete : front.complete ≡ is_complete end) (says : EndSays s budget found ls end) (is : end ≡ ends.Complete) where
+module _ (s : SpecValue) (budget : ℕ) (found : List EntryValue) (front : FrontValue) (ls : List Line) (end : SearchEnd) (wf : IsWellFormed s) (prefix : FoundPrefix s found)
+    (kept : AreUndominated found front.entries) (complete : front.complete ≡ is_complete end) (says : EndSays s budget found ls end) (is : end ≡ ends.Complete) where
   whole_search : IsWholeSearch s budget found ls
   whole_search = subst (EndSays s budget found ls) is says
 

@@ -1,23 +1,16 @@
 -- Vectors that rise, and one more among them.
-use Rattle.std.proofs.Common.{◌≡◌, ◌≢◌, ℕ, zero, suc, ◌+◌, ◌-◌, ◌<◌, ◌≤◌, List, [], ◌∷◌, ◌++◌, length, get_or, take, drop, refl, sym, ap, ap₂, ◌∙◌, subst, arith, ◌⊎◌, inl, inr}
-use Rattle.std.specs.Prelude.{All, Contains, slice_index}
+use Rattle.std.proofs.Common.{◌≡◌, ℕ, zero, suc, ◌+◌, ◌-◌, ◌<◌, ◌≤◌, List, [], ◌∷◌, length, get_or, refl, sym, ap, ap₂, ◌∙◌, subst, arith, ◌⊎◌, inl, inr}
+use Rattle.std.specs.Prelude.{Contains, slice_index}
 use Rattle.std.specs.List.{insert}
-use Rattle.std.proofs.lemmas.Bool.{cases_lt, cases_eq}
+use Rattle.std.proofs.lemmas.Bool.{cases_lt}
 use Rattle.std.proofs.lemmas.List.Edits.{length-insert, get_or-insert_at, get_or-insert_below, get_or-insert_above}
 use Rattle.std.proofs.lemmas.List.Elements.{Contains-get_or}
-use Rattle.spec_model.specs.Vectors.{IsAtMost, Dominates}
-use Rattle.spec_model.proofs.Vectors.{at_most_itself, at_most_both}
 use Rattle.front_model.specs.Fronts.{StandsBefore, Rise}
+use Rattle.front_model.proofs.Rising.{through}
 use Rattle.front_lists.specs.Lists.{AreLong}
 use Rattle.front_search.specs.Turns.{IsPlaceFor}
 
 -- ---- dominating
-
-pub dominates_of : (u v : List ℕ) → IsAtMost u v → ¬ IsAtMost v u → Dominates u v
-dominates_of u v le fails = (le, λ e. fails (subst (IsAtMost v) (sym e) (at_most_itself v)))
-
-pub not_back : (u v : List ℕ) → length u ≡ length v → Dominates u v → ¬ IsAtMost v u
-not_back u v e d back = d.1 (at_most_both u v e d.0 back)
 
 -- ---- one stands before the other
 
@@ -50,30 +43,6 @@ before_or_same (x ∷ u) (y ∷ v) e =
                 | inr b ↦ inr (inr (ahead y x v u (sym same) b))
               ]
             ]
-      ]
-    ]
-
-through : (u v w : List ℕ) → StandsBefore u v → StandsBefore v w → StandsBefore u w
-through u v w a b =
-    elim (cases_lt a.place b.place) [
-      | inl l ↦ record {
-        place = a.place;
-        same = λ j k. a.same j k ∙ b.same j (omega (arith, k, l));
-        less = omega (arith, a.less, b.same a.place l);
-      }
-      | inr g ↦ elim (cases_lt b.place a.place) [
-        | inl l ↦ record {
-          place = b.place;
-          same = λ j k. a.same j (omega (arith, k, l)) ∙ b.same j k;
-          less = omega (arith, a.same b.place l, b.less);
-        }
-        | inr h ↦
-            let e : b.place ≡ a.place = omega (arith, g, h) in
-            record {
-              place = a.place;
-              same = λ j k. a.same j k ∙ b.same j (omega (arith, k, e));
-              less = omega (arith, a.less, subst (λ (p : ℕ). slice_index v p < slice_index w p) e b.less);
-            }
       ]
     ]
 

@@ -1,10 +1,10 @@
 -- The front of the first entries of a found list, and of one more.
-use Rattle.std.proofs.Common.{◌≡◌, ◌≢◌, ℕ, zero, suc, ◌+◌, ◌<◌, ◌≤◌, List, [], ◌∷◌, ◌++◌, length, get_or, take, drop, map, refl, sym, ap, ap₂, ◌∙◌, subst, arith, ◌⊎◌, inl, inr}
+use Rattle.std.proofs.Common.{◌≡◌, ℕ, zero, suc, ◌+◌, ◌<◌, List, [], ◌∷◌, ◌++◌, length, get_or, take, drop, map, refl, sym, ap, ap₂, ◌∙◌, subst, arith, inl, inr}
 use Rattle.std.specs.Prelude.{Bool, false, All, Contains, IsTrue}
 use Rattle.std.specs.List.{insert}
 use Rattle.std.proofs.lemmas.Bool.{false≢true}
 use Rattle.std.proofs.lemmas.List.{length-map, get_or-map, map-append, take-map, drop-map, take-append-drop, take_more, length-take, get_or-take}
-use Rattle.std.proofs.lemmas.List.Elements.{All-append, All-take, All-drop, All-cons, All-nil, All-weaker, All-contains, Contains-get_or, Contains-append_left, Contains-append_right, Contains-append_cases}
+use Rattle.std.proofs.lemmas.List.Elements.{All-append, All-take, All-drop, All-cons, All-weaker, All-contains, Contains-get_or, Contains-append_left, Contains-append_right, Contains-append_cases}
 use Rattle.spec_model.specs.WellFormed.{AreDistinct}
 use Rattle.result_text.specs.Answers.{EntryValue, as_seen}
 use Rattle.result_text.specs.declared.entries.Entry.{Entry}
@@ -74,14 +74,6 @@ kept_less found early front e h dominated = record {
   rising = h.rising;
 }
 
-pub kept_none : (found : List EntryValue) → AreKeptOf found [] []
-kept_none found = record {
-  only = All-nil (IsKept found);
-  early_each = All-nil (Contains []);
-  each = λ x c kept. absurd (let l = c.1 in omega arith);
-  rising = λ i j d lt l. absurd (omega (arith, l));
-}
-
 pub kept_all : (found early front : List EntryValue) → early ≡ found → AreKeptOf found early front → AreUndominated found front
 kept_all found early front e h = record {
   only = h.only;
@@ -107,8 +99,8 @@ seen_there es i e l is = (i, omega (arith, l, length-map es as_seen), get_or-map
 pub seen-insert : (es : List Entry) (i : ℕ) (e : Entry) → seen (insert es i e) ≡ insert (seen es) i (as_seen e)
 seen-insert es i e = map-insert as_seen es i e
 
-pub seen-more : (es : List Entry) (i : ℕ) (e : Entry) → i < length es → e ≡ get_or es i e → seen (take (i + 1) es) ≡ seen (take i es) ++ as_seen e ∷ []
-seen-more es i e l is =
+pub seen_more : (es : List Entry) (i : ℕ) (e : Entry) → i < length es → e ≡ get_or es i e → seen (take (i + 1) es) ≡ seen (take i es) ++ as_seen e ∷ []
+seen_more es i e l is =
     ap seen (take_more es i e l ∙ ap (λ (x : Entry). take i es ++ x ∷ []) (sym is)) ∙ map-append as_seen (take i es) (e ∷ [])
 
 -- the vectors of a front are as long as those of the found list

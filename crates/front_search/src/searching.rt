@@ -20,7 +20,7 @@ use crate::covering::cover;
 use crate::ending::{Search, SearchEnd, Turn};
 use crate::fronts::undominated;
 use encode_views::design_of;
-use genotype::{Genotype, Order};
+use genotype::Genotype;
 use impl_rules::vector_of;
 use ordered_solver::{Answer, Solver};
 use result_text::{Entries, Entry, Front, Vector};
@@ -62,7 +62,7 @@ fn next_turn(
     let left = budget - solver.log().learned();
     let genotype = Genotype::natural(alloc, spec.design_variables())?;
     let variables = spec.all_variables() + found.len() as u64 * spec.objectives() as u64;
-    let order = Order::of(alloc, &genotype, variables)?;
+    let order = genotype.order_of(alloc, variables)?;
     match solver.solve(alloc, &order, left)? {
         Answer::Model(values) => Ok(Turn::Found(entry_of(alloc, spec, &values)?)),
         Answer::Nothing => Ok(Turn::Ended(SearchEnd::Complete)),

@@ -10,7 +10,8 @@ use Rattle.pb_rules.specs.Order.{AgreeOn}
 use Rattle.pb_rules.specs.Order as along
 use Rattle.spec_model.specs.Spec.{below}
 use Rattle.spec_model.specs.Genotypes.{GeneValue, gene_at, StandsBefore, IsBefore}
-use Rattle.genotype.specs.Order.{var_of, IsOrder, IsOrderOf}
+use Rattle.variable_order.specs.Order.{var_of, IsOrder}
+use Rattle.genotype.specs.Order.{IsOrderOf}
 use Rattle.genotype.proofs.Placing.{stands_trans}
 
 -- ---- literals
@@ -48,7 +49,8 @@ place_of order u once lt =
     map_len (x ∷ xs) = omega (arith, map_len xs)
 
 -- a variable with a gene has its place among the first
-own_place : (genes : List GeneValue) (variables : ℕ) (order : List Literal) (j u : ℕ) (d : Literal) → IsOrderOf genes variables order → j < length order → var_of (get_or order j d) ≡ u → u < length genes → j < length genes
+own_place : (genes : List GeneValue) (variables : ℕ) (order : List Literal) (j u : ℕ) (d : Literal) → IsOrderOf genes variables order → j < length order → var_of (get_or order j d) ≡ u
+    → u < length genes → j < length genes
 own_place genes variables order j u d o within is lt =
     elim (cases_lt j (length genes)) [
       | inl low ↦ low
@@ -58,7 +60,7 @@ own_place genes variables order j u d o within is lt =
     ]
 
 pub first_along : (genes : List GeneValue) (variables : ℕ) (order : List Literal) (v w : ℕ → Bool) → IsOrderOf genes variables order → length genes ≤ variables
-    → AgreeOn order v w ⊎ along.IsBefore order v w → ((k : ℕ) → k < length genes → v k ≡ w k) ⊎ IsBefore genes v w
+    → AgreeOn order v w ⊎ along.IsBeforeAlong order v w → ((k : ℕ) → k < length genes → v k ≡ w k) ⊎ IsBefore genes v w
 first_along genes variables order v w o fits (inl agree) = inl (λ k lt.
     let p = place_of order k o.each_once (omega (arith, o.len, lt, fits)) in
     let d : Literal = record { var = 0; yes = false } in

@@ -14,8 +14,10 @@ use Rattle.pb_rules.specs.Literal.{Literal}
 use Rattle.spec_model.specs.Spec.{below}
 use Rattle.spec_model.specs.Genotypes.{GeneValue, plain_gene, gene_at, StandsBefore}
 use Rattle.genotype.specs.Genes.{HasPriority}
-use Rattle.genotype.specs.Order.{var_of, IsOrder, IsOrderOf}
+use Rattle.variable_order.specs.Order.{var_of, IsOrder}
+use Rattle.genotype.specs.Order.{IsOrderOf}
 use Rattle.genotype.specs.Placing.{literal_at, other_literal, literals_of, lateness, IsLed}
+use Rattle.plain_lists.proofs.Numbers.{eqb_comm}
 
 -- ---- the variables of the literals
 
@@ -47,16 +49,13 @@ distinct_range : (a n : ℕ) → IsDistinct eqb (range_with_len a n)
 distinct_range a zero = distinct_none
 distinct_range a (suc n) = IsDistinct-cons eqb a (range_with_len (a + 1) n) (apart a (a + 1) n (omega arith)) (distinct_range (a + 1) n)
 
-flips : (a b : ℕ) → eqb a b ≡ eqb b a
-flips a b = grind (arith, nat_tests)
-
 differ : (genes : List GeneValue) (order : List Literal) → IsPermutation (literals_of genes) order → (i j : ℕ) (d : Literal) → i < j → j < length order
     → var_of (get_or order i d) ≢ var_of (get_or order j d)
 differ genes order p i j d lt within e =
     let vars = map var_of order in
     let own = literals_of genes in
     let start : IsDistinct eqb (map var_of own) = subst (IsDistinct eqb) (sym (vars_of (literal_at genes) (λ v. refl) 0 (length genes))) (distinct_range 0 (length genes)) in
-    let distinct = IsDistinct-IsPermutation eqb flips (map var_of own) vars (IsPermutation-map var_of own order p) start in
+    let distinct = IsDistinct-IsPermutation eqb eqb_comm (map var_of own) vars (IsPermutation-map var_of own order p) start in
     let len : length vars ≡ length order = length_map order in
     AllPairs-from_IsDistinct Decides-eqb vars distinct i j 0 lt (omega (arith, len, within))
     (get_or-map var_of order i d 0 (omega (arith, lt, within)) ∙ e ∙ sym (get_or-map var_of order j d 0 within))
@@ -163,7 +162,8 @@ order_is genes variables front order fits led is =
     let others_len : length others ≡ more = length-map-range_with_len other_literal (length front) more in
     let total : length order ≡ variables = ap length is ∙ omega (arith, length-append front others, others_len, count, fits) in
     let owns : All (IsOwn genes) front = All-permutation (IsOwn genes) own front led.permutation (own_literals genes) in
-    let front_at : (i : ℕ) (d : Literal) → i < n → get_or order i d ≡ get_or front i d = λ i d lt. ap (λ (xs : List Literal). get_or xs i d) is ∙ get_or_append_left front others d i (omega (arith, lt, count)) in
+    let front_at : (i : ℕ) (d : Literal) → i < n → get_or order i d ≡ get_or front i d = λ i d lt. ap (λ (xs : List Literal). get_or xs i d) is
+    ∙ get_or_append_left front others d i (omega (arith, lt, count)) in
     let own_at : (i : ℕ) (d : Literal) → i < n → IsOwn genes (get_or order i d) = λ i d lt. subst (IsOwn genes) (sym (front_at i d lt)) (owns i d (omega (arith, lt, count))) in
     record {
       len = total;
@@ -211,7 +211,8 @@ own_step genes now next l v so_far push is =
     ∙ sym (map-range_with_len_more (literal_at genes) 0 v v (omega arith))
 
 -- one more of the other variables
-pub others_step : (old now next : List Literal) (l : Literal) (start at : ℕ) → now ≡ old ++ map other_literal (range_with_len start (at - start)) → next ≡ now ++ l ∷ [] → l ≡ other_literal at → start ≤ at
+pub others_step : (old now next : List Literal) (l : Literal) (start at : ℕ) → now ≡ old ++ map other_literal (range_with_len start (at - start)) → next ≡ now ++ l ∷ [] → l ≡ other_literal at
+    → start ≤ at
     → next ≡ old ++ map other_literal (range_with_len start (at + 1 - start))
 others_step old now next l start at so_far push is le =
     let before = map other_literal (range_with_len start (at - start)) in

@@ -5,7 +5,8 @@ use Rattle.spec_model.specs.Genotypes.{GeneValue, plain_gene, gene_at}
 use Rattle.genotype.specs.Spelling.{gene_text, genes_text}
 
 -- one more gene is written
-pub text_step : (genes : List GeneValue) (v : ℕ) (now next all : List ℕ) (g : GeneValue) → now ++ genes_text v (drop v genes) ≡ all → next ≡ now ++ gene_text v g → g ≡ gene_at genes v → v < length genes
+pub text_step : (genes : List GeneValue) (v : ℕ) (now next all : List ℕ) (g : GeneValue) → now ++ genes_text v (drop v genes) ≡ all → next ≡ now ++ gene_text v g → g ≡ gene_at genes v
+    → v < length genes
     → next ++ genes_text (v + 1) (drop (v + 1) genes) ≡ all
 text_step genes v now next all g so_far push is lt =
     let more = genes_text (v + 1) (drop (v + 1) genes) in

@@ -1,7 +1,7 @@
 -- What is written reads as the genotype.
 use Rattle.std.proofs.Common.{◌≡◌, ℕ, suc, ◌+◌, ◌^◌, ◌<◌, ◌≤◌, ◌⊎◌, Bool, true, false, not, eqb, ltb, List, [], ◌∷◌, ◌++◌, length, Option, Some, None, Result, Ok, Err, refl, sym, ap, subst, ◌∙◌, arith, inl, inr, All, append_assoc, length-append}
 use Rattle.std.specs.Prelude.{decimal, codes, replicate, slice_set}
-use Rattle.std.proofs.lemmas.Bool.{cases_Bool, lt-leb, le-ltb, eqb-true}
+use Rattle.std.proofs.lemmas.Bool.{cases_Bool, lt-leb, le-ltb, eqb-true, and_parts}
 use Rattle.std.proofs.lemmas.Fmt.{decimal_nonempty, length-decimal-le}
 use Rattle.std.proofs.Math.Seq.{set-append_seam}
 use Rattle.line_words.specs.Text.{lines, words_from}
@@ -12,11 +12,10 @@ use Rattle.line_words.specs.Reads.{Reads}
 use Rattle.line_words.specs.declared.refusals.FileTag.TheVariants.{Genotype}
 use Rattle.line_words.specs.declared.refusals.ReadFault.{ReadFault}
 use Rattle.line_words.specs.declared.refusals.ReadFault.TheVariants as faults
-use Rattle.line_words.proofs.Whys.{both}
 use Rattle.line_words.proofs.FirstLine.{lines-nil}
 use Rattle.line_words.proofs.Least.{Outcome, run-nil, run_is}
 use Rattle.file_bricks.specs.Headed.{after_header, end_after_header}
-use Rattle.file_bricks.proofs.Written.{IsWritten, IsLine, States, letter, word_line, line_parts, first_word, last_word, lines-line, line_states, goes_on, decimal_word, whole_of-decimal}
+use Rattle.file_bricks.proofs.Written.{IsWritten, IsLine, States, letter, word_line, line_parts, first_word, last_word, lines_line, line_states, goes_on, decimal_word, whole_of-decimal}
 use Rattle.spec_model.specs.Genotypes.{GeneValue, plain_gene, natural}
 use Rattle.genotype.specs.Genes.{HasPriority}
 use Rattle.genotype.specs.Spelling.{is_plain, phase_digit, gene_line, genes_text, genotype_text}
@@ -47,7 +46,13 @@ abbrev gene_body : ℕ → GeneValue → List ℕ
 gene_body v g = codes "gene" ++ 32 ∷ (decimal v ++ 32 ∷ (decimal g.priority ++ 32 ∷ (phase_digit g.phase ∷ [])))
 
 gene_word : IsWritten (codes "gene")
-gene_word = (letter 103 (omega arith) (omega arith) (omega arith), (letter 101 (omega arith) (omega arith) (omega arith), (letter 110 (omega arith) (omega arith) (omega arith), (letter 101 (omega arith) (omega arith) (omega arith), tt))))
+gene_word = (
+  letter 103 (omega arith) (omega arith) (omega arith),
+  (
+    letter 101 (omega arith) (omega arith) (omega arith),
+    (letter 110 (omega arith) (omega arith) (omega arith), (letter 101 (omega arith) (omega arith) (omega arith), tt)),
+  ),
+)
 
 body_line : (v : ℕ) (g : GeneValue) → v < 2 ^ 63 → g.priority < 2 ^ 32 → IsLine (gene_body v g)
 body_line v g lt small =
@@ -99,7 +104,7 @@ gene_back priority false = refl
 
 plain_is : (g : GeneValue) → is_plain g ≡ true → g ≡ plain_gene
 plain_is g h =
-    let parts = both (eqb g.priority 0) (not g.phase) h in
+    let parts = and_parts (eqb g.priority 0) (not g.phase) h in
     plain_parts g.priority g.phase (eqb-true g.priority 0 parts.0) parts.1
   where
     plain_parts : (priority : ℕ) (phase : Bool) → priority ≡ 0 → not phase ≡ true → made priority phase ≡ plain_gene
@@ -150,24 +155,45 @@ genes_read n (g ∷ rest) front number v head done len total few small least so_
           let s : Statement = record { number = number; words = gene_words v g } in
           let numbers = stated_gene v g small_v here in
           let text : genes_text v (g ∷ rest) ≡ gene_body v g ++ 10 ∷ genes_text (v + 1) rest = rw written (line_body v g (genes_text (v + 1) rest)) in
-          let fine : first_broken (statement n (head ∷ done) (gene_words v g)) ≡ None = ap (λ (stated : Option Stated). first_broken (stated_tests n (least_from 0 done) stated)) numbers ∙ gene_fine n (least_from 0 done) v g below_n least here in
+          let fine : first_broken (statement n (head ∷ done) (gene_words v g)) ≡ None = ap (λ (stated : Option Stated). first_broken (stated_tests n (least_from 0 done) stated)) numbers
+          ∙ gene_fine n (least_from 0 done) v g below_n least here in
           let next_least : least_from 0 (done ++ s ∷ []) ≡ v + 1 = least_from-push 0 done s ∙ ap (least_after (least_from 0 done)) numbers in
           let set_here : with_stated (front ++ plain_gene ∷ tail) (Some (numbers_of v g)) ≡ front ++ g ∷ tail =
-          ap (λ (x : GeneValue). slice_set (front ++ plain_gene ∷ tail) v x) (gene_back g.priority g.phase) ∙ ap (λ (k : ℕ). slice_set (front ++ plain_gene ∷ tail) k g) (sym len) ∙ set-append_seam front plain_gene tail g in
+          ap (λ (x : GeneValue). slice_set (front ++ plain_gene ∷ tail) v x) (gene_back g.priority g.phase) ∙ ap (λ (k : ℕ). slice_set (front ++ plain_gene ∷ tail) k g) (sym len)
+          ∙ set-append_seam front plain_gene tail g in
           let seen : with_all (natural n) (done ++ s ∷ []) ≡ (front ++ g ∷ []) ++ tail =
-          with_all-push (natural n) done s ∙ ap (with_stated (with_all (natural n) done)) numbers ∙ ap (λ (genes : List GeneValue). with_stated genes (Some (numbers_of v g))) so_far ∙ set_here ∙ sym (append_assoc front (g ∷ []) tail) in
+          with_all-push (natural n) done s ∙ ap (with_stated (with_all (natural n) done)) numbers ∙ ap (λ (genes : List GeneValue). with_stated genes (Some (numbers_of v g))) so_far ∙ set_here
+          ∙ sym (append_assoc front (g ∷ []) tail) in
           let more = genes_read n rest (front ++ g ∷ []) (number + 1) (v + 1) head (done ++ s ∷ []) longer count few others (omega (arith, next_least)) seen in
           record {
             all = more.all;
             is = ap (λ (t : List ℕ). run (genotype_rules n) number (head ∷ done) (lines t)) text
-                ∙ ap (run (genotype_rules n) number (head ∷ done)) (lines-line (gene_body v g) (genes_text (v + 1) rest) (body_line v g small_v here))
+                ∙ ap (run (genotype_rules n) number (head ∷ done)) (lines_line (gene_body v g) (genes_text (v + 1) rest) (body_line v g small_v here))
                 ∙ goes_on (statement n) end number (head ∷ done) (gene_body v g) (lines (genes_text (v + 1) rest)) (gene_words v g) (gene_states v g small_v here) fine ∙ more.is;
             value = more.value ∙ append_assoc front (g ∷ []) rest;
           }
     ]
 
 header_word : IsWritten (codes "genotype")
-header_word = (letter 103 (omega arith) (omega arith) (omega arith), (letter 101 (omega arith) (omega arith) (omega arith), (letter 110 (omega arith) (omega arith) (omega arith), (letter 111 (omega arith) (omega arith) (omega arith), (letter 116 (omega arith) (omega arith) (omega arith), (letter 121 (omega arith) (omega arith) (omega arith), (letter 112 (omega arith) (omega arith) (omega arith), (letter 101 (omega arith) (omega arith) (omega arith), tt))))))))
+header_word = (
+  letter 103 (omega arith) (omega arith) (omega arith),
+  (
+    letter 101 (omega arith) (omega arith) (omega arith),
+    (
+      letter 110 (omega arith) (omega arith) (omega arith),
+      (
+        letter 111 (omega arith) (omega arith) (omega arith),
+        (
+          letter 116 (omega arith) (omega arith) (omega arith),
+          (
+            letter 121 (omega arith) (omega arith) (omega arith),
+            (letter 112 (omega arith) (omega arith) (omega arith), (letter 101 (omega arith) (omega arith) (omega arith), tt)),
+          ),
+        ),
+      ),
+    ),
+  ),
+)
 
 text_read : (genes : List GeneValue) → length genes < 2 ^ 63 → All HasPriority genes → Gives (length genes) (run (genotype_rules (length genes)) 1 [] (lines (genotype_text genes))) genes
 text_read genes few small =
@@ -176,14 +202,15 @@ text_read genes few small =
     let ws : Words = codes "genotype" ∷ codes "1" ∷ [] in
     let one : IsWritten (codes "1") = (letter 49 (omega arith) (omega arith) (omega arith), tt) in
     let line = line_parts (codes "genotype") (codes "1") header_word (word_line (codes "1") one) in
-    let words_are : texts (words_from 0 body) ≡ ws = first_word (codes "genotype") (codes "1") 0 (omega arith) header_word ∙ ap (λ (w : Words). codes "genotype" ∷ w) (last_word (codes "1") _ (omega arith) one) in
+    let words_are : texts (words_from 0 body) ≡ ws = first_word (codes "genotype") (codes "1") 0 (omega arith) header_word
+    ∙ ap (λ (w : Words). codes "genotype" ∷ w) (last_word (codes "1") _ (omega arith) one) in
     let states = line_states body (codes "genotype") (codes "1" ∷ []) line (omega arith) words_are in
     let head : Statement = record { number = 1; words = ws } in
     let start : with_all (natural n) [] ≡ [] ++ replicate (length genes) plain_gene = refl in
     let more = genes_read n genes [] 2 0 head [] refl (omega arith) few small (omega arith) start in
     record {
       all = more.all;
-      is = ap (run (genotype_rules n) 1 []) (lines-line body (genes_text 0 genes) line) ∙ goes_on (statement n) end 1 [] body (lines (genes_text 0 genes)) ws states refl ∙ more.is;
+      is = ap (run (genotype_rules n) 1 []) (lines_line body (genes_text 0 genes) line) ∙ goes_on (statement n) end 1 [] body (lines (genes_text 0 genes)) ws states refl ∙ more.is;
       value = more.value;
     }
 

@@ -2,9 +2,9 @@
 use Rattle.std.specs.Prelude.{ℕ, zero, suc, ◌*◌, ◌/◌, ◌%◌, ◌^◌, ◌==◌, Bool, if◌then◌else◌, List, [], ◌∷◌}
 use Rattle.spec_model.specs.Genotypes.{GeneValue}
 
--- a number below q
-abbrev pub below : {S : Type 0} → (S → ℕ) → ℕ → S → ℕ
-below gives q s = gives s * q / 2 ^ 32
+-- a number draw q
+abbrev pub draw : {S : Type 0} → (S → ℕ) → ℕ → S → ℕ
+draw gives q s = gives s * q / 2 ^ 32
 
 -- the gene of a word
 abbrev pub gene_of : ℕ → GeneValue

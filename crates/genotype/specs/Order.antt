@@ -1,17 +1,8 @@
 -- The order of the variables that a genotype gives.
-use Rattle.std.specs.Prelude.{◌≡◌, ℕ, ◌<◌, ◌≤◌, false, List, length, map, slice_index_or}
-use Rattle.std.specs.List.Sorted.{IsPermutation}
+use Rattle.std.specs.Prelude.{◌≡◌, ℕ, ◌<◌, ◌≤◌, false, List, length, slice_index_or}
 use Rattle.pb_rules.specs.Literal.{Literal}
-use Rattle.spec_model.specs.Spec.{below}
+use Rattle.variable_order.specs.Order.{IsOrder}
 use Rattle.spec_model.specs.Genotypes.{GeneValue, gene_at, StandsBefore}
-
--- the variable of a literal
-abbrev pub var_of : Literal → ℕ
-var_of l = l.var
-
--- the variables of an order are those below its length, each once
-abbrev pub IsOrder : List Literal → Type 0
-IsOrder order = IsPermutation (below (length order)) (map var_of order)
 
 -- The variables with genes lead, each with its gene's phase, and one stands before another as the genes say. The others
 -- follow by number, false first.

@@ -5,7 +5,7 @@
 //! word, so that the words which a run has used depend on the genotypes alone.
 
 ghost use Rattle.std.specs.Prelude.{◌≡◌, ◌<◌, ◌/◌, length, true, false, IfOk, OnOk, OnErr};
-ghost use Rattle.genotype.specs.Draws.{below as below_of, gene_of, random_genes, after_words, child_gene as gene_of_child, after_gene, child_genes, after_child};
+ghost use Rattle.genotype.specs.Draws.{draw as below_of, gene_of, random_genes, after_words, child_gene as gene_of_child, after_gene, child_genes, after_child};
 
 use crate::genes::{Gene, Genotype};
 use crate::words::Words;

@@ -2,7 +2,7 @@
 
 ghost use Rattle.std.specs.Prelude.{◌≡◌, ◌<◌, ◌≤◌, ◌^◌, ◌⊎◌, ℕ, Bool, List, length, All, Result, Ok, Err};
 ghost use Rattle.pb_rules.specs.Literal.{Literal};
-ghost use Rattle.pb_rules.specs.Order.{AgreeOn, IsBefore as IsBeforeAlong};
+ghost use Rattle.pb_rules.specs.Order.{AgreeOn, IsBeforeAlong};
 ghost use Rattle.spec_model.specs.Genotypes.{GeneValue, IsBefore};
 ghost use Rattle.line_words.specs.Text.{lines};
 ghost use Rattle.line_words.specs.Rules.{HasNoFault, statements};

@@ -10,32 +10,14 @@ ghost use Rattle.std.specs.List.Sorted.{IsPermutation, IsNonDecreasingBy};
 ghost use Rattle.pb_rules.specs.Literal.{Literal};
 ghost use Rattle.spec_model.specs.Spec.{below};
 ghost use Rattle.genotype.specs.Genes.{HasPriority};
-ghost use Rattle.genotype.specs.Order.{var_of, IsOrder, IsOrderOf};
+ghost use Rattle.variable_order.specs.Order.{var_of, IsOrder};
+ghost use Rattle.genotype.specs.Order.{IsOrderOf};
 ghost use Rattle.genotype.specs.Placing.{literals_of, lateness, other_literal, IsLed};
 
 use crate::genes::{Gene, Genotype};
 use pb_rules::Lit;
 use std::alloc::{AllocError, Global};
-use std::marker::Model;
-
-/// An order of the variables below a number, each with the value that it has first: the literal is
-/// the variable where that is true, and else its opposite.
-#[derive(Drop)]
-pub struct Order {
-    literals: Vec<Lit>,
-}
-
-impl Model for Order {
-    ghost use Rattle.std.specs.Prelude.{List};
-    ghost use Rattle.pb_rules.specs.Literal.{Literal};
-    ghost use Rattle.genotype.specs.Order.{IsOrder};
-
-    ghost Value = { List Literal };
-
-    ghost view = { λ o. o.literals.items };
-
-    ghost invariant = { λ o. IsOrder o.literals.items };
-}
+use variable_order::Order;
 
 fn literal(var: u64, phase: bool) -> Lit
     requires { var < 2 ^ 62 }
@@ -89,36 +71,20 @@ fn add_others(literals: &mut Vec<Lit>, variables: u64) -> Result<(), AllocError>
     Ok(())
 }
 
-impl Order {
-    /// The order of `variables` variables that a genotype gives: its own by falling priority, of equal
+impl Genotype {
+    /// The order of `variables` variables that the genotype gives: its own by falling priority, of equal
     /// priorities the lower number first, then the others by number with phase false.
     ///
     /// A list of more than 2^62 literals has no memory.
-    pub fn of(alloc: Global, genotype: &Genotype, variables: u64) -> Result<Order, AllocError>
-        requires { length genotype.now ≤ variables }
-        ensures { IfOk result (IsOrderOf genotype.now variables) }
+    pub fn order_of(&self, alloc: Global, variables: u64) -> Result<Order, AllocError>
+        requires { length self.now ≤ variables }
+        ensures { IfOk result (IsOrderOf self.now variables) }
     {
         if variables > 1 << 62 {
             return Err(AllocError);
         }
-        let mut literals = leading(alloc, genotype.genes())?;
+        let mut literals = leading(alloc, self.genes())?;
         add_others(&mut literals, variables)?;
-        Ok(Order { literals })
-    }
-
-    /// The literals in their order.
-    pub fn literals(&self) -> &[Lit]
-        ensures literals { result.now ≡ self.now }
-        ensures each_once { IsOrder self.now }
-    {
-        &self.literals
-    }
-
-    /// How many variables stand in the order, which are those below this number.
-    pub fn variables(&self) -> u64
-        ensures count { result ≡ length self.now }
-        ensures each_once { IsOrder self.now }
-    {
-        self.literals.len() as u64
+        Ok(Order::new(literals))
     }
 }

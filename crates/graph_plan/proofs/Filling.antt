@@ -8,7 +8,7 @@ use Rattle.spec_model.specs.Spec.{Name, SpecValue}
 use Rattle.spec_model.specs.WellFormed.{AreDistinct, IsPlan}
 use Rattle.tgff_reader.specs.Facts.{TgffValue, IsTgff, IsGraph, graph_index, task_count, arc_count}
 use Rattle.tgff_reader.specs.declared.file.Graph.{Graph}
-use Rattle.graph_plan.specs.Graphs.{name_in, task_in, arc_in, message_of, with_graph, with_graphs}
+use Rattle.graph_plan.specs.Graphs.{name_in, task_in, arc_in, planned_message, with_graph, with_graphs}
 use Rattle.graph_plan.specs.Room.{AreNew, HasRoom, IsReady}
 use Rattle.graph_plan.proofs.Naming.{same_name}
 
@@ -31,27 +31,30 @@ pub record IsFilled (clock : ℕ) (old : SpecValue) (gs : List Graph) (p : SpecV
   pub tasks : length p.tasks ≡ sum_by task_count gs
   pub messages : length p.messages ≡ sum_by arc_count gs
 
-none_of : (names : List Name) → length names ≡ 0 → AreOf [] names
-none_of names e name c = absurd (omega (arith, c.1, e))
-
-pub filled_none : (clock : ℕ) (old : SpecValue) → length old.tasks ≡ 0 → length old.messages ≡ 0 → length old.message_names ≡ length old.messages → IsFilled clock old [] old
-filled_none clock old tasks messages named = record {
-  made = refl;
-  tasks_of = none_of old.tasks tasks;
-  messages_of = none_of old.message_names (named ∙ messages);
-  tasks = tasks;
-  messages = messages;
-}
-
 -- ---- one graph more
 
 of_more : {X : Type 0} (in_plan : X → Name) (own_name : X → Name) (gs : List Graph) (g : Graph) (names : List Name) (xs : List X)
-    → ((x : X) → in_plan x ≡ name_in g.index (own_name x)) → ((xs : List X) (name : Name) → Contains (map in_plan xs) name → (x : X) × (in_plan x ≡ name)) → AreOf gs names → AreOf (gs ++ g ∷ []) (names ++ map in_plan xs)
+    → ((x : X) → in_plan x ≡ name_in g.index (own_name x)) → ((xs : List X) (name : Name) → Contains (map in_plan xs) name → (x : X) × (in_plan x ≡ name)) → AreOf gs names
+    → AreOf (gs ++ g ∷ []) (names ++ map in_plan xs)
 of_more in_plan own_name gs g names xs is from all name c =
     let more : map graph_index (gs ++ g ∷ []) ≡ map graph_index gs ++ g.index ∷ [] = map_push graph_index gs g in
     elim (Contains-append_cases names (map in_plan xs) name c) [
-      | inl t ↦ let o = all name t in record { index = o.index; among = subst (λ (ns : List ℕ). Contains ns o.index) (sym more) (Contains-append_left (map graph_index gs) (g.index ∷ []) o.index o.among); own = o.own; is = o.is }
-      | inr t ↦ let x = from xs name t in record { index = g.index; among = subst (λ (ns : List ℕ). Contains ns g.index) (sym more) (Contains-push (map graph_index gs) g.index); own = own_name x.0; is = sym x.1 ∙ is x.0 }
+      | inl t ↦ let o =
+          all name t in record {
+            index = o.index;
+            among = subst (λ (ns : List ℕ). Contains ns o.index) (sym more) (Contains-append_left (map graph_index gs) (g.index ∷ []) o.index o.among);
+            own =
+                o.own;
+            is = o.is;
+          }
+      | inr t ↦ let x =
+          from xs name t in record {
+            index = g.index;
+            among = subst (λ (ns : List ℕ). Contains ns g.index) (sym more) (Contains-push (map graph_index gs) g.index);
+            own = own_name x.0;
+            is = sym x.1
+                ∙ is x.0;
+          }
     ]
 
 mapped : {X : Type 0} (f : X → Name) (xs : List X) (name : Name) → Contains (map f xs) name → (x : X) × (f x ≡ name)
@@ -65,10 +68,11 @@ pushed clock old gs g p h = record {
   tasks_of = of_more (task_in g.index) (λ t. t.name) gs g p.tasks g.tasks (λ t. refl) (mapped (task_in g.index)) h.tasks_of;
   messages_of = of_more (arc_in g.index) (λ a. a.name) gs g p.message_names g.arcs (λ a. refl) (mapped (arc_in g.index)) h.messages_of;
   tasks = omega (arith, h.tasks, length-append p.tasks (map (task_in g.index) g.tasks), length-map g.tasks (task_in g.index), sum_by_push task_count gs g);
-  messages = omega (arith, h.messages, length-append p.messages (map (message_of (length p.tasks)) g.arcs), length-map g.arcs (message_of (length p.tasks)), sum_by_push arc_count gs g);
+  messages = omega (arith, h.messages, length-append p.messages (map (planned_message (length p.tasks)) g.arcs), length-map g.arcs (planned_message (length p.tasks)), sum_by_push arc_count gs g);
 }
 
-pub filled_more : (clock : ℕ) (old : SpecValue) (gs : List Graph) (i : ℕ) (g : Graph) (p new : SpecValue) → IsFilled clock old (take i gs) p → i < length gs → g ≡ get_or gs i g → new ≡ with_graph clock p g → IsFilled clock old (take (i + 1) gs) new
+pub filled_more : (clock : ℕ) (old : SpecValue) (gs : List Graph) (i : ℕ) (g : Graph) (p new : SpecValue) → IsFilled clock old (take i gs) p → i < length gs → g ≡ get_or gs i g
+    → new ≡ with_graph clock p g → IsFilled clock old (take (i + 1) gs) new
 filled_more clock old gs i g p new h l at e =
     let front : take (i + 1) gs ≡ take i gs ++ g ∷ [] = take_more gs i g l ∙ ap (λ (x : Graph). take i gs ++ x ∷ []) (sym at) in
     subst (λ (q : SpecValue). IsFilled clock old (take (i + 1) gs) q) (sym e)
@@ -77,7 +81,8 @@ filled_more clock old gs i g p new h l at e =
 -- ---- room for the next graph
 
 -- no graph so far has the index of the next one
-new_index : (gs : List Graph) (i : ℕ) (g : Graph) (names : List Name) → All IsGraph gs → AreDistinct (map graph_index gs) → i < length gs → g ≡ get_or gs i g → AreOf (take i gs) names → AreNew g.index names
+new_index : (gs : List Graph) (i : ℕ) (g : Graph) (names : List Name) → All IsGraph gs → AreDistinct (map graph_index gs) → i < length gs → g ≡ get_or gs i g → AreOf (take i gs) names
+    → AreNew g.index names
 new_index gs i g names graphs distinct l at all name c =
     let o = all (name_in g.index name) c in
     let j = o.among.0 in
@@ -94,7 +99,8 @@ new_index gs i g names graphs distinct l at all name c =
     let within : i < length (map graph_index gs) = omega (arith, l, length-map gs graph_index) in
     distinct j i 0 lower within (get_or-map graph_index gs j g 0 there ∙ its ∙ sym s.0 ∙ ap graph_index at ∙ sym (get_or-map graph_index gs i g 0 l))
 
-pub room_for : (f : TgffValue) (gs : List Graph) (clock : ℕ) (old : SpecValue) (i : ℕ) (g : Graph) (p : SpecValue) → IsTgff f → gs ≡ f.graphs → IsFilled clock old (take i gs) p → i < length gs → g ≡ get_or gs i g → HasRoom p g
+pub room_for : (f : TgffValue) (gs : List Graph) (clock : ℕ) (old : SpecValue) (i : ℕ) (g : Graph) (p : SpecValue) → IsTgff f → gs ≡ f.graphs → IsFilled clock old (take i gs) p → i < length gs
+    → g ≡ get_or gs i g → HasRoom p g
 room_for f gs clock old i g p is e h l at =
     let graphs : All IsGraph gs = subst (All IsGraph) (sym e) is.graphs_in in
     let distinct : AreDistinct (map graph_index gs) = subst (λ (xs : List Graph). AreDistinct (map graph_index xs)) (sym e) is.graphs_distinct in
@@ -107,7 +113,8 @@ room_for f gs clock old i g p is e h l at =
 
 -- ---- once a graph's tasks are in the plan, its arcs may follow
 
-pub ready : (old new : SpecValue) (first : ℕ) (g : Graph) → IsPlan old → HasRoom old g → first ≡ length old.tasks → new ≡ record old { tasks = old.tasks ++ map (task_in g.index) g.tasks } → IsReady first new g
+pub ready : (old new : SpecValue) (first : ℕ) (g : Graph) → IsPlan old → HasRoom old g → first ≡ length old.tasks → new ≡ record old { tasks = old.tasks ++ map (task_in g.index) g.tasks }
+    → IsReady first new g
 ready old new first g plan room e n =
     subst (λ (p : SpecValue). IsReady first p g) (sym n) (subst (λ (k : ℕ). IsReady k (record old { tasks = old.tasks ++ map (task_in g.index) g.tasks }) g) (sym e) (record {
       tasks = omega (arith, length-append old.tasks (map (task_in g.index) g.tasks), length-map g.tasks (task_in g.index));

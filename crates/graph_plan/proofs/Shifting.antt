@@ -5,16 +5,14 @@ use Rattle.std.proofs.lemmas.List.Elements.{All-contains, Contains-append_cases,
 use Rattle.spec_model.specs.Spec.{Message}
 use Rattle.spec_model.specs.WellFormed.{Sends, Chain, Leads, HasCycle}
 use Rattle.spec_model.proofs.Chains.{closes_one, none_within}
-use Rattle.tgff_reader.specs.Reaching.{messages_of, message_of as own_message}
+use Rattle.tgff_reader.specs.Reaching.{messages_of, arc_message as own_message}
 use Rattle.tgff_reader.specs.declared.file.TgffArc.{TgffArc}
-use Rattle.graph_plan.specs.Graphs.{message_of}
-use Rattle.graph_plan.specs.Room.{IsBefore}
+use Rattle.tgff_reader.proofs.Reached.{among_one}
+use Rattle.graph_plan.specs.Graphs.{planned_message}
+use Rattle.graph_plan.specs.Room.{SendsBefore}
 
 abbrev no_arc : TgffArc
 no_arc = record { name = []; from = 0; to = 0; kind = 0 }
-
-one_of : (x y : ℕ) → Contains (x ∷ []) y → x ≡ y
-one_of x y c = let z : c.0 ≡ 0 = omega (arith, c.1) in subst (λ (i : ℕ). get_or (x ∷ []) i y ≡ y) z c.2
 
 -- a message of the graph's goes where an arc goes
 pub record SendsBack (first : ℕ) (arcs : List TgffArc) (a b : ℕ) : Type 0 where
@@ -22,17 +20,17 @@ pub record SendsBack (first : ℕ) (arcs : List TgffArc) (a b : ℕ) : Type 0 wh
   pub is : b ≡ first + task
   pub sends : Sends (messages_of arcs) a task
 
-by_arc : (first : ℕ) (arcs : List TgffArc) (a b : ℕ) (m : Message) → Contains (map (message_of first) arcs) m → m.sender ≡ first + a → Contains m.receivers b → SendsBack first arcs a b
+by_arc : (first : ℕ) (arcs : List TgffArc) (a b : ℕ) (m : Message) → Contains (map (planned_message first) arcs) m → m.sender ≡ first + a → Contains m.receivers b → SendsBack first arcs a b
 by_arc first arcs a b m t from to =
     let i = t.0 in
-    let l : i < length arcs = omega (arith, t.1, length-map arcs (message_of first)) in
+    let l : i < length arcs = omega (arith, t.1, length-map arcs (planned_message first)) in
     let arc : TgffArc = get_or arcs i no_arc in
-    let e : message_of first arc ≡ m = sym (get_or-map (message_of first) arcs i no_arc m l) ∙ t.2 in
+    let e : planned_message first arc ≡ m = sym (get_or-map (planned_message first) arcs i no_arc m l) ∙ t.2 in
     let leaves : first + arc.from ≡ first + a = ap (λ (k : Message). k.sender) e ∙ from in
     let enters : Contains ((first + arc.to) ∷ []) b = subst (λ (k : Message). Contains k.receivers b) (sym e) to in
     record {
       task = arc.to;
-      is = sym (one_of (first + arc.to) b enters);
+      is = sym (among_one (first + arc.to) b enters);
       sends = record {
         message = own_message arc;
         there = (i, omega (arith, l, length-map arcs own_message), get_or-map own_message arcs i no_arc (own_message arc) l);
@@ -41,26 +39,29 @@ by_arc first arcs a b m t from to =
       };
     }
 
-sends_back : (first : ℕ) (older : List Message) (arcs : List TgffArc) (a b : ℕ) → All (IsBefore first) older → Sends (older ++ map (message_of first) arcs) (first + a) b → SendsBack first arcs a b
+sends_back : (first : ℕ) (older : List Message) (arcs : List TgffArc) (a b : ℕ) → All (SendsBefore first) older → Sends (older ++ map (planned_message first) arcs) (first + a) b
+    → SendsBack first arcs a b
 sends_back first older arcs a b before x =
-    elim (Contains-append_cases older (map (message_of first) arcs) x.message x.there) [
-      | inl t ↦ let low : x.message.sender < first = All-contains (IsBefore first) older x.message before t in absurd (omega (arith, low, x.from))
+    elim (Contains-append_cases older (map (planned_message first) arcs) x.message x.there) [
+      | inl t ↦ let low : x.message.sender < first = All-contains (SendsBefore first) older x.message before t in absurd (omega (arith, low, x.from))
       | inr t ↦ by_arc first arcs a b x.message t x.from x.to
     ]
 
 -- a chain from a task of the graph to another goes along its arcs
-chain_back : (first : ℕ) (older : List Message) (arcs : List TgffArc) (n a c : ℕ) → All (IsBefore first) older → Chain (older ++ map (message_of first) arcs) n (first + a) (first + c) → Chain (messages_of arcs) n a c
+chain_back : (first : ℕ) (older : List Message) (arcs : List TgffArc) (n a c : ℕ) → All (SendsBefore first) older → Chain (older ++ map (planned_message first) arcs) n (first + a) (first + c)
+    → Chain (messages_of arcs) n a c
 chain_back first older arcs zero a c before e = omega (arith, e)
 chain_back first older arcs (suc n) a c before p =
     let s = sends_back first older arcs a p.0 before p.1 in
-    let on : Chain (older ++ map (message_of first) arcs) n (first + s.task) (first + c) = subst (λ (b : ℕ). Chain (older ++ map (message_of first) arcs) n b (first + c)) s.is p.2 in
+    let on : Chain (older ++ map (planned_message first) arcs) n (first + s.task) (first + c) = subst (λ (b : ℕ). Chain (older ++ map (planned_message first) arcs) n b (first + c)) s.is p.2 in
     (s.task, s.sends, chain_back first older arcs n s.task c before on)
 
 sends_more : (ms ks : List Message) (a b : ℕ) → Sends ms a b → Sends (ms ++ ks) a b
 sends_more ms ks a b x = record { message = x.message; there = Contains-append_left ms ks x.message x.there; from = x.from; to = x.to }
 
 -- arcs, cut behind one of them
-cut : (arcs : List TgffArc) (i : ℕ) (arc : TgffArc) → i < length arcs → arc ≡ get_or arcs i arc → messages_of arcs ≡ (messages_of (take i arcs) ++ own_message arc ∷ []) ++ messages_of (drop (i + 1) arcs)
+cut : (arcs : List TgffArc) (i : ℕ) (arc : TgffArc) → i < length arcs → arc ≡ get_or arcs i arc → messages_of arcs ≡ (messages_of (take i arcs) ++ own_message arc ∷ [])
+    ++ messages_of (drop (i + 1) arcs)
 cut arcs i arc l at =
     let rest = messages_of (drop (i + 1) arcs) in
     let front : take (i + 1) arcs ≡ take i arcs ++ arc ∷ [] = take_more arcs i arc l ∙ ap (λ (x : TgffArc). take i arcs ++ x ∷ []) (sym at) in
@@ -70,12 +71,14 @@ cut arcs i arc l at =
     ∙ ap (λ (ms : List Message). ms ++ rest) (map_push own_message (take i arcs) arc)
 
 -- no arc of a graph closes a cycle behind those before it and messages of tasks before the graph's
-pub never_closes : (first : ℕ) (older : List Message) (arcs : List TgffArc) (i : ℕ) (arc : TgffArc) → All (IsBefore first) older → ¬ HasCycle (messages_of arcs) → i < length arcs → arc ≡ get_or arcs i arc
-    → Leads (older ++ map (message_of first) (take i arcs)) ((first + arc.to) ∷ []) (first + arc.from) → ⊥
+pub never_closes : (first : ℕ) (older : List Message) (arcs : List TgffArc) (i : ℕ) (arc : TgffArc) → All (SendsBefore first) older → ¬ HasCycle (messages_of arcs) → i < length arcs
+    → arc ≡ get_or arcs i arc
+    → Leads (older ++ map (planned_message first) (take i arcs)) ((first + arc.to) ∷ []) (first + arc.from) → ⊥
 never_closes first older arcs i arc before none l at x =
     let so_far = take i arcs in
     let ms : List Message = messages_of so_far ++ own_message arc ∷ [] in
-    let way : Chain (older ++ map (message_of first) so_far) x.reaches.hops (first + arc.to) (first + arc.from) = subst (λ (s : ℕ). Chain (older ++ map (message_of first) so_far) x.reaches.hops s (first + arc.from)) (sym (one_of (first + arc.to) x.start x.among)) x.reaches.chain in
+    let way : Chain (older ++ map (planned_message first) so_far) x.reaches.hops (first + arc.to) (first + arc.from) =
+    subst (λ (s : ℕ). Chain (older ++ map (planned_message first) so_far) x.reaches.hops s (first + arc.from)) (sym (among_one (first + arc.to) x.start x.among)) x.reaches.chain in
     let lead : Leads (messages_of so_far) (arc.to ∷ []) arc.from = record {
       start = arc.to;
       among = (0, omega arith, refl);

@@ -2,7 +2,8 @@
 use Rattle.std.specs.Prelude.{ℕ, ◌+◌, ◌-◌, ◌^◌, min, List, [], ◌∷◌, ◌++◌, length, map, fold, Option, Some, decimal}
 use Rattle.std.specs.List.{flat_map}
 use Rattle.spec_model.specs.Spec.{Name, SpecValue, Message, Deadline}
-use Rattle.arch_reader.specs.Numbers.{at_scale, greatest}
+use Rattle.spec_model.specs.Limits.{most_number}
+use Rattle.arch_reader.specs.Numbers.{at_scale}
 use Rattle.tgff_reader.specs.declared.file.Graph.{Graph}
 use Rattle.tgff_reader.specs.declared.file.TgffTask.{TgffTask}
 use Rattle.tgff_reader.specs.declared.file.TgffArc.{TgffArc}
@@ -20,21 +21,22 @@ task_in index task = name_in index task.name
 abbrev pub arc_in : ℕ → TgffArc → Name
 arc_in index arc = name_in index arc.name
 
--- the message that an arc is, where so many tasks stand before those of its graph; its hop limit and its delay are those
--- of a message for which none is stated
-abbrev pub message_of : ℕ → TgffArc → Message
-message_of first arc = record { sender = first + arc.from; receivers = (first + arc.to) ∷ []; limit = 2 ^ 63 - 1; delay = 0; quantity = 1 }
+-- the message that an arc is, where so many tasks stand before those of its graph; its hop limit and its delay are
+-- those of a message for which none is stated
+abbrev pub planned_message : ℕ → TgffArc → Message
+planned_message first arc = record { sender = first + arc.from; receivers = (first + arc.to) ∷ []; limit = 2 ^ 63 - 1; delay = 0; quantity = 1 }
 
--- the deadline at the clock's scale, cut toward zero; one below zero counts as 0, and one that is too big as the greatest
+-- the deadline at the clock's scale, cut toward zero; one below zero counts as 0, and one that is too big as the
+-- greatest number
 abbrev pub deadline_of : ℕ → ℕ → TgffDeadline → Deadline
-deadline_of clock first deadline = record { task = first + deadline.task; time = min (at_scale clock deadline.at) greatest }
+deadline_of clock first deadline = record { task = first + deadline.task; time = min (at_scale clock deadline.at) most_number }
 
 -- a plan with the tasks, arcs and deadlines of one more graph
 abbrev pub with_graph : ℕ → SpecValue → Graph → SpecValue
 with_graph clock p g = record p {
   tasks = p.tasks ++ map (task_in g.index) g.tasks;
   message_names = p.message_names ++ map (arc_in g.index) g.arcs;
-  messages = p.messages ++ map (message_of (length p.tasks)) g.arcs;
+  messages = p.messages ++ map (planned_message (length p.tasks)) g.arcs;
   deadlines = p.deadlines ++ map (deadline_of clock (length p.tasks)) g.deadlines;
 }
 

@@ -2,7 +2,7 @@
 
 ghost use Rattle.std.specs.Prelude.{◌≡◌, ◌+◌, ◌++◌, length, map, IfOk, OnOk};
 ghost use Rattle.tgff_reader.specs.Facts.{IsGraph};
-ghost use Rattle.graph_plan.specs.Graphs.{task_in, arc_in, message_of, deadline_of, with_graph, with_graphs};
+ghost use Rattle.graph_plan.specs.Graphs.{task_in, arc_in, planned_message, deadline_of, with_graph, with_graphs};
 ghost use Rattle.graph_plan.specs.Room.{HasRoom, IsReady};
 
 use crate::items::{add_arc, add_deadline, add_task};
@@ -32,7 +32,7 @@ fn add_arcs(
 ) -> Result<(), AllocError>
     requires graph { IsGraph graph.now }
     requires ready { IsReady first plan.old graph.now }
-    ensures { OnOk result (plan.new ≡ record plan.old { message_names = plan.old.message_names ++ map (arc_in graph.now.index) graph.now.arcs; messages = plan.old.messages ++ map (message_of first) graph.now.arcs }) }
+    ensures { OnOk result (plan.new ≡ record plan.old { message_names = plan.old.message_names ++ map (arc_in graph.now.index) graph.now.arcs; messages = plan.old.messages ++ map (planned_message first) graph.now.arcs }) }
 {
     let arcs = graph.arcs.list();
     for arc in arcs {

@@ -1,20 +1,19 @@
 //! One task, one arc or one deadline of a graph.
 
 ghost use Rattle.std.specs.Prelude.{◌≡◌, ◌+◌, ◌<◌, ◌++◌, ◌∷◌, [], length, Contains, OnOk};
+ghost use Rattle.spec_model.specs.Limits.{most_tasks, most_messages};
 ghost use Rattle.spec_graph.specs.Plan.{with_message};
 ghost use Rattle.spec_graph.specs.Refusals.{ClosesCycle};
 ghost use Rattle.spec_graph.specs.declared.faults.BuildFault.TheVariants.{NoMemory};
 ghost use Rattle.tgff_reader.specs.Facts.{IsName};
-ghost use Rattle.graph_plan.specs.Graphs.{task_in, arc_in, message_of, deadline_of};
+ghost use Rattle.graph_plan.specs.Graphs.{task_in, arc_in, planned_message, deadline_of};
 
 use crate::named::name_in;
 use arch_reader::at_scale;
 use spec_graph::{BuildFault, SpecBuilder, TaskNo};
+use spec_model::MOST_NUMBER;
 use std::alloc::{AllocError, Global};
 use tgff_reader::{TgffArc, TgffDeadline, TgffTask};
-
-/// The greatest time.
-const MAX_TIME: u128 = 1 << 40;
 
 /// The hop limit of a message for which none is stated.
 const MAX_HOPS: u64 = (1 << 63) - 1;
@@ -38,7 +37,7 @@ pub(crate) fn add_task(
 ) -> Result<(), AllocError>
     requires named { IsName task.now.name }
     requires new { Contains plan.old.tasks (task_in index task.now) → ⊥ }
-    requires few { length plan.old.tasks < 1024 }
+    requires few { length plan.old.tasks < most_tasks }
     ensures { OnOk result (plan.new ≡ record plan.old { tasks = plan.old.tasks ++ task_in index task.now ∷ [] }) }
 {
     let name = name_in(alloc, index, task.name.list())?;
@@ -60,9 +59,9 @@ pub(crate) fn add_arc(
     requires new { Contains plan.old.message_names (arc_in index arc.now) → ⊥ }
     requires from { first + arc.now.from < length plan.old.tasks }
     requires to { first + arc.now.to < length plan.old.tasks }
-    requires free { ClosesCycle plan.old (message_of first arc.now) → ⊥ }
-    requires few { length plan.old.messages < 2048 }
-    ensures { OnOk result (plan.new ≡ with_message plan.old (arc_in index arc.now) (message_of first arc.now)) }
+    requires free { ClosesCycle plan.old (planned_message first arc.now) → ⊥ }
+    requires few { length plan.old.messages < most_messages }
+    ensures { OnOk result (plan.new ≡ with_message plan.old (arc_in index arc.now) (planned_message first arc.now)) }
 {
     let name = name_in(alloc, index, arc.name.list())?;
     plan.facts();
@@ -86,7 +85,7 @@ pub(crate) fn add_deadline(
 {
     plan.facts();
     let task = TaskNo((first + deadline.task) as u32);
-    let time = at_scale(clock, deadline.at).min(MAX_TIME) as u64;
+    let time = at_scale(clock, deadline.at).min(u128::from(MOST_NUMBER)) as u64;
     match plan.deadline(task, time) {
         Ok(()) => Ok(()),
         Err(fault) => Err(no_memory(fault)),

@@ -1,4 +1,4 @@
-//! The runs of three commands of which one call on a file or on standard output fails, for each call that they make: the
+//! The runs of commands of which one call on a file or on standard output fails, for each call that they make: the
 //! status is that of a fault, the files that the command doesn't write are as before, and of those that it writes the ones
 //! before the failed call are whole.
 use desk_io::{MemoryDesk, names_are_distinct};
@@ -30,6 +30,10 @@ const FRONT: &str =
 /// A proof of it.
 const PROOF: &str =
     "proof 1\nc 4 5\np 5 10 w3 w4 s + s 9 + s 11 w0 w1 s + s\nc 4 2\np 4 14 w3 w5 s + s 13 + s 15 w0 w2 s + s\nc 1 5\np 3 18 w4 w5 s + s 17 + s 19 w1 w2 s + s 1 + s 12 + s 16 + s\n";
+
+/// What is made of the number 0.
+const MADE: &str =
+    "arch 1\nobjective cost\nobjective energy\nresource r0 cost=16\nresource r1 cost=98\nresource r2 cost=17\nresource r3 cost=32\nlink l0 r0 -- r1 cost=3\ntraffic l0 energy=1\nlink l1 r0 -- r2 cost=4\ntraffic l1 energy=1\nlink l2 r1 -- r3 cost=2\ntraffic l2 energy=1\nlink l3 r2 -- r3 cost=7\ntraffic l3 energy=1\nhops 4\ntask t0\ntask t1\ntask t2\ntask t3\nmessage m1 t0 -> t1 t2\nmessage m3 t1 -> t3\nmap t0 r0 time=1 energy=34\nmap t0 r1 time=10 energy=12\nmap t0 r2 time=5 energy=47\nmap t1 r0 time=16 energy=24\nmap t1 r1 time=10 energy=37\nmap t1 r2 time=11 energy=40\nmap t2 r1 time=20 energy=35\nmap t2 r2 time=9 energy=6\nmap t2 r3 time=15 energy=49\nmap t3 r3 time=10 energy=49\nmap t3 r0 time=5 energy=30\nmap t3 r1 time=12 energy=26\n";
 
 /// What the written files have before each run.
 const OLD: &str = "an older file\nof two lines and a half";
@@ -177,4 +181,15 @@ fn a_front_with_its_proof(rt: HostRuntime) -> Result<(), Fail> {
     try_fault(&rt, line, 7, FRONT, PROOF)?;
     let said = "front complete 2\n";
     try_run(&rt, line, 8, (Status::Done, said), (FRONT, PROOF))
+}
+
+#[test]
+fn a_made_specification(rt: HostRuntime) -> Result<(), Fail> {
+    // Three calls: `start` and `append` of the written file, and `say`. No file is read.
+    let line = "make 0 --arch front";
+    try_fault(&rt, line, 1, OLD, OLD)?;
+    try_fault(&rt, line, 2, "", OLD)?;
+    try_fault(&rt, line, 3, MADE, OLD)?;
+    let said = "made 0 tasks 4 messages 2 resources 4 links 4 options 12\n";
+    try_run(&rt, line, 4, (Status::Done, said), (MADE, OLD))
 }

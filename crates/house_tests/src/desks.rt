@@ -59,5 +59,7 @@ fn a_real_desk_keeps_files(rt: HostRuntime) -> Result<(), Fail> {
     let mut past = [0u8; 2];
     assert_eq!(rt; desk.fill("F", 16, &mut past), Err(DeskError::Failed));
     assert_eq!(rt; desk.length("absent"), Err(DeskError::Failed));
+    assert_eq!(rt; desk.length("."), Err(DeskError::Failed));
+    assert_eq!(rt; desk.fill(".", 0, &mut []), Err(DeskError::Failed));
     Ok(())
 }

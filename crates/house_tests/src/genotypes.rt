@@ -1,5 +1,5 @@
 //! A genotype, its text and its order.
-use genotype::{Gene, Genotype, ListWords, Order, print_genotype, read_genotype};
+use genotype::{Gene, Genotype, ListWords, print_genotype, read_genotype};
 use line_words::{ReadFault, Why};
 use pb_rules::Lit;
 use std::test::Fail;
@@ -29,7 +29,7 @@ fn texts_and_orders(rt: HostRuntime) -> Result<(), Fail> {
             phase: false,
         },
     );
-    let order = Order::of(a, &genotype, 5)?;
+    let order = genotype.order_of(a, 5)?;
     assert!(rt;
         order.literals()
             == [Lit::no(3), Lit::yes(0), Lit::yes(1), Lit::no(2), Lit::no(4)].as_slice()

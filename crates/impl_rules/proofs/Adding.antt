@@ -1,17 +1,13 @@
 -- One variable more in the sum of a vector.
-use Rattle.std.proofs.Common.{◌≡◌, ℕ, ◌+◌, ◌*◌, ◌≤◌, ◌^◌, Bool, true, false, cond, ◌∷◌, [], ap, ◌∙◌, arith}
+use Rattle.std.proofs.Common.{◌≡◌, ℕ, ◌+◌, ◌*◌, ◌≤◌, ◌^◌, Bool, true, false, cond, [], ap, ◌∙◌, arith}
 use Rattle.std.specs.List.{sum_by}
-use Rattle.std.proofs.lemmas.List.Sums.{sum_by-append}
 use Rattle.spec_model.specs.Spec.{SpecValue, Bits, below}
 use Rattle.spec_model.specs.Vectors.{weight, weight_if_true}
-use Rattle.spec_model.proofs.Those.{below-more}
+use Rattle.spec_model.proofs.Those.{sum_by-below_more}
 
 -- what a loop over the variables has added up
 abbrev pub IsSumBelow : SpecValue → Bits → ℕ → ℕ → ℕ → Type 0
 IsSumBelow s f j v total = (total ≤ v * 2 ^ 40) × (total ≡ sum_by (weight_if_true s f j) (below v))
-
-sum_by-below_more : (g : ℕ → ℕ) (n : ℕ) → sum_by g (below (n + 1)) ≡ sum_by g (below n) + g n
-sum_by-below_more g n = ap (sum_by g) (below-more n) ∙ omega (arith, sum_by-append g (below n) (n ∷ []))
 
 pub sum_more_true : (s : SpecValue) (f : Bits) (j v total next w : ℕ) → IsSumBelow s f j v total → f v ≡ true → w ≡ weight s j v → w ≤ 2 ^ 40 → next ≡ total + w → IsSumBelow s f j (v + 1) next
 sum_more_true s f j v total next w before is weighs small e =

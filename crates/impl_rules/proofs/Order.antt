@@ -15,7 +15,7 @@ use Rattle.spec_graph.specs.declared.numbers.LinkNo.{LinkNo}
 use Rattle.impl_rules.specs.Least.{AllBelow, AllPairsBelow, IsFirst, IsFirstPair}
 use Rattle.impl_rules.specs.Routes.{AllBoundOnce, BreaksAt, MeetsAt, Meets, places}
 use Rattle.impl_rules.specs.Allocation.{IsUsedRightly, IsWiredRightly}
-use Rattle.impl_rules.specs.Broken.{Breaks, IsFirstBroken, number_of, message_of, place_of}
+use Rattle.impl_rules.specs.Broken.{DesignBreaks, IsFirstBroken, rule_number, rule_message, rule_place}
 use Rattle.impl_rules.specs.declared.routes.RouteRule.{RouteRule}
 use Rattle.impl_rules.specs.declared.routes.RouteRule.TheVariants.{NoArcIntoSender, OneArcInto, ShortWalk, Reached, GoesOn}
 use Rattle.impl_rules.specs.declared.rules.Rule.{Rule}
@@ -53,7 +53,7 @@ receiver_in : (s : SpecValue) (m w : ℕ) → IsWellFormed s → m < length s.me
 receiver_in s m w facts l there = All-contains (λ (t : ℕ). t < length s.tasks) (message_at s m).receivers w (message_in s m facts l).receivers there
 
 -- a rule that is broken at a place isn't met there
-refuted : (s : SpecValue) (f : Bits) (rule : Rule) → IsWellFormed s → Breaks s f rule → ¬ IsMet s f (number_of rule) (message_of rule) (place_of rule)
+refuted : (s : SpecValue) (f : Bits) (rule : Rule) → IsWellFormed s → DesignBreaks s f rule → ¬ IsMet s f (rule_number rule) (rule_message rule) (rule_place rule)
 refuted s f (NotBoundOnce t) facts b met = b.not_once (met b.in_range)
 refuted s f (ArcIntoSender m a) facts b met = met b.1 b.2.used.in_range b.2
 refuted s f (TwoArcsInto m r) facts b met = absurd (omega (arith, b.2.two, met b.1 b.2.in_range))
@@ -65,12 +65,13 @@ refuted s f (ResourceUse r) facts b met = b.1.differ (met b.1.in_range)
 refuted s f (LinkUse l) facts b met = b.1.differ (met b.1.in_range)
 
 -- a broken rule is the first one where the rules before it are met, and it is met earlier
-first_of : (s : SpecValue) (f : Bits) (rule : Rule) → IsWellFormed s → AreMetBelow s f (number_of rule) → ((m x : ℕ) → IsEarlier m x (message_of rule) (place_of rule) → IsMet s f (number_of rule) m x) → Breaks s f rule → IsFirstBroken s f rule
+first_of : (s : SpecValue) (f : Bits) (rule : Rule) → IsWellFormed s → AreMetBelow s f (rule_number rule)
+    → ((m x : ℕ) → IsEarlier m x (rule_message rule) (rule_place rule) → IsMet s f (rule_number rule) m x) → DesignBreaks s f rule → IsFirstBroken s f rule
 first_of s f rule facts lower earlier broken = record {
   broken = broken;
   none_before = λ other before b. elim before [
-    | inl l ↦ refuted s f other facts b (lower (number_of other) l (message_of other) (place_of other))
-    | inr e ↦ refuted s f other facts b (subst (λ (k : ℕ). IsMet s f k (message_of other) (place_of other)) (sym e.0) (earlier (message_of other) (place_of other) e.1))
+    | inl l ↦ refuted s f other facts b (lower (rule_number other) l (rule_message other) (rule_place other))
+    | inr e ↦ refuted s f other facts b (subst (λ (k : ℕ). IsMet s f k (rule_message other) (rule_place other)) (sym e.0) (earlier (rule_message other) (rule_place other) e.1))
   ];
 }
 
@@ -81,7 +82,8 @@ more s f n before here = below_more (λ (k : ℕ). (m x : ℕ) → IsMet s f k m
 everywhere : (s : SpecValue) (f : Bits) (rule : RouteRule) → Meets s f rule → (m x : ℕ) → IsMetAt s f rule m x
 everywhere s f rule meets m x in_range here = meets m in_range x here
 
-up_to : (s : SpecValue) (f : Bits) (rule : RouteRule) (n y : ℕ) → AllPairsBelow (MeetsAt s f rule) n (places s rule) → AllBelow (MeetsAt s f rule n) y → (m x : ℕ) → IsEarlier m x n y → IsMetAt s f rule m x
+up_to : (s : SpecValue) (f : Bits) (rule : RouteRule) (n y : ℕ) → AllPairsBelow (MeetsAt s f rule) n (places s rule) → AllBelow (MeetsAt s f rule n) y → (m x : ℕ) → IsEarlier m x n y
+    → IsMetAt s f rule m x
 up_to s f rule n y before here m x (inl l) in_range there = before m l x there
 up_to s f rule n y before here m x (inr e) in_range there = subst (λ (q : ℕ). MeetsAt s f rule q x) (sym e.0) (here x e.1)
 
@@ -121,7 +123,8 @@ pub first_unbound : (s : SpecValue) (f : Bits) (t : TaskNo) → IsWellFormed s �
 first_unbound s f t facts found =
     first_of s f (NotBoundOnce t) facts (lower_1 s f) (λ m x. up_to_place (BoundOnce s f) (length s.tasks) t.0 m x found.2) found.1
 
-pub first_into_sender : (s : SpecValue) (f : Bits) (m : MsgNo) (a : ArcNo) → IsWellFormed s → AllBoundOnce s f → AreMetBelow s f 2 → IsFirstAt s f NoArcIntoSender m.0 a.0 → IsFirstBroken s f (ArcIntoSender m a)
+pub first_into_sender : (s : SpecValue) (f : Bits) (m : MsgNo) (a : ArcNo) → IsWellFormed s → AllBoundOnce s f → AreMetBelow s f 2 → IsFirstAt s f NoArcIntoSender m.0 a.0
+    → IsFirstBroken s f (ArcIntoSender m a)
 first_into_sender s f m a facts bound lower found =
     first_of s f (ArcIntoSender m a) facts lower (up_to s f NoArcIntoSender m.0 a.0 found.3 found.4) (bound, found.0, found.2)
 
@@ -141,28 +144,30 @@ pub first_dangling : (s : SpecValue) (f : Bits) (m : MsgNo) (a : ArcNo) → IsWe
 first_dangling s f m a facts bound lower found =
     first_of s f (Dangling m a) facts lower (up_to s f GoesOn m.0 a.0 found.3 found.4) (bound, found.0, found.2)
 
-pub first_misused : (s : SpecValue) (f : Bits) (r : ResNo) → IsWellFormed s → AllBoundOnce s f → AreMetBelow s f 7 → IsFirst (IsMisused s f) (IsUsedRightly s f) (length s.resources) (Some r.0) → IsFirstBroken s f (ResourceUse r)
+pub first_misused : (s : SpecValue) (f : Bits) (r : ResNo) → IsWellFormed s → AllBoundOnce s f → AreMetBelow s f 7 → IsFirst (IsMisused s f) (IsUsedRightly s f) (length s.resources) (Some r.0)
+    → IsFirstBroken s f (ResourceUse r)
 first_misused s f r facts bound lower found =
     first_of s f (ResourceUse r) facts lower (λ m x. up_to_place (IsUsedRightly s f) (length s.resources) r.0 m x found.2) (bound, found.1)
 
-pub first_miswired : (s : SpecValue) (f : Bits) (l : LinkNo) → IsWellFormed s → AllBoundOnce s f → AreMetBelow s f 8 → IsFirst (IsMiswired s f) (IsWiredRightly s f) (length s.links) (Some l.0) → IsFirstBroken s f (LinkUse l)
+pub first_miswired : (s : SpecValue) (f : Bits) (l : LinkNo) → IsWellFormed s → AllBoundOnce s f → AreMetBelow s f 8 → IsFirst (IsMiswired s f) (IsWiredRightly s f) (length s.links) (Some l.0)
+    → IsFirstBroken s f (LinkUse l)
 first_miswired s f l facts bound lower found =
     first_of s f (LinkUse l) facts lower (λ m x. up_to_place (IsWiredRightly s f) (length s.links) l.0 m x found.2) (bound, found.1)
 
 -- a design that breaks a rule isn't valid
-pub Breaks-not_valid : (s : SpecValue) (f : Bits) (rule : Rule) → Breaks s f rule → ¬ IsValid s f
-Breaks-not_valid s f (NotBoundOnce t) b v = b.not_once (v.routed.bound_once t.0 b.in_range)
-Breaks-not_valid s f (ArcIntoSender m a) b v = v.routed.no_arc_into_sender m.0 a.0 b.1 b.2.used b.2.into_sender
-Breaks-not_valid s f (TwoArcsInto m r) b v = absurd (omega (arith, b.2.two, v.routed.one_arc_into m.0 r.0 b.1 b.2.in_range))
-Breaks-not_valid s f (NoWalk m a) b v = b.2.no_walk (v.routed.has_walk m.0 a.0 b.1 b.2.used)
-Breaks-not_valid s f (NotReached m w) b v =
+pub DesignBreaks-not_valid : (s : SpecValue) (f : Bits) (rule : Rule) → DesignBreaks s f rule → ¬ IsValid s f
+DesignBreaks-not_valid s f (NotBoundOnce t) b v = b.not_once (v.routed.bound_once t.0 b.in_range)
+DesignBreaks-not_valid s f (ArcIntoSender m a) b v = v.routed.no_arc_into_sender m.0 a.0 b.1 b.2.used b.2.into_sender
+DesignBreaks-not_valid s f (TwoArcsInto m r) b v = absurd (omega (arith, b.2.two, v.routed.one_arc_into m.0 r.0 b.1 b.2.in_range))
+DesignBreaks-not_valid s f (NoWalk m a) b v = b.2.no_walk (v.routed.has_walk m.0 a.0 b.1 b.2.used)
+DesignBreaks-not_valid s f (NotReached m w) b v =
     let x = v.reached m.0 w.0 b.2.resource b.1 b.2.receiver b.2.on in b.2.no_walk x.0 x.1
-Breaks-not_valid s f (Dangling m a) b v = b.2.no_end (v.routed.no_dangling m.0 a.0 b.1 b.2.used)
-Breaks-not_valid s f (ResourceUse r) b v = b.1.differ (v.routed.resource_use r.0 b.1.in_range)
-Breaks-not_valid s f (LinkUse l) b v = b.1.differ (v.routed.link_use l.0 b.1.in_range)
+DesignBreaks-not_valid s f (Dangling m a) b v = b.2.no_end (v.routed.no_dangling m.0 a.0 b.1 b.2.used)
+DesignBreaks-not_valid s f (ResourceUse r) b v = b.1.differ (v.routed.resource_use r.0 b.1.in_range)
+DesignBreaks-not_valid s f (LinkUse l) b v = b.1.differ (v.routed.link_use l.0 b.1.in_range)
 
 pub some_not_valid : (s : SpecValue) (f : Bits) (rule : Rule) → IsFirstBroken s f rule → IsNone (Some rule) ↔ IsValid s f
-some_not_valid s f rule first = (λ e. absurd (false≢true (sym e)), λ v. absurd (Breaks-not_valid s f rule first.broken v))
+some_not_valid s f rule first = (λ e. absurd (false≢true (sym e)), λ v. absurd (DesignBreaks-not_valid s f rule first.broken v))
 
 -- a design that meets each rule is valid
 pub valid_from : (s : SpecValue) (f : Bits) → IsWellFormed s → AreMetBelow s f 8 → AllBelow (IsWiredRightly s f) (length s.links) → IsValid s f

@@ -12,7 +12,8 @@ no_walk : (s : SpecValue) (f : Bits) (m r n : ℕ) → ¬ IsOn s f (sender_of s 
 no_walk s f m r zero off none w = off w
 no_walk s f m r (suc n) off none w = none w.0 w.1.in_range (record { used = w.1; into = w.2 })
 
-pub reached_by : (s : SpecValue) (f : Bits) (m r : ℕ) (found : Option ℕ) (answer : Bool) → ¬ IsOn s f (sender_of s m) r → AllBelow (MeetsAt s f ShortWalk m) (length s.arcs) → IsFirst (EntersAt s f m r) (EntersNot s f m r) (length s.arcs) found → answer ≡ is_some found → (answer ≡ true) ↔ IsReached s f m r
+pub reached_by : (s : SpecValue) (f : Bits) (m r : ℕ) (found : Option ℕ) (answer : Bool) → ¬ IsOn s f (sender_of s m) r → AllBelow (MeetsAt s f ShortWalk m) (length s.arcs)
+    → IsFirst (EntersAt s f m r) (EntersNot s f m r) (length s.arcs) found → answer ≡ is_some found → (answer ≡ true) ↔ IsReached s f m r
 reached_by s f m r (Some a) answer off walks first is = (
   λ e. let w = walks a first.0 first.1.used in record { hops = suc w.0; walk = (a, first.1.used, first.1.into, w.2) },
   λ x. is,

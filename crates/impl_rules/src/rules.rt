@@ -3,7 +3,7 @@
 ghost use Rattle.std.specs.Prelude.{◌≡◌, length, IsNone, IfSome, ◌↔◌};
 ghost use Rattle.spec_model.specs.Spec.{bits_of, design_variables};
 ghost use Rattle.spec_model.specs.Rules.{IsValid};
-ghost use Rattle.impl_rules.specs.Broken.{number_of, IsFirstBroken};
+ghost use Rattle.impl_rules.specs.Broken.{rule_number, IsFirstBroken};
 
 use crate::Design;
 use crate::allocation::{misused_resource, miswired_link};
@@ -35,7 +35,7 @@ pub enum Rule {
 impl Rule {
     /// The number of the rule, from 1 to 8.
     pub fn number(&self) -> u64
-        ensures { result ≡ number_of self.now }
+        ensures { result ≡ rule_number self.now }
     {
         match self {
             Rule::NotBoundOnce(_) => 1,

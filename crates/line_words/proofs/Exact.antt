@@ -19,17 +19,17 @@ use Rattle.std.specs.Float.Numeral.{Parts}
 abbrev V : List ℕ → ℕ
 V ds = digits_value 10 ds
 
-pub tens-pos : (k : ℕ) → 0 < 10 ^ k
-tens-pos zero = omega arith
-tens-pos (suc k) = let e : 10 ^ suc k ≡ 10 ^ k * 10 = ap (λ (n : ℕ). 10 ^ n) (omega arith) ∙ pow_more 10 k in omega (arith, e, tens-pos k)
+pub tens_pos : (k : ℕ) → 0 < 10 ^ k
+tens_pos zero = omega arith
+tens_pos (suc k) = let e : 10 ^ suc k ≡ 10 ^ k * 10 = ap (λ (n : ℕ). 10 ^ n) (omega arith) ∙ pow_more 10 k in omega (arith, e, tens_pos k)
 
-pub after-split : (n : ℕ) (ds : List ℕ) → digits_value_after 10 n ds ≡ n * 10 ^ length ds + V ds
-after-split n [] = omega arith
-after-split n (c ∷ cs) =
+pub after_split : (n : ℕ) (ds : List ℕ) → digits_value_after 10 n ds ≡ n * 10 ^ length ds + V ds
+after_split n [] = omega arith
+after_split n (c ∷ cs) =
     let p = 10 ^ length cs in
     let e : 10 ^ suc (length cs) ≡ 10 ^ length cs * 10 = ap (λ (k : ℕ). 10 ^ k) (omega arith) ∙ pow_more 10 (length cs) in
-    let a = after-split (n * 10 + digit_value c) cs in
-    let b = after-split (0 * 10 + digit_value c) cs in
+    let a = after_split (n * 10 + digit_value c) cs in
+    let b = after_split (0 * 10 + digit_value c) cs in
     rw e (omega (arith, a, b))
 
 after-append : (n : ℕ) (xs ys : List ℕ) → digits_value_after 10 n (xs ++ ys) ≡ digits_value_after 10 (digits_value_after 10 n xs) ys
@@ -37,7 +37,7 @@ after-append n [] ys = refl
 after-append n (x ∷ xs) ys = after-append (n * 10 + digit_value x) xs ys
 
 pub V-append : (xs ys : List ℕ) → V (xs ++ ys) ≡ V xs * 10 ^ length ys + V ys
-V-append xs ys = after-append 0 xs ys ∙ after-split (V xs) ys
+V-append xs ys = after-append 0 xs ys ∙ after_split (V xs) ys
 
 AllDigits-drop : (k : ℕ) (ds : List ℕ) → AllDigits 10 ds → AllDigits 10 (drop k ds)
 AllDigits-drop zero ds h = h
@@ -48,25 +48,26 @@ AllDigits-drop (suc k) (d ∷ ds) h = AllDigits-drop k ds h.1
 cut : (ds : List ℕ) (keep j : ℕ) → AllDigits 10 ds → keep + j ≡ length ds → V ds / 10 ^ j ≡ V (take keep ds)
 cut ds keep j h e =
     let len : length (drop keep ds) ≡ j = omega (arith, length-drop keep ds) in
-    let parts : V ds ≡ V (take keep ds) * 10 ^ j + V (drop keep ds) = ap V (sym (take-append-drop keep ds)) ∙ V-append (take keep ds) (drop keep ds) ∙ ap (λ (k : ℕ). V (take keep ds) * 10 ^ k + V (drop keep ds)) len in
+    let parts : V ds ≡ V (take keep ds) * 10 ^ j + V (drop keep ds) = ap V (sym (take-append-drop keep ds)) ∙ V-append (take keep ds) (drop keep ds)
+    ∙ ap (λ (k : ℕ). V (take keep ds) * 10 ^ k + V (drop keep ds)) len in
     let small : V (drop keep ds) < 10 ^ j = subst (λ (k : ℕ). V (drop keep ds) < 10 ^ k) len (digits_value-lt 10 (drop keep ds) (AllDigits-drop keep ds h)) in
     rw parts (div-mul-add (V (take keep ds)) (10 ^ j) (V (drop keep ds)) small)
 
 exact_low : (ds : List ℕ) (up j keep : ℕ) → AllDigits 10 ds → keep + j ≡ length ds → V ds * 10 ^ up / 10 ^ (up + j) ≡ V (take keep ds)
 exact_low ds up j keep h e =
     let turned : V ds * 10 ^ up ≡ 10 ^ up * V ds = omega arith in
-    rw (turned, pow-add 10 up j) (mul-div-mul_left (V ds) (10 ^ j) (tens-pos up) ∙ cut ds keep j h e)
+    rw (turned, pow-add 10 up j) (mul-div-mul_left (V ds) (10 ^ j) (tens_pos up) ∙ cut ds keep j h e)
 
 exact_high : (m down r : ℕ) → m * 10 ^ (down + r) / 10 ^ down ≡ m * 10 ^ r
 exact_high m down r =
     let turned : m * (10 ^ down * 10 ^ r) ≡ m * 10 ^ r * 10 ^ down = omega arith in
-    rw (pow-add 10 down r, turned) (mul-div_cancel (m * 10 ^ r) (tens-pos down))
+    rw (pow-add 10 down r, turned) (mul-div_cancel (m * 10 ^ r) (tens_pos down))
 
 exact_none : (ds : List ℕ) (up down : ℕ) → AllDigits 10 ds → up + length ds ≤ down → V ds * 10 ^ up / 10 ^ down ≡ 0
 exact_none ds up down h le =
     let below = digits_value-lt 10 ds h in
-    let a : V ds * 10 ^ up < 10 ^ length ds * 10 ^ up = mul-lt-mul_of_pos_right below (tens-pos up) in
-    let b : 10 ^ (length ds + up) ≤ 10 ^ down = pow-le-pow_right (tens-pos 1) (omega arith) in
+    let a : V ds * 10 ^ up < 10 ^ length ds * 10 ^ up = mul-lt-mul_of_pos_right below (tens_pos up) in
+    let b : 10 ^ (length ds + up) ≤ 10 ^ down = pow-le-pow_right (tens_pos 1) (omega arith) in
     div-eq_of_lt (omega (arith, a, b, pow-add 10 (length ds) up))
 
 -- the value, scaled up by 10 ^ up and down by 10 ^ down and cut, is that of the digits that are kept, and of zeros after them
@@ -94,18 +95,18 @@ exact ds up down h =
 -- ---- with a bound at which the code stops
 
 -- a number and digits after it, at most the bound
-pub sat-after : (n m : ℕ) (ds : List ℕ) → min n most ≡ min m most → min (digits_value_after 10 n ds) most ≡ min (digits_value_after 10 m ds) most
-sat-after n m [] e = e
-sat-after n m (d ∷ ds) e = sat-after (n * 10 + digit_value d) (m * 10 + digit_value d) ds (omega arith)
+pub sat_after : (n m : ℕ) (ds : List ℕ) → min n most ≡ min m most → min (digits_value_after 10 n ds) most ≡ min (digits_value_after 10 m ds) most
+sat_after n m [] e = e
+sat_after n m (d ∷ ds) e = sat_after (n * 10 + digit_value d) (m * 10 + digit_value d) ds (omega arith)
 
 -- zeros after a number, at most the bound
-pub sat-zeros : (n m k : ℕ) → min n most ≡ min m most → min (n * 10 ^ k) most ≡ min (m * 10 ^ k) most
-sat-zeros n m k e =
+pub sat_zeros : (n m k : ℕ) → min n most ≡ min m most → min (n * 10 ^ k) most ≡ min (m * 10 ^ k) most
+sat_zeros n m k e =
     elim (cases_lt n most) [
       | inl low ↦ let same : n ≡ m = omega arith in rw same refl
       | inr high ↦
-          let a : n * 1 ≤ n * 10 ^ k = mul-le-mul_left n (tens-pos k) in
-          let b : m * 1 ≤ m * 10 ^ k = mul-le-mul_left m (tens-pos k) in
+          let a : n * 1 ≤ n * 10 ^ k = mul-le-mul_left n (tens_pos k) in
+          let b : m * 1 ≤ m * 10 ^ k = mul-le-mul_left m (tens_pos k) in
           omega arith
     ]
 
@@ -113,27 +114,19 @@ sat-zeros n m k e =
 pub many_zeros : (n j k : ℕ) → 27 ≤ j → 27 ≤ k → min (n * 10 ^ j) most ≡ min (n * 10 ^ k) most
 many_zeros zero j k a b = omega arith
 many_zeros (suc n) j k a b =
-    let p : most ≤ 10 ^ j = pow-le-pow_right (tens-pos 1) a in
-    let q : most ≤ 10 ^ k = pow-le-pow_right (tens-pos 1) b in
+    let p : most ≤ 10 ^ j = pow-le-pow_right (tens_pos 1) a in
+    let q : most ≤ 10 ^ k = pow-le-pow_right (tens_pos 1) b in
     omega arith
 
 -- at the bound zeros change nothing
 pub full : (n k : ℕ) → most ≤ n → n ≤ most → n ≡ min (n * 10 ^ k) most
-full n k a b = let p : n * 1 ≤ n * 10 ^ k = mul-le-mul_left n (tens-pos k) in omega arith
+full n k a b = let p : n * 1 ≤ n * 10 ^ k = mul-le-mul_left n (tens_pos k) in omega arith
 
 pub digit_is : (d : ℕ) → IsInRange 48 57 d → digit_value d ≡ d - 48
 digit_is d r = search (rules, tests)
 
 pub min_step : (res v f dv : ℕ) → res ≡ min (v * 10 + f) most → f ≡ dv → (min res most ≡ min (v * 10 + dv) most) × (res ≤ most)
 min_step res v f dv a b = (omega arith, omega arith)
-
--- an exponent that is cut at the bound keeps as much
-pub cut_up : (v e k : ℕ) → min (v * 10 ^ (min e most + k)) most ≡ min (v * 10 ^ (e + k)) most
-cut_up v e k =
-    elim (cases_lt e most) [
-      | inl low ↦ let same : min e most ≡ e = omega arith in rw same refl
-      | inr high ↦ many_zeros v (min e most + k) (e + k) (omega arith) (omega arith)
-    ]
 
 -- the digits kept of two parts
 pub two_parts : (xs ys : List ℕ) (keep a b : ℕ) → a ≡ min keep (length xs) → b ≡ min (keep - a) (length ys) → take a xs ++ take b ys ≡ take keep (xs ++ ys)
@@ -170,9 +163,11 @@ units_by false whole fraction exponent e keep h e_is short k_is =
       | inr high ↦
           let k = exponent + 12 + length (whole ++ fraction) - (length fraction + 0) in
           let a : take keep (whole ++ fraction) ≡ whole ++ fraction = take_all keep (whole ++ fraction) (omega (arith, n)) in
-          let b : take (exponent + 12 + length (whole ++ fraction) - (length fraction + 0)) (whole ++ fraction) ≡ whole ++ fraction = take_all (exponent + 12 + length (whole ++ fraction) - (length fraction + 0)) (whole ++ fraction) (omega (arith, n)) in
+          let b : take (exponent + 12 + length (whole ++ fraction) - (length fraction + 0)) (whole ++ fraction) ≡ whole ++ fraction =
+          take_all (exponent + 12 + length (whole ++ fraction) - (length fraction + 0)) (whole ++ fraction) (omega (arith, n)) in
           rw (exact (whole ++ fraction) (exponent + 12) (length fraction + 0) h, a, b)
-          (many_zeros (V (whole ++ fraction)) (keep - length (whole ++ fraction)) (exponent + 12 + length (whole ++ fraction) - (length fraction + 0) - length (whole ++ fraction)) (omega (arith, n)) (omega (arith, n)))
+          (many_zeros (V (whole ++ fraction)) (keep - length (whole ++ fraction)) (exponent + 12 + length (whole ++ fraction) - (length fraction + 0) - length (whole ++ fraction))
+          (omega (arith, n)) (omega (arith, n)))
     ]
 
 -- the units of a numeral, from the digits that are kept and zeros, at most the bound
@@ -218,10 +213,11 @@ assembled p e keep a b v1 v2 z res hw hf e_is short k_is a_is b_is v1_is v2_is z
     let first : min v1 most ≡ min (digits_value_after 10 0 (take a p.whole)) most = rw v1_is (min_twice (digits_value_after 10 0 (take a p.whole))) in
     let second : min v2 most ≡ min (V (take keep (p.whole ++ p.fraction))) most =
     rw v2_is (min_twice (digits_value_after 10 v1 (take b p.fraction))
-    ∙ sat-after v1 (digits_value_after 10 0 (take a p.whole)) (take b p.fraction) first
+    ∙ sat_after v1 (digits_value_after 10 0 (take a p.whole)) (take b p.fraction) first
     ∙ ap (λ (k : ℕ). min k most) (sym (after-append 0 (take a p.whole) (take b p.fraction)))
     ∙ ap (λ (ds : List ℕ). min (V ds) most) (two_parts p.whole p.fraction keep a b a_is b_is)) in
     let z_same : z ≡ keep - length (p.whole ++ p.fraction) = omega (arith, n) in
-    let k_same : keep ≡ (cond p.exponent_negative 0 e + 12) + length (p.whole ++ p.fraction) - (length p.fraction + cond p.exponent_negative e 0) = k_is ∙ ap (λ (k : ℕ). cond p.exponent_negative 0 e + 12 + k - (length p.fraction + cond p.exponent_negative e 0)) (sym n) in
-    res_is ∙ ap (λ (k : ℕ). min (v2 * 10 ^ k) most) z_same ∙ sat-zeros v2 (V (take keep (p.whole ++ p.fraction))) (keep - length (p.whole ++ p.fraction)) second
+    let k_same : keep ≡ (cond p.exponent_negative 0 e + 12) + length (p.whole ++ p.fraction) - (length p.fraction + cond p.exponent_negative e 0) = k_is
+    ∙ ap (λ (k : ℕ). cond p.exponent_negative 0 e + 12 + k - (length p.fraction + cond p.exponent_negative e 0)) (sym n) in
+    res_is ∙ ap (λ (k : ℕ). min (v2 * 10 ^ k) most) z_same ∙ sat_zeros v2 (V (take keep (p.whole ++ p.fraction))) (keep - length (p.whole ++ p.fraction)) second
     ∙ units_cut p e keep (AllDigits-append p.whole p.fraction hw hf) e_is short k_same

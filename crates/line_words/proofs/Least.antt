@@ -3,7 +3,7 @@ use Rattle.std.proofs.Common.{◌≡◌, ℕ, ◌+◌, ◌<◌, ◌≤◌, inl, 
 use Rattle.std.proofs.lemmas.Bool.{cases_Bool, cases_lt}
 use Rattle.std.proofs.lemmas.List.{append-nil, drop_more, take_more, take_all, length-drop, length-take}
 use Rattle.line_words.specs.Refused.{rank}
-use Rattle.line_words.specs.Rules.{Test, Breaks, first_broken, IsRanked, Statement, Rules, at_number, statements_from, statements, tests_after, tests_at, IsLeast, HasNoFault, AreInOrder}
+use Rattle.line_words.specs.Rules.{Test, BreaksTests, first_broken, IsRanked, Statement, Rules, at_number, statements_from, statements, tests_after, tests_at, IsLeast, HasNoFault, AreInOrder}
 use Rattle.line_words.specs.Run.{Reading, unless_broken, run}
 use Rattle.line_words.specs.declared.refusals.Why.{Why}
 use Rattle.line_words.proofs.Whys.{some, none, some_is}
@@ -12,10 +12,10 @@ use Rattle.line_words.proofs.Whys.{some, none, some_is}
 
 -- a broken rule of a list, and no broken one comes before it
 pub record IsLeastOf (ts : List Test) (w : Why) : Type 0 where
-  pub broken : Breaks ts w
-  pub least : (v : Why) → Breaks ts v → rank w ≤ rank v
+  pub broken : BreaksTests ts w
+  pub least : (v : Why) → BreaksTests ts v → rank w ≤ rank v
 
-above_low : (low : ℕ) (ts : List Test) (v : Why) → IsRanked low ts → Breaks ts v → low ≤ rank v
+above_low : (low : ℕ) (ts : List Test) (v : Why) → IsRanked low ts → BreaksTests ts v → low ≤ rank v
 above_low low [] v h i = absurd i
 above_low low (t ∷ ts) v h i = elim i [
   | inl e ↦ subst (λ (y : Why). low ≤ rank y) e.0 h.0
@@ -25,7 +25,8 @@ above_low low (t ∷ ts) v h i = elim i [
 first_here : (t : Test) (ts : List Test) → t.1 ≡ true → first_broken (t ∷ ts) ≡ some t.0
 first_here t ts e = rw e refl
 
-first_later : (t : Test) (ts : List Test) → t.1 ≡ false → first_broken (t ∷ ts) ≡ first_broken ts
+-- a rule that isn't broken is passed over
+pub first_later : (t : Test) (ts : List Test) → t.1 ≡ false → first_broken (t ∷ ts) ≡ first_broken ts
 first_later t ts e = rw e refl
 
 first_is_least : (low : ℕ) (ts : List Test) (w : Why) → IsRanked low ts → first_broken ts ≡ some w → IsLeastOf ts w
@@ -52,7 +53,7 @@ first_is_least low (t ∷ ts) w h e =
           }
     ]
 
-none_broken : (ts : List Test) (v : Why) → first_broken ts ≡ none → Breaks ts v → ⊥
+none_broken : (ts : List Test) (v : Why) → first_broken ts ≡ none → BreaksTests ts v → ⊥
 none_broken [] v e i = i
 none_broken (t ∷ ts) v e i =
     elim (cases_Bool t.1) [
@@ -83,7 +84,8 @@ first_broken-append-some (x ∷ xs) ys w e =
 
 -- ---- the statements of lines
 
-statements_from-append : (rules : Rules) (number : ℕ) (xs ys : List (List ℕ)) → statements_from rules number (xs ++ ys) ≡ statements_from rules number xs ++ statements_from rules (number + length xs) ys
+statements_from-append : (rules : Rules) (number : ℕ) (xs ys : List (List ℕ)) → statements_from rules number (xs ++ ys) ≡ statements_from rules number xs
+    ++ statements_from rules (number + length xs) ys
 statements_from-append rules number [] ys = ap (λ (n : ℕ). statements_from rules n ys) (omega arith)
 statements_from-append rules number (x ∷ xs) ys =
     let here = at_number number (rules.stated x) in
@@ -110,7 +112,7 @@ Outcome rules lines (Err r) = IsLeast rules lines r.line r.why
 
 -- no rule is broken at the first n lines
 abbrev FineBelow : Rules → List (List ℕ) → ℕ → Type 0
-FineBelow rules lines n = (k : ℕ) (v : Why) → k < n → Breaks (tests_at rules lines k) v → ⊥
+FineBelow rules lines n = (k : ℕ) (v : Why) → k < n → BreaksTests (tests_at rules lines k) v → ⊥
 
 -- the tests at a line are in order
 ranked_at : (rules : Rules) (lines : List (List ℕ)) (n : ℕ) → AreInOrder rules → IsRanked 0 (tests_at rules lines n)
@@ -130,7 +132,7 @@ least_here rules lines n w o lt fine e =
             | inl later ↦ inl (omega (arith, later, a.number_is))
             | inr same ↦
                 let is : a.place ≡ n = omega (arith, high, same) in
-                inr (omega (arith, is, a.number_is), here.least v (subst (λ (k : ℕ). Breaks (tests_at rules lines k) v) is a.broken))
+                inr (omega (arith, is, a.number_is), here.least v (subst (λ (k : ℕ). BreaksTests (tests_at rules lines k) v) is a.broken))
           ]
         ]
         | inr b ↦ inl (omega (arith, lt, b.number_is))
@@ -161,7 +163,7 @@ fine_more rules lines n fine e = λ k v lt q.
       | inl low ↦ fine k v low q
       | inr high ↦
           let is : k ≡ n = omega (arith, lt, high) in
-          none_broken (tests_at rules lines n) v e (subst (λ (j : ℕ). Breaks (tests_at rules lines j) v) is q)
+          none_broken (tests_at rules lines n) v e (subst (λ (j : ℕ). BreaksTests (tests_at rules lines j) v) is q)
     ]
 
 at_end : (rules : Rules) (lines : List (List ℕ)) (broken : Option Why) → AreInOrder rules → first_broken (rules.end (statements rules lines)) ≡ broken
@@ -175,10 +177,12 @@ at_line : (rules : Rules) (lines : List (List ℕ)) (n : ℕ) (broken : Option W
 at_line rules lines n None more o lt e fine then = then (fine_more rules lines n fine e)
 at_line rules lines n (Some w) more o lt e fine then = least_here rules lines n w o lt fine e
 
+-- a run over no lines tries the end
 pub run-nil : (rules : Rules) (number : ℕ) (before : List Statement) → run rules number before [] ≡ unless_broken number (first_broken (rules.end before)) (Ok before)
 unfolding run
 run-nil rules number before = refl
 
+-- a run tries its first line, and then the others after it
 pub run-cons : (rules : Rules) (number : ℕ) (before : List Statement) (l : List ℕ) (ls : List (List ℕ))
     → run rules number before (l ∷ ls) ≡ unless_broken number (first_broken (tests_after rules before l)) (run rules (number + 1) (before ++ at_number number (rules.stated l)) ls)
 unfolding run
@@ -199,7 +203,8 @@ from_here rules lines (l ∷ ls) n o le e fine =
     let more : statements rules (take (n + 1) lines) ≡ before ++ at_number (n + 1) (rules.stated l) = statements_more rules lines n l lt is in
     let next : FineBelow rules lines (n + 1) → Outcome rules lines (run rules (n + 1 + 1) (before ++ at_number (n + 1) (rules.stated l)) ls)
     = λ f. subst (λ (st : List Statement). Outcome rules lines (run rules (n + 1 + 1) st ls)) more (from_here rules lines ls (n + 1) o (omega arith) rest f) in
-    rw run-cons (subst (λ (x : List ℕ). Outcome rules lines (unless_broken (n + 1) (first_broken (tests_after rules before x)) (run rules (n + 1 + 1) (before ++ at_number (n + 1) (rules.stated l)) ls))) (sym is)
+    rw run-cons (subst (λ (x : List ℕ). Outcome rules lines (unless_broken (n + 1) (first_broken (tests_after rules before x))
+    (run rules (n + 1 + 1) (before ++ at_number (n + 1) (rules.stated l)) ls))) (sym is)
     (at_line rules lines n (first_broken (tests_at rules lines n)) (run rules (n + 1 + 1) (before ++ at_number (n + 1) (rules.stated l)) ls) o lt refl fine next))
 
 -- Reading from the front gives what the file is, for each kind of file whose rules stand in their order.

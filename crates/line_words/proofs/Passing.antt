@@ -7,11 +7,8 @@ use Rattle.line_words.specs.Front.{has_word}
 use Rattle.line_words.specs.Left.{Left, Numbered, IsEmptyLine, AllEmpty, Passes, Gives, StopsAt, Refuses}
 use Rattle.line_words.specs.declared.refusals.Why.{Why}
 use Rattle.line_words.specs.declared.refusals.Refusal1.{Refusal1}
-use Rattle.line_words.proofs.Spans.{words_from-some_word}
+use Rattle.line_words.proofs.Spans.{words_from_some_word}
 use Rattle.line_words.proofs.Whys.{some, none, some_is}
-
-pub passes_none : (left : Left) → Passes left left
-passes_none left = record { passed = []; empty = tt; lines_are = refl; number_is = omega arith }
 
 AllEmpty-push : (ls : List (List ℕ)) (l : List ℕ) → AllEmpty ls → IsEmptyLine l → AllEmpty (ls ++ l ∷ [])
 AllEmpty-push [] l h e = (e, tt)
@@ -77,7 +74,7 @@ gives_one old now line more found p e fine content_is number_is word = record {
   passes = subst (Passes old) (ap (λ (ls : List (List ℕ)). record { number = now.number; lines = ls }) e ∙ ap (λ (n : ℕ). record { number = n; lines = line ∷ more }) (sym number_is)) p;
   fine = fine;
   content_is = content_is;
-  some_word = words_from-some_word found.content 0 (ap has_word content_is ∙ word);
+  some_word = words_from_some_word found.content 0 (ap has_word content_is ∙ word);
   number_is = refl;
 }
 

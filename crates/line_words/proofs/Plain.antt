@@ -4,14 +4,13 @@ use Rattle.std.specs.Prelude.{decimal}
 use Rattle.std.specs.List.{list_all}
 use Rattle.std.specs.Char.{is_ascii_digit}
 use Rattle.std.specs.Str.Parse.{digits_value}
-use Rattle.std.proofs.lemmas.Bool.{cases_Bool, lt-ltb, ltb-true, ltb-false, eqb-true}
+use Rattle.std.proofs.lemmas.Bool.{cases_Bool, lt-ltb, ltb-true, ltb-false, eqb-true, and_parts}
 use Rattle.std.proofs.Math.Bool.{and-false}
 use Rattle.std.proofs.lemmas.Fmt.{digits_decimal, digits_value-decimal, decimal_nonempty, decimal-digits_value, first_decimal, decimal_digit}
 use Rattle.line_words.specs.Numbers.{is_digits, has_leading_zero, whole_of, plain_whole_of}
 use Rattle.line_words.specs.declared.numbers.NumberFault.{NumberFault}
 use Rattle.line_words.specs.declared.numbers.NumberFault.TheVariants.{BadNumber, TooBig}
 use Rattle.line_words.proofs.Digits.{own}
-use Rattle.line_words.proofs.Whys.{both}
 
 abbrev ok : ℕ → Result ℕ NumberFault
 ok n = Ok n
@@ -61,7 +60,7 @@ decimal_when_read w n e =
           | inl u ↦
               let c : plain_whole_of w ≡ ok (digits_value 10 w) = rw (f, t, u) refl in
               let is : digits_value 10 w ≡ n = ok_is (digits_value 10 w) n (sym c ∙ e) in
-              let parts = both (ltb 0 (length w)) (list_all is_ascii_digit w) t in
+              let parts = and_parts (ltb 0 (length w)) (list_all is_ascii_digit w) t in
               let some : 0 < length w = ltb-true 0 (length w) parts.0 in
               let small : digits_value 10 w < 2 ^ 63 = ltb-true (digits_value 10 w) (2 ^ 63) u in
               let back = decimal-digits_value own w parts.1 some (λ first. one_long w f some first) (omega arith) in

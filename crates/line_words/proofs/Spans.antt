@@ -1,13 +1,13 @@
 -- The words of a line have rising spans, and their texts are the slices of it.
 use Rattle.std.proofs.Common.{◌≡◌, ℕ, suc, ◌+◌, ◌-◌, ◌<◌, ◌≤◌, inl, inr, true, false, eqb, List, [], ◌∷◌, length, take, drop, get_or, refl, sym, ap, subst, ◌∙◌, arith}
 use Rattle.std.specs.List.{slice_range, list_all}
-use Rattle.std.proofs.lemmas.Bool.{cases_Bool, cases_lt, eqb-true, eqb-false}
+use Rattle.std.proofs.lemmas.Bool.{cases_Bool, cases_lt, eqb-true, eqb-false, and_parts}
 use Rattle.std.proofs.lemmas.Bool.Decides.{nat_tests}
 use Rattle.std.proofs.lemmas.List.{drop_more, length-drop}
 use Rattle.line_words.specs.Text.{is_blank, Piece, byte_word, onto_word, words_from, words_in, AreSpans, is_bad, is_word_byte, is_content_byte, ArePlain}
 use Rattle.line_words.specs.Front.{has_word}
-use Rattle.line_words.proofs.Runs.{words_from-nil, words_from-blank, words_from-byte}
-use Rattle.line_words.proofs.Whys.{both, other}
+use Rattle.line_words.proofs.Runs.{words_from-nil, words_from-blank, words_from_byte}
+use Rattle.line_words.proofs.Whys.{other}
 
 AreSpans-earlier : (source : List ℕ) (place later : ℕ) (ws : List Piece) → place ≤ later → AreSpans source later ws → AreSpans source place ws
 AreSpans-earlier source place later [] le h = tt
@@ -64,43 +64,43 @@ onto_spans source place b (w ∷ ws) lt is h =
           rw f (byte_spans source place b (w ∷ ws) lt is (record { starts = later; some = h.0.some; within = h.0.within; text_is = h.0.text_is }, h.1))
     ]
 
-words_from-spans : (source : List ℕ) (place : ℕ) (bs : List ℕ) → drop place source ≡ bs → AreSpans source place (words_from place bs)
-words_from-spans source place [] e = rw words_from-nil tt
-words_from-spans source place (b ∷ bs) e =
+words_from_spans : (source : List ℕ) (place : ℕ) (bs : List ℕ) → drop place source ≡ bs → AreSpans source place (words_from place bs)
+words_from_spans source place [] e = rw words_from-nil tt
+words_from_spans source place (b ∷ bs) e =
     let lt : place < length source = omega (arith, ap length e, length-drop place source) in
     let cut : b ∷ bs ≡ get_or source place 0 ∷ drop (place + 1) source = sym e ∙ drop_more source place 0 lt in
     let is : get_or source place 0 ≡ b = cc in
     let rest : drop (place + 1) source ≡ bs = cc in
-    let more = words_from-spans source (place + 1) bs rest in
+    let more = words_from_spans source (place + 1) bs rest in
     elim (cases_Bool (is_blank b)) [
       | inl t ↦ subst (AreSpans source place) (sym (words_from-blank place b bs t)) (AreSpans-earlier source place (place + 1) (words_from (place + 1) bs) (omega arith) more)
-      | inr f ↦ subst (AreSpans source place) (sym (words_from-byte place b bs f)) (onto_spans source place b (words_from (place + 1) bs) lt is more)
+      | inr f ↦ subst (AreSpans source place) (sym (words_from_byte place b bs f)) (onto_spans source place b (words_from (place + 1) bs) lt is more)
     ]
 
 -- the words of a line
-pub words_in-spans : (source : List ℕ) → AreSpans source 0 (words_in source)
-words_in-spans source = words_from-spans source 0 source refl
+pub words_in_spans : (source : List ℕ) → AreSpans source 0 (words_in source)
+words_in_spans source = words_from_spans source 0 source refl
 
 -- ---- whether there is a word
 
-onto_word-some : (place b : ℕ) (ws : List Piece) → 0 < length (onto_word place b ws)
-onto_word-some place b [] = omega arith
-onto_word-some place b (w ∷ ws) = elim (cases_Bool (eqb w.start (place + 1))) [ inl t ↦ rw t (omega arith) | inr f ↦ rw f (omega arith) ]
+onto_word_some : (place b : ℕ) (ws : List Piece) → 0 < length (onto_word place b ws)
+onto_word_some place b [] = omega arith
+onto_word_some place b (w ∷ ws) = elim (cases_Bool (eqb w.start (place + 1))) [ inl t ↦ rw t (omega arith) | inr f ↦ rw f (omega arith) ]
 
-pub words_from-no_word : (bs : List ℕ) (place : ℕ) → has_word bs ≡ false → words_from place bs ≡ []
-words_from-no_word [] place h = words_from-nil place
-words_from-no_word (b ∷ bs) place h =
+pub words_from_no_word : (bs : List ℕ) (place : ℕ) → has_word bs ≡ false → words_from place bs ≡ []
+words_from_no_word [] place h = words_from-nil place
+words_from_no_word (b ∷ bs) place h =
     elim (cases_Bool (is_blank b)) [
-      | inl t ↦ words_from-blank place b bs t ∙ words_from-no_word bs (place + 1) (rw t at h)
+      | inl t ↦ words_from-blank place b bs t ∙ words_from_no_word bs (place + 1) (rw t at h)
       | inr f ↦ absurd (let c : true ≡ false = rw f at h in cc)
     ]
 
-pub words_from-some_word : (bs : List ℕ) (place : ℕ) → has_word bs ≡ true → 0 < length (words_from place bs)
-words_from-some_word [] place h = absurd cc
-words_from-some_word (b ∷ bs) place h =
+pub words_from_some_word : (bs : List ℕ) (place : ℕ) → has_word bs ≡ true → 0 < length (words_from place bs)
+words_from_some_word [] place h = absurd cc
+words_from_some_word (b ∷ bs) place h =
     elim (cases_Bool (is_blank b)) [
-      | inl t ↦ rw (words_from-blank place b bs t) (words_from-some_word bs (place + 1) (rw t at h))
-      | inr f ↦ rw (words_from-byte place b bs f) (onto_word-some place b (words_from (place + 1) bs))
+      | inl t ↦ rw (words_from-blank place b bs t) (words_from_some_word bs (place + 1) (rw t at h))
+      | inr f ↦ rw (words_from_byte place b bs f) (onto_word_some place b (words_from (place + 1) bs))
     ]
 
 -- ---- the bytes of words
@@ -117,12 +117,12 @@ onto_plain place b (w ∷ ws) t h =
       | inr s ↦ rw s (rw t refl, h)
     ]
 
-pub words_from-plain : (bs : List ℕ) (place : ℕ) → list_all is_content_byte bs ≡ true → ArePlain (words_from place bs)
-words_from-plain [] place h = rw words_from-nil tt
-words_from-plain (b ∷ bs) place h =
-    let parts = both (is_content_byte b) (list_all is_content_byte bs) h in
-    let more = words_from-plain bs (place + 1) parts.1 in
+pub words_from_plain : (bs : List ℕ) (place : ℕ) → list_all is_content_byte bs ≡ true → ArePlain (words_from place bs)
+words_from_plain [] place h = rw words_from-nil tt
+words_from_plain (b ∷ bs) place h =
+    let parts = and_parts (is_content_byte b) (list_all is_content_byte bs) h in
+    let more = words_from_plain bs (place + 1) parts.1 in
     elim (cases_Bool (is_blank b)) [
       | inl t ↦ subst ArePlain (sym (words_from-blank place b bs t)) more
-      | inr f ↦ subst ArePlain (sym (words_from-byte place b bs f)) (onto_plain place b (words_from (place + 1) bs) (other (is_blank b) (is_word_byte b) parts.0 f) more)
+      | inr f ↦ subst ArePlain (sym (words_from_byte place b bs f)) (onto_plain place b (words_from (place + 1) bs) (other (is_blank b) (is_word_byte b) parts.0 f) more)
     ]

@@ -5,7 +5,7 @@
 -- file ends and breaks no rule, or its end breaks one.
 use Rattle.std.proofs.Common.{◌≡◌, ℕ, ◌+◌, ◌<◌, ◌≤◌, Bool, true, List, [], ◌∷◌, ◌++◌, length, Option, Some, None, Ok, Err, ◌&&◌, refl, sym, ap, ◌∙◌, arith}
 use Rattle.std.specs.Prelude.{nat_le}
-use Rattle.std.proofs.lemmas.Bool.{leb-true}
+use Rattle.std.proofs.lemmas.Bool.{leb-true, and_parts}
 use Rattle.std.proofs.lemmas.List.{append-nil}
 use Rattle.line_words.specs.Text.{Piece, words, words_in}
 use Rattle.line_words.specs.Rules.{Test, IsRanked, first_broken, Words, Statement, Rules, tests_after, statement_tests, AreInOrder, line_tests, texts, some_words, stated_words, text_rules}
@@ -15,7 +15,6 @@ use Rattle.line_words.specs.declared.refusals.Why.{Why}
 use Rattle.line_words.specs.Refused.{rank}
 use Rattle.line_words.specs.declared.refusals.Why.TheVariants.{LongLine, NoHeader}
 use Rattle.line_words.specs.declared.refusals.Refusal1.{Refusal1}
-use Rattle.line_words.proofs.Whys.{both}
 use Rattle.line_words.proofs.Least.{run-nil, run-cons, first_broken-append-none, first_broken-append-some}
 
 -- ---- rules in their order
@@ -28,11 +27,12 @@ is_ranked low (t ∷ ts) = nat_le low (rank t.0) && is_ranked (rank t.0) ts
 -- Rules that are written out stand in their order: computed from what they refuse for.
 pub ranked : (low : ℕ) (ts : List Test) → is_ranked low ts ≡ true → IsRanked low ts
 ranked low [] e = tt
-ranked low (t ∷ ts) e = let parts = both (nat_le low (rank t.0)) (is_ranked (rank t.0) ts) e in (leb-true low (rank t.0) parts.0, ranked (rank t.0) ts parts.1)
+ranked low (t ∷ ts) e = let parts = and_parts (nat_le low (rank t.0)) (is_ranked (rank t.0) ts) e in (leb-true low (rank t.0) parts.0, ranked (rank t.0) ts parts.1)
 
 -- Rules of statements that stand in their order, from the header on, are in order with those of the line.
 pub in_order : (statement : List Statement → Words → List Test) (end : List Statement → List Test)
-    → ((before : List Statement) (ws : Words) → IsRanked (rank NoHeader) (statement before ws)) → ((before : List Statement) → IsRanked (rank NoHeader) (end before)) → AreInOrder (text_rules statement end)
+    → ((before : List Statement) (ws : Words) → IsRanked (rank NoHeader) (statement before ws)) → ((before : List Statement) → IsRanked (rank NoHeader) (end before))
+    → AreInOrder (text_rules statement end)
 in_order statement end s e = record {
   at_lines = λ before line. (omega arith, (omega arith, stated_ranked statement end before (stated_words line) s));
   at_end = λ before. ranked_below 0 (rank NoHeader) (end before) (omega arith) (e before);
@@ -121,7 +121,8 @@ goes_on statement end before old new line ws total g is so_far fine =
     ∙ sym (gives_run statement end before old new line g ∙ rw here refl) ∙ so_far
 
 -- a statement that breaks a rule is the file's refusal
-pub stops_here : (statement : List Statement → Words → List Test) (end : List Statement → List Test) (before : List Statement) (old new : Left) (line : Numbered) (ws : Words) (total : Reading) (why : Why)
+pub stops_here : (statement : List Statement → Words → List Test) (end : List Statement → List Test) (before : List Statement) (old new : Left) (line : Numbered) (ws : Words) (total : Reading)
+    (why : Why)
     → Gives old new line → ws ≡ texts (words_in line.content) → run (text_rules statement end) old.number before old.lines ≡ total → first_broken (statement before ws) ≡ Some why
     → total ≡ Err (record { line = line.number; why = why })
 stops_here statement end before old new line ws total why g is so_far broken =

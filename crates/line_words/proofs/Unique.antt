@@ -45,10 +45,10 @@ ranked_at-rank (Limit Terms) = refl
 ranked_at-rank WrongBinding = refl
 ranked_at-rank NotInOrder = refl
 
-pub rank-injective : (v w : Why) → rank v ≡ rank w → v ≡ w
-rank-injective v w e = some_is v w (sym (ranked_at-rank v) ∙ ap ranked_at e ∙ ranked_at-rank w)
+pub rank_injective : (v w : Why) → rank v ≡ rank w → v ≡ w
+rank_injective v w e = some_is v w (sym (ranked_at-rank v) ∙ ap ranked_at e ∙ ranked_at-rank w)
 
--- the least refusal is one
+-- A law for callers: the least refusal is one.
 pub IsLeast-one : (rules : Rules) (lines : List (List ℕ)) (m n : ℕ) (v w : Why) → IsLeast rules lines m v → IsLeast rules lines n w → (m ≡ n) × (v ≡ w)
 IsLeast-one rules lines m n v w a b =
     elim (a.least n w b.holds) [
@@ -58,6 +58,6 @@ IsLeast-one rules lines m n v w a b =
       ]
       | inr same ↦ elim (b.least m v a.holds) [
         | inl after ↦ absurd (omega (arith, after, same.0))
-        | inr again ↦ (same.0, rank-injective v w (omega (arith, same.1, again.1)))
+        | inr again ↦ (same.0, rank_injective v w (omega (arith, same.1, again.1)))
       ]
     ]

@@ -5,8 +5,8 @@ use Rattle.line_words.specs.declared.numbers.NumberFault.{NumberFault}
 use Rattle.line_words.specs.declared.numbers.NumberFault.TheVariants.{BadNumber, TooBig}
 
 -- a minus stands in front
-abbrev pub is_negative : List ℕ → Bool
-is_negative word = slice_index word 0 == minus
+abbrev pub has_minus : List ℕ → Bool
+has_minus word = slice_index word 0 == minus
 
 -- a word without its sign
 abbrev pub without_sign : List ℕ → List ℕ
@@ -31,5 +31,5 @@ signed negative n = if negative then neg_ℤ (pos n) else pos n
 -- the value of a decimal in units, below 10 ^ 15 of either sign
 unfoldable pub decimal_of : List ℕ → Result ℤ NumberFault
 decimal_of word = if is_numeral (without_sign word)
-    then (if nat_lt (units (scan_numeral (without_sign word))) (10 ^ 27) then Ok (signed (is_negative word) (units (scan_numeral (without_sign word)))) else Err TooBig)
+    then (if nat_lt (units (scan_numeral (without_sign word))) (10 ^ 27) then Ok (signed (has_minus word) (units (scan_numeral (without_sign word)))) else Err TooBig)
     else Err BadNumber

@@ -11,24 +11,24 @@ use Rattle.line_words.specs.declared.refusals.ReadFault.{ReadFault}
 use Rattle.line_words.specs.declared.refusals.ReadFault.TheVariants as faults
 
 -- the number of a refusal
-abbrev pub number_of : Why → ℕ
-number_of BadByte = 1
-number_of LongLine = 2
-number_of NoHeader = 3
-number_of BadStatement = 4
-number_of BadNumber = 5
-number_of UnknownName = 6
-number_of RepeatedName = 7
-number_of SelfLink = 8
-number_of Unclosed = 9
-number_of StrayClose = 10
-number_of NoRow = 11
-number_of NotWhole = 12
-number_of TooBig = 13
-number_of Cyclic = 14
-number_of (Limit what) = 15
-number_of WrongBinding = 16
-number_of NotInOrder = 17
+abbrev pub refusal_number : Why → ℕ
+refusal_number BadByte = 1
+refusal_number LongLine = 2
+refusal_number NoHeader = 3
+refusal_number BadStatement = 4
+refusal_number BadNumber = 5
+refusal_number UnknownName = 6
+refusal_number RepeatedName = 7
+refusal_number SelfLink = 8
+refusal_number Unclosed = 9
+refusal_number StrayClose = 10
+refusal_number NoRow = 11
+refusal_number NotWhole = 12
+refusal_number TooBig = 13
+refusal_number Cyclic = 14
+refusal_number (Limit what) = 15
+refusal_number WrongBinding = 16
+refusal_number NotInOrder = 17
 
 -- the order of the limits at one line: the length of a name first
 abbrev pub what_place : What → ℕ
@@ -54,7 +54,7 @@ places = 1000
 
 -- refusals in their order: by their number, and limits among each other by their place
 abbrev pub rank : Why → ℕ
-rank why = places * number_of why + place_of why
+rank why = places * refusal_number why + place_of why
 
 -- the name of a refusal
 abbrev pub name_of : Why → List ℕ

@@ -13,9 +13,9 @@ abbrev pub Test : Type 0
 Test = Why × Bool
 
 -- one of the rules is broken and refuses for this
-abbrev pub Breaks : List Test → Why → Type 0
-Breaks [] why = ⊥
-Breaks (t ∷ ts) why = ((t.0 ≡ why) × (t.1 ≡ true)) ⊎ Breaks ts why
+abbrev pub BreaksTests : List Test → Why → Type 0
+BreaksTests [] why = ⊥
+BreaksTests (t ∷ ts) why = ((t.0 ≡ why) × (t.1 ≡ true)) ⊎ BreaksTests ts why
 
 -- the first rule that is broken
 abbrev pub first_broken : List Test → Option Why
@@ -76,12 +76,12 @@ pub record BreaksLine (rules : Rules) (lines : List (List ℕ)) (number : ℕ) (
   pub place : ℕ
   pub number_is : number ≡ place + 1
   pub within : place < length lines
-  pub broken : Breaks (tests_at rules lines place) why
+  pub broken : BreaksTests (tests_at rules lines place) why
 
 -- a rule is broken at the end line, past the last line
 pub record BreaksEnd (rules : Rules) (lines : List (List ℕ)) (number : ℕ) (why : Why) : Type 0 where
   pub number_is : number ≡ length lines + 1
-  pub broken : Breaks (rules.end (statements rules lines)) why
+  pub broken : BreaksTests (rules.end (statements rules lines)) why
 
 -- a rule is broken at the line with this number
 abbrev pub Holds : Rules → List (List ℕ) → ℕ → Why → Type 0

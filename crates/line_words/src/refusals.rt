@@ -1,5 +1,5 @@
 ghost use Rattle.std.specs.Prelude.{◌≡◌};
-ghost use Rattle.line_words.specs.Refused.{number_of, what_place, place_of, rank, name_of, what_name, fault_at};
+ghost use Rattle.line_words.specs.Refused.{refusal_number, what_place, place_of, rank, name_of, what_name, fault_at};
 
 use std::alloc::{AllocError, AllocFailed};
 use thiserror::Error;
@@ -92,7 +92,7 @@ impl Why {
 
     /// The number under which the refusal is said, from 1 to 17.
     pub fn number(&self) -> u64
-        ensures { result ≡ number_of self.now }
+        ensures { result ≡ refusal_number self.now }
     {
         match self {
             Why::BadByte => 1,

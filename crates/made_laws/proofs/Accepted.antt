@@ -2,31 +2,19 @@
 use Rattle.std.proofs.Common.{◌≡◌, ℕ, zero, suc, ◌+◌, ◌<◌, ◌≤◌, Bool, true, false, List, [], ◌∷◌, length, refl, sym, ap, ◌∙◌, subst, arith, All, Any, Contains, Option, None, ⊎_elim}
 use Rattle.std.specs.Prelude.{ℤ}
 use Rattle.std.proofs.lemmas.List.Elements.{All-nil, All-cons, All-push, All-contains, All-weaker}
-use Rattle.line_words.specs.declared.refusals.Why.{Why}
-use Rattle.line_words.specs.declared.refusals.Why.TheVariants.{BadStatement, UnknownName, RepeatedName, Cyclic, Limit}
-use Rattle.names.specs.Names.{number_of}
+use Rattle.names.specs.Names.{number_by_name}
 use Rattle.spec_model.specs.Spec.{Name, Choice, name_at}
 use Rattle.arch_reader.specs.declared.statement.KeyAmount.{KeyAmount}
-use Rattle.arch_reader.specs.declared.statement.Statement.{Statement}
 use Rattle.arch_reader.specs.declared.statement.Statement.TheVariants.{Objective, Resource, Link, Traffic, Task, Map, Hops}
 use Rattle.spec_join.specs.Joining.{Joining, message_between}
 use Rattle.spec_join.specs.Effects.{effect, option_between}
-use Rattle.spec_join.specs.Refusals.{IsListedTwice, BreaksPlain}
+use Rattle.spec_join.specs.Refusals.{IsListedTwice}
 use Rattle.spec_join.specs.Stops.{IsAccepted}
 use Rattle.spec_make.specs.Made.{resource_name, task_name, message_name}
 use Rattle.made_laws.proofs.Named.{names_long, name_number, known_name, new_name}
 use Rattle.made_laws.proofs.Forward.{IsForward, closes_none}
 use Rattle.made_laws.proofs.Lines.{receiving, message_of}
 use Rattle.made_laws.proofs.Made.{Made, IsNamedBelow, IsOfTaskBelow, task_number, resource_number}
-
--- a statement that uses no table and is accepted is refused for nothing
-pub plain_none : (s : Joining) (st : Statement) → IsAccepted s st → (why : Why) → BreaksPlain s st why → ⊥
-plain_none s st a BadStatement h = a.good h
-plain_none s st a UnknownName h = a.known h
-plain_none s st a RepeatedName h = a.once h
-plain_none s st a Cyclic h = a.free h
-plain_none s st a (Limit what) h = a.room what h
-plain_none s st a _ h = absurd h
 
 -- ---- what is never refused once it was read
 
@@ -99,7 +87,7 @@ message_forward true r l t m k c i sender s few lt next low h =
     let from = task_number r l t m k c sender s (omega (arith, low, lt)) few h in
     let first = task_number r l t m k c i s lt few h in
     let second = task_number r l t m k c (i + 1) s (next refl) few h in
-    let N : Name → ℕ = number_of s.plan.tasks in
+    let N : Name → ℕ = number_by_name s.plan.tasks in
     let Above : ℕ → Type 0 = λ w. N (task_name sender) < w in
     record {
       rises = All-cons Above (N (task_name i)) (N (task_name (i + 1)) ∷ []) (omega (arith, from, first, low))
@@ -110,7 +98,7 @@ message_forward true r l t m k c i sender s few lt next low h =
 message_forward false r l t m k c i sender s few lt next low h =
     let from = task_number r l t m k c sender s (omega (arith, low, lt)) few h in
     let first = task_number r l t m k c i s lt few h in
-    let N : Name → ℕ = number_of s.plan.tasks in
+    let N : Name → ℕ = number_by_name s.plan.tasks in
     let Above : ℕ → Type 0 = λ w. N (task_name sender) < w in
     record {
       rises = All-cons Above (N (task_name i)) [] (omega (arith, from, first, low)) (All-nil Above);

@@ -12,14 +12,14 @@ use Rattle.arch_reader.specs.declared.statement.Statement.{Statement}
 use Rattle.tgff_reader.specs.Facts.{TgffValue}
 use Rattle.spec_join.specs.Joining.{Joining, start}
 use Rattle.spec_join.specs.Effects.{effect}
-use Rattle.spec_join.specs.Refusals.{Breaks}
+use Rattle.spec_join.specs.Refusals.{StatementBreaks}
 use Rattle.spec_join.specs.Reading.{NoneBreaks, after_all, statement_at}
 use Rattle.made_laws.specs.Reading.{numbered}
 
 -- a line has a form, and its statement isn't refused
 pub record Joins (s : Joining) (ws : Words) (st : Statement) : Type 0 where
   pub form : form_of ws ≡ Some (plain st)
-  pub none : (why : Why) → Breaks s st why → ⊥
+  pub none : (why : Why) → StatementBreaks s st why → ⊥
 
 -- all lines do, and what they make is as it should be
 abbrev pub Carries : Joining → List Words → (Joining → Type 0) → Type 0
@@ -41,9 +41,9 @@ stated_cons s number ws ls st h = ap (λ (f : Option Form). statements_in (line_
 
 -- none of the statements is refused, after those before it
 abbrev pub NoneOf : Joining → List Statement → Type 0
-NoneOf s sts = (k : ℕ) (why : Why) → k < length sts → Breaks (fold effect s (take k sts)) (statement_at sts k) why → ⊥
+NoneOf s sts = (k : ℕ) (why : Why) → k < length sts → StatementBreaks (fold effect s (take k sts)) (statement_at sts k) why → ⊥
 
-none_cons : (s : Joining) (st : Statement) (sts : List Statement) → ((why : Why) → Breaks s st why → ⊥) → NoneOf (effect s st) sts → NoneOf s (st ∷ sts)
+none_cons : (s : Joining) (st : Statement) (sts : List Statement) → ((why : Why) → StatementBreaks s st why → ⊥) → NoneOf (effect s st) sts → NoneOf s (st ∷ sts)
 none_cons s st sts here later zero why lt h = here why h
 none_cons s st sts here later (suc k) why lt h = later k why (omega (arith, lt)) h
 

@@ -5,10 +5,11 @@ use Rattle.std.specs.List.{range_with_len, enumerate_from}
 use Rattle.std.proofs.lemmas.Bool.{and_parts, ltb-true}
 use Rattle.std.proofs.Math.Nat.{mod-lt}
 use Rattle.line_words.specs.Rules.{Words}
-use Rattle.genotype.specs.Draws.{below as draw}
+use Rattle.genotype.specs.Draws.{draw}
 use Rattle.arch_reader.specs.declared.statement.Statement.TheVariants.{Hops, Task}
 use Rattle.spec_join.specs.Joining.{Joining}
 use Rattle.spec_join.specs.Effects.{effect}
+use Rattle.spec_join.proofs.Breaking.{none_plain}
 use Rattle.spec_make.specs.Streams.{Stream, later, taking}
 use Rattle.spec_make.specs.Mesh.{resources_of, tasks_of, has_message, goes_to_two, messages_of}
 use Rattle.spec_make.specs.Made.{resource_name, link_name, task_name, resource_lines, traffic_words, task_words, task_lines, message_lines, option_words, map_lines}
@@ -16,7 +17,7 @@ use Rattle.made_laws.specs.Unbroken.{AreOf32Bits}
 use Rattle.made_laws.proofs.Lines.{amount, weight, resource_of, resource_formed, link_between, link_of, link_formed, traffic_of, traffic_formed, hops_formed, task_formed, message_of, message_formed, receiving, option_of, option_formed}
 use Rattle.made_laws.proofs.Parts.{later_words, drawn}
 use Rattle.made_laws.proofs.Made.{Made, resource_made, link_made, traffic_made, hops_made, task_made, none_sent, message_made, option_made}
-use Rattle.made_laws.proofs.Accepted.{plain_none, resource_fine, link_fine, traffic_fine, hops_fine, task_fine, message_forward, message_fine, IsOther, free_before, free_after, option_fine}
+use Rattle.made_laws.proofs.Accepted.{resource_fine, link_fine, traffic_fine, hops_fine, task_fine, message_forward, message_fine, IsOther, free_before, free_after, option_fine}
 use Rattle.made_laws.proofs.Carried.{Joins, Carries, carries_on}
 
 -- ---- resources
@@ -29,7 +30,7 @@ resources_carry words i (suc n) r e h s made =
     let low = drawn words 90 0 h (omega arith) in
     let st = resource_of i cost in (
       st,
-      record { form = resource_formed i cost (omega (arith, low)); none = plain_none s st (resource_fine s (resource_name i) (weight (codes "cost") cost ∷ [])) },
+      record { form = resource_formed i cost (omega (arith, low)); none = none_plain s st (resource_fine s (resource_name i) (weight (codes "cost") cost ∷ [])) },
       resources_carry (later 1 words) (i + 1) n r (omega (arith, e)) (later_words 1 words h) (effect s st) (resource_made i 0 0 0 0 0 s (weight (codes "cost") cost ∷ []) made),
     )
 
@@ -46,10 +47,10 @@ link_carries r words e a b h s made =
     let traffic = traffic_of e in
     let linked = link_made r e 0 0 0 0 s (link_name e) (resource_name a) (resource_name b) weights made in (
       link,
-      record { form = link_formed e a b cost (omega (arith, low)); none = plain_none s link (link_fine s (link_name e) (resource_name a) (resource_name b) true weights) },
+      record { form = link_formed e a b cost (omega (arith, low)); none = none_plain s link (link_fine s (link_name e) (resource_name a) (resource_name b) true weights) },
       (
         traffic,
-        record { form = traffic_formed e; none = plain_none (effect s link) traffic (traffic_fine (effect s link) (link_name e) (weight (codes "energy") 1 ∷ [])) },
+        record { form = traffic_formed e; none = none_plain (effect s link) traffic (traffic_fine (effect s link) (link_name e) (weight (codes "energy") 1 ∷ [])) },
         traffic_made r (e + 1) 0 0 0 0 (effect s link) e linked,
       ),
     )
@@ -75,7 +76,7 @@ some_tasks_carry r l i zero t e few s made = let same : i ≡ t = omega (arith, 
 some_tasks_carry r l i (suc n) t e few s made =
     let st = Task (task_name i) in (
       st,
-      record { form = task_formed i; none = plain_none s st (task_fine r l i 0 0 0 s (omega (arith, e, few)) made) },
+      record { form = task_formed i; none = none_plain s st (task_fine r l i 0 0 0 s (omega (arith, e, few)) made) },
       some_tasks_carry r l (i + 1) n t (omega (arith, e)) few (effect s st) (task_made r l i 0 0 0 s made),
     )
 
@@ -83,7 +84,7 @@ pub tasks_carry : (r l side : ℕ) → side ≤ 5 → tasks_of side ≤ 100 → 
 tasks_carry r l side few tasks s made =
     let st = Hops None (2 * side) in (
       st,
-      record { form = hops_formed (2 * side) (omega (arith, few)); none = plain_none s st (hops_fine s (2 * side)) },
+      record { form = hops_formed (2 * side) (omega (arith, few)); none = none_plain s st (hops_fine s (2 * side)) },
       some_tasks_carry r l 0 (tasks_of side) (tasks_of side) (omega arith) tasks (effect s st) (hops_made r l 0 0 0 0 s (2 * side) made),
     )
 
@@ -105,7 +106,7 @@ message_carries r l t words i xs true lt few some h more s made =
     let st = message_of two i sender in
     let forward = message_forward two r l t i 0 0 i sender s few lt (two_within t i) low made in (
       st,
-      record { form = message_formed two i sender; none = plain_none s st (message_fine two r l t 0 0 i sender s few lt (two_within t i) low made) },
+      record { form = message_formed two i sender; none = none_plain s st (message_fine two r l t 0 0 i sender s few lt (two_within t i) low made) },
       more (later 1 words) (later_words 1 words h) (effect s st) (message_made r l t i 0 0 s (task_name sender) (receiving two i) forward made),
     )
 
@@ -187,7 +188,7 @@ one_joins r l t m k c q x words i s h lt few on some room made free =
     let low = drawn words 50 (i + 1) h (omega arith) in
     record {
       form = option_formed q x time energy (omega (arith, short)) (omega (arith, low));
-      none = plain_none s (option_of q x time energy) (option_fine r l t m k c q x s (Some (amount time)) (weight (codes "energy") energy ∷ []) lt few on some room made free);
+      none = none_plain s (option_of q x time energy) (option_fine r l t m k c q x s (Some (amount time)) (weight (codes "energy") energy ∷ []) lt few on some room made free);
     }
 
 -- the options of one task

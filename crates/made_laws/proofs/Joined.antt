@@ -13,12 +13,13 @@ use Rattle.line_words.specs.declared.refusals.ReadFault.TheVariants.{Refused, No
 use Rattle.spec_model.specs.Spec.{SpecValue, below}
 use Rattle.arch_reader.specs.Shapes.{form_of, keyword_of, objective_form, settings_of, plain}
 use Rattle.arch_reader.specs.Seen.{seen}
-use Rattle.arch_reader.specs.Arch.{ArchValue, arch_rules, lines_in, stated, lines_of, statements_in}
-use Rattle.tgff_reader.specs.Tgff.{tgff_rules, stated as graphs_stated}
+use Rattle.arch_reader.specs.Arch.{ArchValue, arch_rules, lines_in, arch_stated, lines_of, statements_in}
+use Rattle.tgff_reader.specs.Tgff.{tgff_rules, graphs_stated}
 use Rattle.arch_reader.specs.declared.seen.Seen.{Seen}
 use Rattle.arch_reader.specs.declared.statement.Statement.TheVariants.{Objective}
 use Rattle.spec_join.specs.Joining.{Joining, start}
 use Rattle.spec_join.specs.Reading.{after_all, JoinReads}
+use Rattle.spec_join.proofs.Breaking.{none_plain}
 use Rattle.spec_make.specs.Streams.{Stream, later, taking}
 use Rattle.spec_make.specs.Mesh.{side_of, resources_of, tasks_of, all_ends, messages_of}
 use Rattle.spec_make.specs.Made.{resource_lines, link_lines, task_lines, message_lines, map_lines, words_of_seed, made_text}
@@ -32,7 +33,7 @@ use Rattle.made_laws.proofs.Whole.{IsMesh, mesh, parts_of, nothing, later_lines,
 use Rattle.made_laws.proofs.Numbers.{words_small, some_side, few_side, made_read}
 use Rattle.made_laws.proofs.Forward.{IsForward}
 use Rattle.made_laws.proofs.Made.{Made, IsLow, IsNamedBelow, IsOfTaskBelow}
-use Rattle.made_laws.proofs.Accepted.{plain_none, objective_fine}
+use Rattle.made_laws.proofs.Accepted.{objective_fine}
 use Rattle.made_laws.proofs.Carried.{Carries, carries_on, none_of, at_last, none_in_file, made_of_file}
 use Rattle.made_laws.proofs.Carrying.{resources_carry, link_carries, links_carry, tasks_carry, messages_carry, options_carry}
 use Rattle.made_laws.proofs.Ended.{none_at_end}
@@ -103,8 +104,8 @@ lines_accepted side words some few h =
     let energy = Objective (codes "energy") None false in
     let carried : Carries s (later_lines side words) (MadeAll side) = (
       cost,
-      record { form = cost_formed; none = plain_none s cost (objective_fine s (codes "cost") None false) },
-      (energy, record { form = energy_formed; none = plain_none s energy (objective_fine s (codes "energy") None false) }, parts_carry side words some few m h s made),
+      record { form = cost_formed; none = none_plain s cost (objective_fine s (codes "cost") None false) },
+      (energy, record { form = energy_formed; none = none_plain s energy (objective_fine s (codes "energy") None false) }, parts_carry side words some few m h s made),
     ) in
     let few_messages : tasks_of side ≤ 50 = omega (arith, m.few_tasks) in
     let few_options : 3 * tasks_of side ≤ 150 = omega (arith, m.few_tasks) in
@@ -120,7 +121,7 @@ made_accepted number =
     let side = side_of number in
     let words = words_of_seed number in
     let read = made_read number in
-    let same : made_statements number ≡ lines_of (numbered 2 (later_lines side words)) = ap stated read.stated in
+    let same : made_statements number ≡ lines_of (numbered 2 (later_lines side words)) = ap arch_stated read.stated in
     subst (AreAccepted no_graphs) (sym same) (lines_accepted side words (some_side number) (few_side number) (words_small number))
 
 -- ---- what reading and joining answer
@@ -129,7 +130,7 @@ pub no_bytes : NoBytesAreNoGraphs
 no_bytes tgff reads = reads.1 ∙ ap (λ (ls : List (List ℕ)). graphs_stated (statements tgff_rules ls)) lines-nil
 
 not_refused : (number : ℕ) (reading : Result ArchValue ReadFault) → HasNoFault arch_rules (lines (made_text number))
-    → Reads files.Arch arch_rules lines_in stated (lines (made_text number)) reading
+    → Reads files.Arch arch_rules lines_in arch_stated (lines (made_text number)) reading
     → IsNoRefusal reading
 not_refused number (Ok file) whole reads = tt
 not_refused number (Err NoMemory) whole reads = tt

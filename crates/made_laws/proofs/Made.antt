@@ -4,12 +4,13 @@ use Rattle.std.specs.Prelude.{ℤ, codes, slice_index_or}
 use Rattle.std.proofs.lemmas.Bool.{cases_lt, ltb-false}
 use Rattle.std.proofs.lemmas.List.{length-append, length-map, length_push, get_or_past}
 use Rattle.std.proofs.lemmas.List.Elements.{All-nil, All-push, All-map, All-set, All-replicate, All-weaker}
-use Rattle.names.specs.Names.{number_of}
+use Rattle.names.specs.Names.{number_by_name}
 use Rattle.spec_model.specs.Spec.{Name, Message as MessageValue, Arc, Choice}
+use Rattle.spec_model.specs.Limits.{most_number}
 use Rattle.spec_graph.specs.Plan.{arcs_of_link}
 use Rattle.spec_graph.specs.Changes.{changed, with_weight}
 use Rattle.spec_graph.specs.declared.messages.Change.TheVariants as changes
-use Rattle.arch_reader.specs.Numbers.{at_scale, greatest}
+use Rattle.arch_reader.specs.Numbers.{at_scale}
 use Rattle.arch_reader.specs.declared.statement.KeyAmount.{KeyAmount}
 use Rattle.arch_reader.specs.declared.statement.Statement.TheVariants.{Resource, Link, Task, Message, Map, Hops}
 use Rattle.spec_join.specs.Joining.{Joining, weight_of, no_weights, message_between}
@@ -77,7 +78,7 @@ resource_made r l t m k c s ws h = record {
 
 pub link_made : (r l t m k c : ℕ) (s : Joining) (name a b : Name) (ws : List KeyAmount) → Made r l t m k c s → Made r (l + 1) t m k c (effect s (Link name a b true ws))
 link_made r l t m k c s name a b ws h =
-    let both = arcs_of_link (length s.plan.links) (number_of s.plan.resources a) (number_of s.plan.resources b) true in
+    let both = arcs_of_link (length s.plan.links) (number_by_name s.plan.resources a) (number_by_name s.plan.resources b) true in
     let two : length both ≡ 2 = refl in
     record {
       scales = h.scales;
@@ -103,7 +104,7 @@ low_set : (rows : List (List ℕ)) (i j w : ℕ) → All IsLow rows → w ≤ 2 
 low_set rows i j w h low = All-set IsLow rows i _ (All-set (λ x. x ≤ 2 ^ 40) (slice_index_or rows i []) j w low (low_row rows i h)) h
 
 low_one : at_scale 0 (amount 1) ≤ 2 ^ 40
-low_one = ltb-false greatest (at_scale 0 (amount 1)) (number 1 (omega arith)).low
+low_one = ltb-false most_number (at_scale 0 (amount 1)) (number 1 (omega arith)).low
 
 scaled_one : (j : ℕ) → weight_of (0 ∷ 0 ∷ []) j (amount 1) ≤ 2 ^ 40
 scaled_one zero = low_one
@@ -112,7 +113,7 @@ scaled_one (suc (suc j)) = low_one
 
 pub traffic_made : (r l t m k c : ℕ) (s : Joining) (e : ℕ) → Made r l t m k c s → Made r l t m k c (effect s (traffic_of e))
 traffic_made r l t m k c s e h =
-    let j = number_of s.plan.objectives (codes "energy") in
+    let j = number_by_name s.plan.objectives (codes "energy") in
     let low : weight_of s.scales j (amount 1) ≤ 2 ^ 40 = subst (λ (zs : List ℕ). weight_of zs j (amount 1) ≤ 2 ^ 40) (sym h.scales) (scaled_one j) in
     record {
       scales = h.scales;
@@ -181,11 +182,11 @@ message_made r l t m k c s sender to f h = record {
 
 -- ---- options
 
-pub task_number : (r l t m k c i : ℕ) (s : Joining) → i < t → t ≤ 100 → Made r l t m k c s → number_of s.plan.tasks (task_name i) ≡ i
-task_number r l t m k c i s lt few h = ap (λ (xs : List Name). number_of xs (task_name i)) h.tasks ∙ number_of_name 116 t i lt few
+pub task_number : (r l t m k c i : ℕ) (s : Joining) → i < t → t ≤ 100 → Made r l t m k c s → number_by_name s.plan.tasks (task_name i) ≡ i
+task_number r l t m k c i s lt few h = ap (λ (xs : List Name). number_by_name xs (task_name i)) h.tasks ∙ number_of_name 116 t i lt few
 
-pub resource_number : (r l t m k c i : ℕ) (s : Joining) → i < r → r ≤ 100 → Made r l t m k c s → number_of s.plan.resources (resource_name i) ≡ i
-resource_number r l t m k c i s lt few h = ap (λ (xs : List Name). number_of xs (resource_name i)) h.mesh.named ∙ number_of_name 114 r i lt few
+pub resource_number : (r l t m k c i : ℕ) (s : Joining) → i < r → r ≤ 100 → Made r l t m k c s → number_by_name s.plan.resources (resource_name i) ≡ i
+resource_number r l t m k c i s lt few h = ap (λ (xs : List Name). number_by_name xs (resource_name i)) h.mesh.named ∙ number_of_name 114 r i lt few
 
 pub option_made : (r l t m k c i : ℕ) (s : Joining) (resource : Name) (time : Option ℤ) (ws : List KeyAmount) → i < t → t ≤ 100 → k ≤ i + 1 → Made r l t m k c s
     → Made r l t m (i + 1) (c + 1) (effect s (Map (task_name i) resource time ws))

@@ -5,8 +5,9 @@ use Rattle.std.proofs.lemmas.Slice.Eq.{bytes_eq-Decides}
 use Rattle.std.proofs.lemmas.Bool.{false_from_ne_true}
 use Rattle.std.proofs.lemmas.List.FromFn.{get_or-map-range_with_len, length-map-range_with_len, map-range_with_len_more}
 use Rattle.std.proofs.lemmas.List.Sums.{prefix_len_is}
+use Rattle.std.proofs.Math.Nat.{zero-add}
 use Rattle.file_bricks.proofs.Written.{whole_of-decimal}
-use Rattle.names.specs.Names.{number_of}
+use Rattle.names.specs.Names.{number_by_name}
 use Rattle.spec_model.specs.Spec.{Name, below}
 use Rattle.spec_make.specs.Made.{name}
 
@@ -18,17 +19,14 @@ name_number letter a b la lb e = cc (whole_of-decimal a la, whole_of-decimal b l
 abbrev pub names : ℕ → ℕ → List Name
 names letter n = map (name letter) (below n)
 
-zero_more : (n : ℕ) → 0 + n ≡ n
-zero_more n = omega arith
-
 pub names_more : (letter n : ℕ) → names letter n ++ name letter n ∷ [] ≡ names letter (n + 1)
-names_more letter n = sym (map-range_with_len_more (name letter) 0 n n (zero_more n))
+names_more letter n = sym (map-range_with_len_more (name letter) 0 n n (zero-add n))
 
 pub names_long : (letter n : ℕ) → length (names letter n) ≡ n
 names_long letter n = length-map-range_with_len (name letter) 0 n
 
 name_at : (letter n i : ℕ) (d : Name) → i < n → get_or (names letter n) i d ≡ name letter i
-name_at letter n i d lt = get_or-map-range_with_len (name letter) 0 n i i d lt (zero_more i)
+name_at letter n i d lt = get_or-map-range_with_len (name letter) 0 n i i d lt (zero-add i)
 
 pub known_name : (letter n i : ℕ) → i < n → Contains (names letter n) (name letter i)
 known_name letter n i lt = let long = names_long letter n in (i, omega (arith, long, lt), name_at letter n i (name letter i) lt)
@@ -39,7 +37,7 @@ new_name letter n few there =
     let same = name_number letter there.0 n (omega (arith, lt, few)) (omega (arith, few)) (sym (name_at letter n there.0 (name letter n) lt) ∙ there.2) in
     omega (arith, lt, same)
 
-pub number_of_name : (letter n i : ℕ) → i < n → n ≤ 100 → number_of (names letter n) (name letter i) ≡ i
+pub number_of_name : (letter n i : ℕ) → i < n → n ≤ 100 → number_by_name (names letter n) (name letter i) ≡ i
 number_of_name letter n i lt few =
     prefix_len_is (λ (x : Name). not (bytes_eq (name letter i) x)) (names letter n) i [] (omega (arith, names_long letter n, lt)) before here
   where

@@ -3,14 +3,14 @@ use Rattle.std.proofs.Common.{◌≡◌, ℕ, ◌+◌, ◌<◌, Bool, true, fals
 use Rattle.std.specs.Prelude.{nat_le, decimal, codes}
 use Rattle.std.specs.List.{list_all}
 use Rattle.std.specs.Fmt.{digits}
-use Rattle.std.proofs.lemmas.Bool.{and_parts}
+use Rattle.std.proofs.lemmas.Bool.{and_parts, not-true}
 use Rattle.std.proofs.lemmas.List.FromFn.{map-range_with_len_more}
 use Rattle.spec_model.specs.Spec.{below}
 use Rattle.arch_reader.specs.Words.{is_arrow}
 use Rattle.arch_reader.specs.Tests.{is_declared, is_long_name}
 use Rattle.spec_make.specs.Made.{resource_name, link_name, task_name, message_name, setting}
 use Rattle.made_laws.proofs.Short.{is_short_word}
-use Rattle.made_laws.proofs.Small.{passed, not_true}
+use Rattle.made_laws.proofs.Small.{passed}
 
 -- ---- words
 
@@ -82,7 +82,7 @@ good : (w : List ℕ) → is_good_name w ≡ true → IsGood w
 good w h =
     let parts = and_parts (is_short_word w) (not (is_arrow w) && not (is_long_name w)) h in
     let more = and_parts (not (is_arrow w)) (not (is_long_name w)) parts.1 in
-    record { short = parts.0; no_arrow = not_true (is_arrow w) more.0; few = not_true (is_long_name w) more.1 }
+    record { short = parts.0; no_arrow = not-true (is_arrow w) more.0; few = not-true (is_long_name w) more.1 }
 
 pub good_resource : (n : ℕ) → n < 100 → IsGood (resource_name n)
 good_resource n lt = good (resource_name n) (passed (λ k. is_good_name (resource_name k)) 100 n resources_good lt)
@@ -149,7 +149,7 @@ pub record IsNew (names : List (List ℕ)) (most : ℕ) (w : List ℕ) : Type 0 
 new : (names : List (List ℕ)) (most : ℕ) (w : List ℕ) → (not (is_declared names w) && not (nat_le most (length names))) ≡ true → IsNew names most w
 new names most w h =
     let parts = and_parts (not (is_declared names w)) (not (nat_le most (length names))) h in
-    record { undeclared = not_true (is_declared names w) parts.0; few = not_true (nat_le most (length names)) parts.1 }
+    record { undeclared = not-true (is_declared names w) parts.0; few = not-true (nat_le most (length names)) parts.1 }
 
 pub new_resource : (n : ℕ) → n < 25 → IsNew (resources n) 256 (resource_name n)
 new_resource n lt = new (resources n) 256 (resource_name n) (passed is_new_resource 25 n resources_new lt)

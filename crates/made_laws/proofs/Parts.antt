@@ -5,7 +5,7 @@ use Rattle.std.specs.List.{list_all, range_with_len, enumerate_from}
 use Rattle.std.proofs.lemmas.Bool.{and_parts, ltb-true}
 use Rattle.std.proofs.Math.Nat.{div-lt_iff_lt-mul, mod-lt}
 use Rattle.line_words.specs.Rules.{Words}
-use Rattle.genotype.specs.Draws.{below as draw}
+use Rattle.genotype.specs.Draws.{draw}
 use Rattle.spec_make.specs.Streams.{Stream, later, taking}
 use Rattle.spec_make.specs.Mesh.{resources_of, goes_to_two}
 use Rattle.spec_make.specs.Made.{resource_lines, task_words, message_lines, map_lines, option_words}
@@ -70,7 +70,8 @@ tasks_go r l i (suc n) few = (having r l false, task_step r l i (omega (arith, f
 abbrev pub may_receive : ℕ → Bool
 may_receive i = nat_lt 0 i && nat_lt i 50
 
-pub messages_go : (r l tasks : ℕ) (words : Stream) (xs : List ℕ) → AreOf32Bits words → list_all may_receive xs ≡ true → Goes (having r l false) (taking 1 (message_lines tasks) words xs) (having r l false)
+pub messages_go : (r l tasks : ℕ) (words : Stream) (xs : List ℕ) → AreOf32Bits words → list_all may_receive xs ≡ true
+    → Goes (having r l false) (taking 1 (message_lines tasks) words xs) (having r l false)
 messages_go r l tasks words [] h all = refl
 messages_go r l tasks words (i ∷ xs) h all =
     let parts = and_parts (may_receive i) (list_all may_receive xs) all in

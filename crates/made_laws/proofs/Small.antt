@@ -4,7 +4,7 @@ use Rattle.std.specs.Prelude.{ℤ, pos, nat_lt, decimal, Result}
 use Rattle.std.specs.List.{list_all}
 use Rattle.std.specs.Fmt.{digits}
 use Rattle.std.specs.Float.Numeral.{scan_numeral}
-use Rattle.std.proofs.lemmas.Bool.{and_parts}
+use Rattle.std.proofs.lemmas.Bool.{and_parts, not-true}
 use Rattle.std.proofs.lemmas.List.FromFn.{get_or-range_with_len, length-range_with_len}
 use Rattle.spec_model.specs.Spec.{below}
 use Rattle.line_words.specs.Decimal.{decimal_of}
@@ -50,15 +50,11 @@ pub record IsNumber (r : Result ℤ NumberFault) : Type 0 where
   pub whole : nat_lt 0 (fraction_at 0 (read_or (pos 0) r)) ≡ false
   pub low : is_above 0 (read_or (pos 0) r) ≡ false
 
-pub not_true : (b : Bool) → not b ≡ true → b ≡ false
-not_true true h = sym h
-not_true false h = refl
-
 number_of : (r : Result ℤ NumberFault) → fits r ≡ true → IsNumber r
 number_of (Ok v) h =
     let parts = and_parts (not (is_negative v)) (not (nat_lt 0 (fraction_at 0 v)) && not (is_above 0 v)) h in
     let more = and_parts (not (nat_lt 0 (fraction_at 0 v))) (not (is_above 0 v)) parts.1 in
-    record { read = refl; positive = not_true _ parts.0; whole = not_true _ more.0; low = not_true _ more.1 }
+    record { read = refl; positive = not-true _ parts.0; whole = not-true _ more.0; low = not-true _ more.1 }
 number_of (Err f) h = absurd (true≢false (sym h))
 
 pub number : (n : ℕ) → n < 100 → IsNumber (decimal_of (decimal n))

@@ -9,7 +9,7 @@ use Rattle.line_words.specs.Run.{run}
 use Rattle.line_words.proofs.FirstLine.{lines-nil}
 use Rattle.line_words.proofs.Least.{Outcome, run-nil, run_is}
 use Rattle.file_bricks.specs.Words.{IsWord}
-use Rattle.file_bricks.proofs.Written.{IsWordByte, IsWritten, IsLine as IsPlain, States, word_line, line_parts, first_word, last_word, lines-line, line_states, goes_on}
+use Rattle.file_bricks.proofs.Written.{IsWordByte, IsWritten, IsLine as IsPlain, States, word_line, line_parts, first_word, last_word, lines_line, line_states, goes_on}
 use Rattle.spelled_lines.specs.Lines.{spelled}
 use Rattle.made_laws.specs.Reading.{AreWords, MakeLine, numbered, BreakNone, SpelledIsRead}
 
@@ -66,7 +66,7 @@ lines_read statement end number before ((w ∷ ws) ∷ ls) fine ended =
     let again = append_assoc before (s ∷ []) (numbered (number + 1) ls) in
     let ended_again : first_broken (end (before ++ s ∷ [] ++ numbered (number + 1) ls)) ≡ None = subst (λ bs. first_broken (end bs) ≡ None) (sym again) ended in
     ap (λ t. run (text_rules statement end) number before (lines t)) (line_first (w ∷ ws) rest)
-    ∙ ap (run (text_rules statement end) number before) (lines-line line rest (joined_plain w ws fine.0.first fine.0.others))
+    ∙ ap (run (text_rules statement end) number before) (lines_line line rest (joined_plain w ws fine.0.first fine.0.others))
     ∙ goes_on statement end number before line (lines rest) (w ∷ ws) (joined_states w ws fine.0) fine.1.0
     ∙ lines_read statement end (number + 1) (before ++ s ∷ []) ls fine.1.1 ended_again
     ∙ ap (λ bs. Ok bs) again

@@ -4,12 +4,13 @@ use Rattle.std.specs.Prelude.{nat_lt, nat_le, codes}
 use Rattle.std.specs.List.{list_all, enumerate_from, flat_map}
 use Rattle.std.specs.Fmt.{digits}
 use Rattle.std.specs.Str.{bytes_eq}
-use Rattle.std.proofs.lemmas.Bool.{and_parts, ltb-true, leb-true}
+use Rattle.std.proofs.lemmas.Bool.{and_parts, ltb-true, leb-true, not-true}
+use Rattle.std.proofs.Math.Nat.{zero-add}
 use Rattle.line_words.specs.Limits.{most_file_bytes}
 use Rattle.line_words.specs.Rules.{Words}
 use Rattle.spelled_lines.specs.Lines.{spelled}
 use Rattle.file_bricks.specs.Headed.{after_header, end_after_header}
-use Rattle.genotype.specs.Draws.{below as draw}
+use Rattle.genotype.specs.Draws.{draw}
 use Rattle.spec_model.specs.Spec.{below}
 use Rattle.arch_reader.specs.Shapes.{form_of, keyword_of, objective_form, settings_of}
 use Rattle.arch_reader.specs.Arch.{is_header, later as later_tests, at_end, arch_rules}
@@ -24,7 +25,6 @@ use Rattle.made_laws.specs.Reading.{BreakNone, IsReadBack}
 use Rattle.made_laws.specs.Unbroken.{AreOf32Bits, arch_tests}
 use Rattle.made_laws.proofs.Spelled.{spelled_is_read}
 use Rattle.made_laws.proofs.Short.{AreShortLines, IsShortLine, line_of_short, text_length}
-use Rattle.made_laws.proofs.Small.{not_true}
 use Rattle.made_laws.proofs.Steps.{Step, Goes, goes_on, one_step, break_none, short_lines}
 use Rattle.made_laws.proofs.Lines.{having, declared, AreJoined, link_between, link_step, traffic_step, hops_step}
 use Rattle.made_laws.proofs.Parts.{later_words, drawn, resources_go, links_go, tasks_go, may_receive, messages_go, options_go}
@@ -44,7 +44,7 @@ joined_of r a b h =
     let one = and_parts (nat_lt r 26) (nat_lt a r && (nat_lt b r && not same)) h in
     let two = and_parts (nat_lt a r) (nat_lt b r && not same) one.1 in
     let three = and_parts (nat_lt b r) (not same) two.1 in
-    record { few = ltb-true r 26 one.0; first = ltb-true a r two.0; second = ltb-true b r three.0; two = not_true same three.1 }
+    record { few = ltb-true r 26 one.0; first = ltb-true a r two.0; second = ltb-true b r three.0; two = not-true same three.1 }
 
 -- what a mesh has
 pub record IsMesh (side : ℕ) : Type 0 where
@@ -97,10 +97,14 @@ energy_step : Step cost_alone (codes "objective" ∷ codes "energy" ∷ []) (hav
 unfolding form_of keyword_of objective_form settings_of tests has_bad_shape has_bad_number has_unknown_name has_repeated_name has_big_number
 energy_step = record { statement = Objective (codes "energy") None false; line = record { words = refl; some = omega arith; few = omega arith }; form = refl; fine = refl; declared = refl }
 
-link_pair : (r : ℕ) (words : Stream) (e a b : ℕ) → AreOf32Bits words → e < 40 → are_joined r a b ≡ true → Goes (having r e false) (link_between e a b (1 + draw words 9 0) ∷ traffic_words e ∷ []) (having r (e + 1) false)
+link_pair : (r : ℕ) (words : Stream) (e a b : ℕ) → AreOf32Bits words → e < 40 → are_joined r a b ≡ true
+    → Goes (having r e false) (link_between e a b (1 + draw words 9 0) ∷ traffic_words e ∷ []) (having r (e + 1) false)
 link_pair r words e a b h few joined =
-    let cost = drawn words 9 0 h (omega arith) in
-    (having r (e + 1) false, link_step r e a b (1 + draw words 9 0) (joined_of r a b joined) few (omega (arith, cost)), one_step (having r (e + 1) false) (having r (e + 1) false) (traffic_words e) (traffic_step r e few))
+    let cost = drawn words 9 0 h (omega arith) in (
+      having r (e + 1) false,
+      link_step r e a b (1 + draw words 9 0) (joined_of r a b joined) few (omega (arith, cost)),
+      one_step (having r (e + 1) false) (having r (e + 1) false) (traffic_words e) (traffic_step r e few),
+    )
 
 -- all parts after the objectives
 abbrev pub parts_of : ℕ → Stream → List Words
@@ -116,25 +120,24 @@ parts_of side words =
     ++ taking 1 (message_lines (tasks_of side)) (later messages_from words) messages
     ++ taking 7 (map_lines side) (later maps_from words) (below (tasks_of side))
 
-zero_more : (n : ℕ) → 0 + n ≡ n
-zero_more n = omega arith
-
-resources_part : (side : ℕ) (words : Stream) → IsMesh side → AreOf32Bits words → Goes (having 0 0 false) (taking 1 resource_lines words (below (resources_of side))) (having (resources_of side) 0 false)
+resources_part : (side : ℕ) (words : Stream) → IsMesh side → AreOf32Bits words → Goes (having 0 0 false) (taking 1 resource_lines words (below (resources_of side)))
+    (having (resources_of side) 0 false)
 resources_part side words m h =
-    subst (λ k. Goes (having 0 0 false) (taking 1 resource_lines words (below (resources_of side))) (having k 0 false)) (zero_more (resources_of side))
+    subst (λ k. Goes (having 0 0 false) (taking 1 resource_lines words (below (resources_of side))) (having k 0 false)) (zero-add (resources_of side))
     (resources_go words 0 (resources_of side) h (omega (arith, m.few_resources)))
 
 links_part : (side : ℕ) (words : Stream) → IsMesh side → AreOf32Bits words
     → Goes (having (resources_of side) 0 false) (taking 1 link_lines words (enumerate_from 0 (all_ends side))) (having (resources_of side) (length (all_ends side)) false)
 links_part side words m h =
     let r = resources_of side in
-    subst (λ k. Goes (having r 0 false) (taking 1 link_lines words (enumerate_from 0 (all_ends side))) (having r k false)) (zero_more (length (all_ends side)))
+    subst (λ k. Goes (having r 0 false) (taking 1 link_lines words (enumerate_from 0 (all_ends side))) (having r k false)) (zero-add (length (all_ends side)))
     (links_go link_lines (λ j. are_joined r j.first j.second) r (λ ws e j so few good. link_pair r ws e j.first j.second so few good) words 0 (all_ends side) h (omega (arith, m.few_links)) m.joined)
 
 tasks_part : (side r l : ℕ) → side ≤ 5 → IsMesh side → Goes (having r l false) (task_lines side) (having r l false)
 tasks_part side r l few m = (having r l false, hops_step r l side few, tasks_go r l 0 (tasks_of side) (omega (arith, m.few_tasks)))
 
-maps_part : (side l : ℕ) (words : Stream) → IsMesh side → AreOf32Bits words → Goes (having (resources_of side) l false) (taking 7 (map_lines side) words (below (tasks_of side))) (having (resources_of side) l true)
+maps_part : (side l : ℕ) (words : Stream) → IsMesh side → AreOf32Bits words → Goes (having (resources_of side) l false) (taking 7 (map_lines side) words (below (tasks_of side)))
+    (having (resources_of side) l true)
 maps_part side l words m h = options_go side l words (tasks_of side) h m.some_resources (omega (arith, m.few_resources)) m.some_tasks (omega (arith, m.few_tasks))
 
 parts_go : (side : ℕ) (words : Stream) → side ≤ 5 → IsMesh side → AreOf32Bits words → Goes (having 0 0 false) (parts_of side words) (having (resources_of side) (length (all_ends side)) true)

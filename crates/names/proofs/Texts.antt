@@ -44,12 +44,15 @@ find_in names name = go (cases_lt n (length names))
     go (inl l) =
         let e : position (bytes_eq name) names ≡ Some n = ap (λ (b : Bool). cond b (Some n) None) (lt-ltb n (length names) l) in
         let p = position-Some (bytes_eq name) names n [] e in
-        subst (λ (r : Option ℕ). MatchOption r (Contains names name → ⊥) (IsNumberOf names name)) (sym e) (record { within = l; same = sym ((bytes_eq-Decides name (get_or names n [])).0 p.1); first = refl })
+        subst (λ (r : Option ℕ). MatchOption r (Contains names name → ⊥) (IsNumberOf names name)) (sym e)
+        (record { within = l; same = sym ((bytes_eq-Decides name (get_or names n [])).0 p.1); first = refl })
     go (inr l) =
         let e : position (bytes_eq name) names ≡ None = ap (λ (b : Bool). cond b (Some n) None) (le-ltb n (length names) l) in
         subst (λ (r : Option ℕ). MatchOption r (Contains names name → ⊥) (IsNumberOf names name)) (sym e) (λ h. not_there h l)
 
-pub find_at : (ks : List Text) (name : List ℕ) (r : Option ℕ) (names : List (List ℕ)) → r ≡ position (test name) ks → map string_bytes ks ≡ names → MatchOption r (Contains names name → ⊥) (IsNumberOf names name)
+-- the place that is found is the number of the name
+pub find_at : (ks : List Text) (name : List ℕ) (r : Option ℕ) (names : List (List ℕ)) → r ≡ position (test name) ks → map string_bytes ks ≡ names
+    → MatchOption r (Contains names name → ⊥) (IsNumberOf names name)
 find_at ks name r names e en =
     let P : List (List ℕ) → Type 0 = λ xs. MatchOption r (Contains xs name → ⊥) (IsNumberOf xs name) in
     let Q : Option ℕ → Type 0 = λ s. MatchOption s (Contains (map string_bytes ks) name → ⊥) (IsNumberOf (map string_bytes ks) name) in
@@ -59,8 +62,12 @@ any_map : (t : Text) (ks : List Text) → list_any (string_eq t) ks ≡ list_any
 any_map t [] = refl
 any_map t (k ∷ ks) = ap (λ (b : Bool). string_eq t k || b) (any_map t ks)
 
-pub add_at : (ks ls : List Text) (t : Text) (name : List ℕ) (names : List (List ℕ)) → ls ≡ (if list_any (string_eq t) ks then ks else ks ++ t ∷ []) → string_bytes t ≡ name → map string_bytes ks ≡ names → (Contains names name → ⊥) → map string_bytes ls ≡ names ++ name ∷ []
-add_at ks ls t name names e et en h = ap (map string_bytes) (e ∙ ap (λ (b : Bool). if b then ks else ks ++ t ∷ []) none) ∙ map-append string_bytes ks (t ∷ []) ∙ ap (λ (xs : List (List ℕ)). xs ++ string_bytes t ∷ []) en ∙ ap (λ (x : List ℕ). names ++ x ∷ []) et
+-- a name that isn't there stands behind the others
+pub add_at : (ks ls : List Text) (t : Text) (name : List ℕ) (names : List (List ℕ)) → ls ≡ (if list_any (string_eq t) ks then ks else ks ++ t ∷ []) → string_bytes t ≡ name
+    → map string_bytes ks ≡ names → (Contains names name → ⊥) → map string_bytes ls ≡ names ++ name ∷ []
+add_at ks ls t name names e et en h =
+    ap (map string_bytes) (e ∙ ap (λ (b : Bool). if b then ks else ks ++ t ∷ []) none) ∙ map-append string_bytes ks (t ∷ []) ∙ ap (λ (xs : List (List ℕ)). xs ++ string_bytes t ∷ []) en
+    ∙ ap (λ (x : List ℕ). names ++ x ∷ []) et
   where
     away : All (λ x. bytes_eq name x ≡ false) names
     away = λ k d l. false_from_ne_true (bytes_eq name (get_or names k d)) (λ y. h (k, l, get_or_default names k name d l ∙ sym ((bytes_eq-Decides name (get_or names k d)).0 y)))

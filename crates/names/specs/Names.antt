@@ -14,11 +14,11 @@ pub record IsName (name : Name) : Type 0 where
   pub bytes : list_all is_name_byte name ≡ true
 
 -- the first place of a name, or the number of names where it isn't there
-abbrev pub number_of : List Name → Name → ℕ
-number_of names name = position_or_len (bytes_eq name) names
+abbrev pub number_by_name : List Name → Name → ℕ
+number_by_name names name = position_or_len (bytes_eq name) names
 
 -- n is the number of a name: the name stands at n, and at no earlier place
 pub record IsNumberOf (names : List Name) (name : Name) (n : ℕ) : Type 0 where
   pub within : n < length names
   pub same : name_at names n ≡ name
-  pub first : n ≡ number_of names name
+  pub first : n ≡ number_by_name names name

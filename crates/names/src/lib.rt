@@ -83,7 +83,7 @@ impl Names {
         requires new { Contains self.old name.now → ⊥ }
         ensures number { IfOk result (λ n. n ≡ length self.old) }
         ensures added { OnOk result (self.new ≡ self.old ++ name.now ∷ []) }
-        ensures unchanged { OnErr result (self.new ≡ self.old) }
+        ensures err { OnErr result (self.new ≡ self.old) }
     {
         let number = self.set.len();
         let text = String::from_str(alloc, name)?;

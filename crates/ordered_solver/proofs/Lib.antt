@@ -15,3 +15,4 @@ pub mod KeptOn
 pub mod Dropping
 pub mod Leaving
 pub mod Between
+pub mod Numbered

@@ -6,14 +6,14 @@ use Rattle.std.proofs.lemmas.List.{get_or-map, length-map}
 use Rattle.std.proofs.lemmas.List.FromFn.{get_or-range_with_len, length-range_with_len}
 use Rattle.std.proofs.lemmas.List.Sorted.{All-permutation, Contains-permutation}
 use Rattle.pb_rules.specs.Literal.{Literal}
-use Rattle.genotype.specs.Order.{var_of, IsOrder}
+use Rattle.variable_order.specs.Order.{var_of, IsOrder}
 use Rattle.ordered_solver.specs.Trails.{IsVarBelow, Covers}
 
 abbrev IsLess : ℕ → ℕ → Type 0
 IsLess n x = x < n
 
-pub order-below : (order : List Literal) (n : ℕ) → IsOrder order → length order ≡ n → All (IsVarBelow n) order
-order-below order n o e k d h =
+pub order_below : (order : List Literal) (n : ℕ) → IsOrder order → length order ≡ n → All (IsVarBelow n) order
+order_below order n o e k d h =
     let m : ℕ = length order in
     let numbers : All (IsLess m) (range_with_len 0 m) = λ i x l.
     (let len = length-range_with_len 0 m in
@@ -25,8 +25,8 @@ order-below order n o e k d h =
     let below = all k d.var (omega arith) in
     omega arith
 
-pub order-covers : (order : List Literal) (n : ℕ) → IsOrder order → length order ≡ n → Covers order n
-order-covers order n o e x h =
+pub order_covers : (order : List Literal) (n : ℕ) → IsOrder order → length order ≡ n → Covers order n
+order_covers order n o e x h =
     let m : ℕ = length order in
     let len = length-range_with_len 0 m in
     let there : Contains (range_with_len 0 m) x = (x, omega arith, get_or-range_with_len 0 m x x (omega arith) ∙ omega arith) in

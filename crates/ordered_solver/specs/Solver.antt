@@ -6,7 +6,8 @@ use Rattle.pb_rules.specs.Frames.{Line, Frame, IsFrame, FitsFrom, Given, context
 use Rattle.constraint_store.specs.Live.{Content}
 use Rattle.proof_log.specs.Log.{LogValue, next_id}
 
--- a solver: how many variables there are, the given constraints with the ids that the proof has for them, the clauses kept from earlier calls with theirs, the oldest first, the log, and whether it ran out of memory
+-- a solver: how many variables there are, the given constraints with the ids that the proof has for them,
+-- the clauses kept from earlier calls with theirs, the oldest first, the log, and whether it ran out of memory
 pub record SolverValue : Type 0 where
   pub variables : ℕ
   pub given : List Content
@@ -64,7 +65,9 @@ pub record AreLastDerived (f : Frame) (g : Given) (lines : List Line) (kept : Li
   pub last : derived_by f lines ≡ earlier ++ constraints_of kept
   pub stand : All (StandsIn (context_of g)) kept
 
--- the kept clauses: one for each derived line of the log, but at most the limit, each under the id of a derived line; all models of the given constraints satisfy them; and in each frame that fits, in which the log is legal and the given constraints stand under their ids, they are the last ones that the derived lines give
+-- the kept clauses: one for each derived line of the log, but at most the limit, each under the id of a derived line;
+-- all models of the given constraints satisfy them; and in each frame that fits, in which the log is legal and the given constraints stand under their ids,
+-- they are the last ones that the derived lines give
 pub record AreKept (given kept : List Content) (log : LogValue) : Type 0 where
   pub count : length kept ≡ min kept_limit (derived_count log.lines)
   pub derived_ids : All (HasDerivedId log) kept

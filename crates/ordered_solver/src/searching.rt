@@ -13,10 +13,10 @@ ghost use Rattle.ordered_solver.specs.Trails.{IsVarBelow, Covers, HasValues};
 use super::answer::Answer;
 use super::descent::first_places;
 use super::engine::Engine;
-use genotype::Order;
 use pb_constraints::Lit;
 use std::alloc::{AllocError, Global};
 use trail_state::Trail;
+use variable_order::Order;
 
 /// The values of the variables.
 fn values_of(alloc: Global, trail: &Trail) -> Result<Vec<bool>, AllocError>

@@ -15,13 +15,13 @@ ghost use Rattle.ordered_solver.specs.Solver.{constraints_of, numbered, kept_lim
 use super::answer::Answer;
 use super::engine::Engine;
 use constraint_store::Store;
-use genotype::Order;
 use pb_constraints::{Constraint, Set};
 use proof_log::Log;
 use propagate::Propagator;
 use std::alloc::{AllocError, Global};
 use std::marker::Model;
 use trail_state::Trail;
+use variable_order::Order;
 
 /// Given constraints, each with the id that the proof has for it, the log of what was derived from them, and the clauses
 /// of its last lines.

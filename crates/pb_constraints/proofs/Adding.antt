@@ -7,15 +7,12 @@ use Rattle.pb_rules.specs.declared.Term.{Term}
 use Rattle.pb_rules.specs.Linear.{Linear, IsNormal}
 use Rattle.pb_rules.specs.CuttingPlanes.{Sum, same_sign, joined, merge, add}
 use Rattle.pb_rules.proofs.Sums.{alike}
-use Rattle.pb_rules.proofs.Rising.{from-pairs}
-use Rattle.pb_rules.proofs.Normal.{Merged, done, first, second, both, merged, add-rising, add-positive}
+use Rattle.pb_rules.proofs.Rising.{from_pairs}
+use Rattle.pb_rules.proofs.Normal.{Merged, done, first, second, both, merged, add_rising, add_positive}
 use Rattle.pb_constraints.specs.declared.parts.Part.{Part}
 use Rattle.pb_constraints.specs.SignedSums.{share, is_var, signed_sum, on_negated, negated_sum, as_part}
 use Rattle.pb_constraints.specs.NormalForm.{or_zero, IsNormalOf}
 use Rattle.pb_constraints.proofs.IntegerSums.{sum_z-append}
-
-abbrev part_of : ℕ → ℕ → Bool → Part
-part_of k x is_yes = record { coef = pos k; lit = record { var = x; yes = is_yes } }
 
 -- what two parts of one variable give together, in what is left of them and what is cancelled
 pub record Joins (t u : Term) (s j : Sum) : Type 0 where
@@ -138,10 +135,11 @@ difference (negsuc k) m n e = omega (arith, ints)
 
 pub sum_is_normal : (a b : Linear) → IsNormal a.terms a.degree → IsNormal b.terms b.degree → IsNormalOf (map as_part a.terms ++ map as_part b.terms) (pos a.degree +ℤ pos b.degree) (add a b)
 sum_is_normal a b p q = record {
-  positive = add-positive a b p q;
-  rising = from-pairs 0 (add a b).terms (add-rising a b p q);
+  positive = add_positive a b p q;
+  rising = from_pairs 0 (add a b).terms (add_rising a b p q);
   same = λ x. merged_same x a.terms b.terms s m ∙ sym (sum_z-append (share (is_var x)) (map as_part a.terms) (map as_part b.terms));
-  degree = difference (((pos a.degree +ℤ pos b.degree) -ℤ negated_sum ps) +ℤ negated_sum (map as_part s.terms)) (a.degree + b.degree) s.cancelled (omega (arith, ints, merged_negated a.terms b.terms s m, sum_z-append on_negated (map as_part a.terms) (map as_part b.terms)));
+  degree = difference (((pos a.degree +ℤ pos b.degree) -ℤ negated_sum ps) +ℤ negated_sum (map as_part s.terms)) (a.degree + b.degree) s.cancelled
+      (omega (arith, ints, merged_negated a.terms b.terms s m, sum_z-append on_negated (map as_part a.terms) (map as_part b.terms)));
 }
   where
     s : Sum

@@ -23,13 +23,20 @@ part_true v p = lit_true v p.lit
 true_count : (v : ℕ → Bool) (ps : List Part) → All (λ p. p.coef ≡ pos 1) ps → sum_z (when_true v) ps ≡ pos (count_by (part_true v) ps)
 true_count v [] u = refl
 true_count v (p ∷ ps) u =
-    omega (arith, ints, sum_by-cons (λ (q : Part). cond (part_true v q) 1 0) p ps, true_count v ps (λ k d h. u (suc k) d (omega arith)), one (part_true v p), ap (λ (z : ℤ). cond (part_true v p) z (pos 0)) (u 0 p (omega arith)))
+    omega (
+      arith,
+      ints,
+      sum_by-cons (λ (q : Part). cond (part_true v q) 1 0) p ps,
+      true_count v ps (λ k d h. u (suc k) d (omega arith)),
+      one (part_true v p),
+      ap (λ (z : ℤ). cond (part_true v p) z (pos 0)) (u 0 p (omega arith)),
+    )
   where
     one : (b : Bool) → cond b (pos 1) (pos 0) ≡ pos (cond b 1 0)
     one true = refl
     one false = refl
 
--- at least n of the literals: holds exactly where n of them are true
+-- A law for callers: at least n of the literals holds exactly where n of them are true.
 pub at_least : (v : ℕ → Bool) (ps : List Part) (n : ℕ) (c : Linear) → All (λ p. p.coef ≡ pos 1) ps → IsNormalOf ps (pos n) c → Holds v c ↔ (n ≤ count_by (part_true v) ps)
 at_least v ps n c u f =
     let m = keeps_meaning ps (pos n) c f in
@@ -38,7 +45,7 @@ at_least v ps n c u f =
       λ h. m.forth v (omega (arith, ints, h, e)),
     )
 
--- at least n of the coefficients: holds exactly where those of the true literals come to n
+-- A law for callers: at least n of the coefficients holds exactly where those of the true literals come to n.
 pub at_least_weight : (v : ℕ → Bool) (ts : List Term) (n : ℕ) (c : Linear) → IsNormalOf (map as_part ts) (pos n) c → Holds v c ↔ (n ≤ true_weight v ts)
 at_least_weight v ts n c f =
     let m = keeps_meaning (map as_part ts) (pos n) c f in
@@ -62,6 +69,6 @@ normal_of_terms ts us n perm h = record {
     cancels : (y z : ℤ) → z ≡ y → (pos n -ℤ y) +ℤ z ≡ pos n
     cancels y z e = omega (arith, ints)
 
--- so what has them as its normal form has their terms by rising variables
+-- A law for callers: what has terms as its normal form has them by rising variables.
 pub form_of_terms : (ts us : List Term) (n : ℕ) (c : Linear) → IsPermutation ts us → IsNormal us n → IsNormalOf (map as_part ts) (pos n) c → c ≡ record { terms = us; degree = n }
 form_of_terms ts us n c perm h f = one_normal (map as_part ts) (pos n) c (record { terms = us; degree = n }) f (normal_of_terms ts us n perm h)

@@ -25,7 +25,8 @@ term_share q g = go (q g.var) g.sum
     go false z = refl
 
 shares_of_terms : (q : ℕ → Bool) (gs : List Group) → sum_z (share q) (map as_part (map term_of gs)) ≡ sum_z (group_share q) gs
-shares_of_terms q gs = sum_z-map (share q) as_part (λ (t : Term). share q (as_part t)) (λ t. refl) (map term_of gs) ∙ sum_z-map (λ (t : Term). share q (as_part t)) term_of (group_share q) (term_share q) gs
+shares_of_terms q gs =
+    sum_z-map (share q) as_part (λ (t : Term). share q (as_part t)) (λ t. refl) (map term_of gs) ∙ sum_z-map (λ (t : Term). share q (as_part t)) term_of (group_share q) (term_share q) gs
 
 total_of_terms : (gs : List Group) → total (map term_of gs) ≡ sum_by magnitude gs
 total_of_terms [] = refl
@@ -66,7 +67,8 @@ normal_of_groups ps d gs a = record {
 
 -- the degree that the code has
 pub degree_is : (ps : List Part) (d m : ℤ) (n k : ℕ) (gs : List Group) → m ≡ negated_sum ps → n ≡ sum_by flipped gs → k ≡ or_zero ((d -ℤ m) +ℤ pos n) → k ≡ normal_degree ps d (map term_of gs)
-degree_is ps d m n k gs em en ek = ek ∙ ap (λ (z : ℤ). or_zero ((d -ℤ m) +ℤ z)) (ap pos en ∙ sym (negated_of_terms gs)) ∙ ap (λ (z : ℤ). or_zero ((d -ℤ z) +ℤ negated_sum (map as_part (map term_of gs)))) em
+degree_is ps d m n k gs em en ek =
+    ek ∙ ap (λ (z : ℤ). or_zero ((d -ℤ m) +ℤ z)) (ap pos en ∙ sym (negated_of_terms gs)) ∙ ap (λ (z : ℤ). or_zero ((d -ℤ z) +ℤ negated_sum (map as_part (map term_of gs)))) em
 
 pub too_large_sum : (ps : List Part) (d : ℤ) (gs : List Group) (n : ℕ) → AreGroupsOf ps gs → n ≡ sum_by magnitude gs → 2 ^ 63 ≤ n → IsTooLarge ps d
 too_large_sum ps d gs n a e h = record {
@@ -94,7 +96,8 @@ is_normal ps gs ts n k g et en hn hk =
     })
 
 -- and the normal form of the parts
-pub is_normal_of : (ps : List Part) (d e : ℤ) (gs : List Group) (ts : List Term) (k : ℕ) (c : Linear) → AreGroupsOf ps gs → e ≡ d → ts ≡ map term_of gs → k ≡ normal_degree ps e (map term_of gs) → c ≡ record { terms = ts; degree = k } → IsNormalOf ps d c
+pub is_normal_of : (ps : List Part) (d e : ℤ) (gs : List Group) (ts : List Term) (k : ℕ) (c : Linear) → AreGroupsOf ps gs → e ≡ d → ts ≡ map term_of gs → k ≡ normal_degree ps e (map term_of gs)
+    → c ≡ record { terms = ts; degree = k } → IsNormalOf ps d c
 is_normal_of ps d e gs ts k c a ed et ek ec = subst (IsNormalOf ps d) (sym same) (normal_of_groups ps d gs a)
   where
     make : List Term → ℕ → Linear

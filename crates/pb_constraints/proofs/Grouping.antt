@@ -40,28 +40,14 @@ pushed ps gs x z g h =
     }
 
 -- every group is below a variable beyond the last one
-closed-below : (gs : List Group) (x y : ℕ) (z : ℤ) → All (VarBelow x) gs → x < y → All (VarBelow y) (closed gs x z)
-closed-below gs x y (pos zero) a h = λ k d l. omega (arith, a k d l)
-closed-below gs x y (pos (suc n)) a h = All-push (VarBelow y) gs (record { var = x; sum = pos (suc n) }) (λ k d l. omega (arith, a k d l)) h
-closed-below gs x y (negsuc n) a h = All-push (VarBelow y) gs (record { var = x; sum = negsuc n }) (λ k d l. omega (arith, a k d l)) h
-
-pub grouping_start : IsGrouping [] [] 0 (pos 0)
-grouping_start = record {
-  nonzero = λ k d h. absurd (omega arith);
-  small = λ k d h. absurd (omega arith);
-  small_last = omega arith;
-  rising = λ i j e h l. absurd (omega arith);
-  below = λ k d h. absurd (omega arith);
-  same = λ q. share_zero (q 0);
-  bound = omega arith;
-}
-  where
-    share_zero : (b : Bool) → pos 0 +ℤ (cond b (pos 0) (pos 0)) ≡ pos 0
-    share_zero true = refl
-    share_zero false = refl
+closed_below : (gs : List Group) (x y : ℕ) (z : ℤ) → All (VarBelow x) gs → x < y → All (VarBelow y) (closed gs x z)
+closed_below gs x y (pos zero) a h = λ k d l. omega (arith, a k d l)
+closed_below gs x y (pos (suc n)) a h = All-push (VarBelow y) gs (record { var = x; sum = pos (suc n) }) (λ k d l. omega (arith, a k d l)) h
+closed_below gs x y (negsuc n) a h = All-push (VarBelow y) gs (record { var = x; sum = negsuc n }) (λ k d l. omega (arith, a k d l)) h
 
 -- one more part of the same variable
-pub grouping_more : (ps : List Part) (gs : List Group) (x : ℕ) (z : ℤ) (p : Part) (y : ℤ) → IsGrouping ps gs x z → p.lit.var ≡ x → y ≡ z +ℤ signed p → neg_ℤ (pos (2 ^ 63)) ≤ℤ signed p → signed p ≤ℤ pos (2 ^ 63) → IsGrouping (ps ++ p ∷ []) gs x y
+pub grouping_more : (ps : List Part) (gs : List Group) (x : ℕ) (z : ℤ) (p : Part) (y : ℤ) → IsGrouping ps gs x z → p.lit.var ≡ x → y ≡ z +ℤ signed p → neg_ℤ (pos (2 ^ 63)) ≤ℤ signed p
+    → signed p ≤ℤ pos (2 ^ 63) → IsGrouping (ps ++ p ∷ []) gs x y
 grouping_more ps gs x z p y g ex ey low high = record {
   nonzero = g.nonzero;
   small = g.small;
@@ -101,7 +87,7 @@ grouping_next ps gs x z y g h l =
       small = a.small;
       small_last = l;
       rising = a.rising;
-      below = closed-below gs x y z g.below h;
+      below = closed_below gs x y z g.below h;
       same = λ q. omega (arith, ints, a.same q, none (q y));
       bound = omega (arith, a.bound);
     }
@@ -119,7 +105,8 @@ at_end ps n gs hs x z w g l ew eh =
     subst Q (sym (eh ∙ ap (closed gs x) ew)) a
 
 -- the next part has the same variable
-pub at_same : (ps : List Part) (i : ℕ) (gs hs : List Group) (x x' : ℕ) (z w : ℤ) (p : Part) (y : ℤ) → IsGrouping (take i ps) gs x z → i < length ps → p ≡ get_or ps i p → p.lit.var ≡ x → hs ≡ gs → x' ≡ x → w ≡ z → y ≡ w +ℤ signed p → neg_ℤ (pos (2 ^ 63)) ≤ℤ signed p → signed p ≤ℤ pos (2 ^ 63) → IsGrouping (take (i + 1) ps) hs x' y
+pub at_same : (ps : List Part) (i : ℕ) (gs hs : List Group) (x x' : ℕ) (z w : ℤ) (p : Part) (y : ℤ) → IsGrouping (take i ps) gs x z → i < length ps → p ≡ get_or ps i p → p.lit.var ≡ x → hs ≡ gs
+    → x' ≡ x → w ≡ z → y ≡ w +ℤ signed p → neg_ℤ (pos (2 ^ 63)) ≤ℤ signed p → signed p ≤ℤ pos (2 ^ 63) → IsGrouping (take (i + 1) ps) hs x' y
 at_same ps i gs hs x x' z w p y g l ep ex eh ex' ew ey low high =
     let P : List Part → Type 0 = λ qs. IsGrouping qs gs x y in
     let e : take (i + 1) ps ≡ take i ps ++ p ∷ [] = take_more ps i p l ∙ ap (λ (q : Part). take i ps ++ q ∷ []) (sym ep) in
@@ -129,7 +116,9 @@ at_same ps i gs hs x x' z w p y g l ep ex eh ex' ew ey low high =
     subst R (sym ex') (subst Q (sym eh) a)
 
 -- the next part has a further variable
-pub at_next : (ps : List Part) (i : ℕ) (gs hs : List Group) (x x' : ℕ) (z w : ℤ) (p : Part) (u y : ℤ) → IsGrouping (take i ps) gs x z → i < length ps → p ≡ get_or ps i p → x ≤ p.lit.var → ¬ (p.lit.var ≡ x) → p.lit.var < 2 ^ 62 → w ≡ z → hs ≡ closed gs x w → x' ≡ p.lit.var → u ≡ pos 0 → y ≡ u +ℤ signed p → neg_ℤ (pos (2 ^ 63)) ≤ℤ signed p → signed p ≤ℤ pos (2 ^ 63) → IsGrouping (take (i + 1) ps) hs x' y
+pub at_next : (ps : List Part) (i : ℕ) (gs hs : List Group) (x x' : ℕ) (z w : ℤ) (p : Part) (u y : ℤ) → IsGrouping (take i ps) gs x z → i < length ps → p ≡ get_or ps i p → x ≤ p.lit.var
+    → ¬ (p.lit.var ≡ x) → p.lit.var < 2 ^ 62 → w ≡ z → hs ≡ closed gs x w → x' ≡ p.lit.var → u ≡ pos 0 → y ≡ u +ℤ signed p → neg_ℤ (pos (2 ^ 63)) ≤ℤ signed p → signed p ≤ℤ pos (2 ^ 63)
+    → IsGrouping (take (i + 1) ps) hs x' y
 at_next ps i gs hs x x' z w p u y g l ep h ne small ew eh ex' eu ey low high =
     let n = grouping_next (take i ps) gs x z p.lit.var g (omega arith) small in
     at_same ps i (closed gs x z) hs p.lit.var x' (pos 0) u p y n l ep refl (eh ∙ ap (closed gs x) ew) ex' eu ey low high
@@ -150,6 +139,7 @@ in_any_order ps qs os gs perm e a = record {
 }
 
 -- nor for the answer of the code
-pub any_order_gives : (ps qs os : List Part) (r : Result (Vec Group Global) AllocError) → IsPermutation ps os → qs ≡ os → IfOk r (λ gs. AreGroupsOf qs gs.items) → IfOk r (λ gs. AreGroupsOf ps gs.items)
+pub any_order_gives : (ps qs os : List Part) (r : Result (Vec Group Global) AllocError) → IsPermutation ps os → qs ≡ os → IfOk r (λ gs. AreGroupsOf qs gs.items)
+    → IfOk r (λ gs. AreGroupsOf ps gs.items)
 any_order_gives ps qs os (Ok gs) perm e a = in_any_order ps qs os gs.items perm e a
 any_order_gives ps qs os (Err f) perm e a = a

@@ -29,6 +29,6 @@ pub sum_z-map : {X Y : Type 0} (f : Y → ℤ) (g : X → Y) (h : X → ℤ) →
 sum_z-map f g h e [] = refl
 sum_z-map f g h e (x ∷ xs) = omega (arith, ints, e x, sum_z-map f g h e xs)
 
-pub sum_z-plus : {X : Type 0} (f g h : X → ℤ) → ((x : X) → f x ≡ g x +ℤ h x) → (xs : List X) → sum_z f xs ≡ sum_z g xs +ℤ sum_z h xs
-sum_z-plus f g h e [] = refl
-sum_z-plus f g h e (x ∷ xs) = omega (arith, ints, e x, sum_z-plus f g h e xs)
+pub sum_z_plus : {X : Type 0} (f g h : X → ℤ) → ((x : X) → f x ≡ g x +ℤ h x) → (xs : List X) → sum_z f xs ≡ sum_z g xs +ℤ sum_z h xs
+sum_z_plus f g h e [] = refl
+sum_z_plus f g h e (x ∷ xs) = omega (arith, ints, e x, sum_z_plus f g h e xs)

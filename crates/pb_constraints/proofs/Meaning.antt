@@ -10,7 +10,7 @@ use Rattle.pb_rules.specs.Linear.{Linear, true_weight}
 use Rattle.pb_constraints.specs.declared.parts.Part.{Part}
 use Rattle.pb_constraints.specs.SignedSums.{sum_z, share, signed, is_var, signed_sum, on_negated, negated_sum, when_true, as_part}
 use Rattle.pb_constraints.specs.NormalForm.{or_zero, normal_degree, IsNormalOf, KeepsMeaning}
-use Rattle.pb_constraints.proofs.IntegerSums.{sum_z-plus}
+use Rattle.pb_constraints.proofs.IntegerSums.{sum_z_plus}
 
 -- a part's true coefficient is that of its negation and its share
 when_true_is : (v : ℕ → Bool) (p : Part) → when_true v p ≡ on_negated p +ℤ share v p
@@ -24,7 +24,7 @@ when_true_is v p = go p.lit.yes (v p.lit.var) p.coef
 
 -- the parts hold where the shares of the true variables reach the degree less the negated coefficients
 true_sum_is : (v : ℕ → Bool) (ps : List Part) → sum_z (when_true v) ps ≡ negated_sum ps +ℤ sum_z (share v) ps
-true_sum_is v ps = sum_z-plus (when_true v) on_negated (share v) (when_true_is v) ps
+true_sum_is v ps = sum_z_plus (when_true v) on_negated (share v) (when_true_is v) ps
 
 -- a term's coefficient is that of its part
 pub true_weight_is : (v : ℕ → Bool) (ts : List Term) → pos (true_weight v ts) ≡ sum_z (when_true v) (map as_part ts)
@@ -111,7 +111,8 @@ same_shares q ps qs same =
 -- the same shares and the degree that goes with them keep the meaning
 keeps : (ps : List Part) (d : ℤ) (c : Linear) → ((q : ℕ → Bool) → sum_z (share q) (map as_part c.terms) ≡ sum_z (share q) ps) → c.degree ≡ normal_degree ps d c.terms → KeepsMeaning ps d c
 keeps ps d c same degree = record {
-  forth = λ v h. subst (λ (n : ℕ). n ≤ true_weight v c.terms) (sym degree) (le-or_zero ((d -ℤ negated_sum ps) +ℤ negated_sum (map as_part c.terms)) (true_weight v c.terms) (omega (arith, ints, h, true_sum_is v ps, true_sum_is v (map as_part c.terms), true_weight_is v c.terms, same v)));
+  forth = λ v h. subst (λ (n : ℕ). n ≤ true_weight v c.terms) (sym degree) (le-or_zero ((d -ℤ negated_sum ps) +ℤ negated_sum (map as_part c.terms)) (true_weight v c.terms)
+      (omega (arith, ints, h, true_sum_is v ps, true_sum_is v (map as_part c.terms), true_weight_is v c.terms, same v)));
   back = λ v h.
       let l = or_zero-le ((d -ℤ negated_sum ps) +ℤ negated_sum (map as_part c.terms)) (true_weight v c.terms) (subst (λ (n : ℕ). n ≤ true_weight v c.terms) degree h) in
       omega (arith, ints, l, true_sum_is v ps, true_sum_is v (map as_part c.terms), true_weight_is v c.terms, same v);

@@ -84,7 +84,8 @@ same_terms x (t ∷ ts) (u ∷ us) o p same =
     hu : 0 < u.coef
     hu = p.positive 0 u (omega arith)
 
-    split : ((t.lit.var < u.lit.var) ⊎ (u.lit.var ≤ t.lit.var)) → ((u.lit.var < t.lit.var) ⊎ (t.lit.var ≤ u.lit.var)) → (Ordered (t.lit.var + 1) us → ((y : ℕ) → signed_sum y (map as_part ts) ≡ signed_sum y (map as_part us)) → ts ≡ us) → (t ∷ ts) ≡ (u ∷ us)
+    split : ((t.lit.var < u.lit.var) ⊎ (u.lit.var ≤ t.lit.var)) → ((u.lit.var < t.lit.var) ⊎ (t.lit.var ≤ u.lit.var))
+        → (Ordered (t.lit.var + 1) us → ((y : ℕ) → signed_sum y (map as_part ts) ≡ signed_sum y (map as_part us)) → ts ≡ us) → (t ∷ ts) ≡ (u ∷ us)
     split (inl l) m ih = absurd (not_zero t ht (sym (first_share x t ts o) ∙ same t.lit.var ∙ no_share u.lit.var t.lit.var (u ∷ us) (again u x us p) l))
     split (inr l) (inl m) ih = absurd (not_zero u hu (sym (first_share x u us p) ∙ sym (same u.lit.var) ∙ no_share t.lit.var u.lit.var (t ∷ ts) (again t x ts o) m))
     split (inr l) (inr m) ih =
@@ -98,7 +99,8 @@ same_terms x (t ∷ ts) (u ∷ us) o p same =
 -- parts and a degree have one normal form
 pub one_normal : (ps : List Part) (d : ℤ) (c e : Linear) → IsNormalOf ps d c → IsNormalOf ps d e → c ≡ e
 one_normal ps d c e n m =
-    let et : c.terms ≡ e.terms = same_terms 0 c.terms e.terms (record { positive = n.positive; above = λ k t h. omega arith; rising = n.rising }) (record { positive = m.positive; above = λ k t h. omega arith; rising = m.rising }) (λ y. n.same y ∙ sym (m.same y)) in
+    let et : c.terms ≡ e.terms = same_terms 0 c.terms e.terms (record { positive = n.positive; above = λ k t h. omega arith; rising = n.rising })
+    (record { positive = m.positive; above = λ k t h. omega arith; rising = m.rising }) (λ y. n.same y ∙ sym (m.same y)) in
     let ed : c.degree ≡ e.degree = n.degree ∙ ap (normal_degree ps d) et ∙ sym m.degree in
     ap (λ (ts : List Term). make ts c.degree) et ∙ ap (make e.terms) ed
   where

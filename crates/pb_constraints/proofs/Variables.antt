@@ -25,7 +25,7 @@ term_sum x (t ∷ ts) (suc k) d o h =
     let u : Term = get_or ts k d in
     omega (arith, ints, other_share u.lit.var (as_part t) (let r = o.rising 0 (suc k) d (omega arith) (omega arith) in omega arith), term_sum (t.lit.var + 1) ts k d (tail x t ts o) (omega arith))
 
--- where the parts are below n, so is the normal form
+-- A law for callers: where the variables of the parts are below n, so are those of the normal form.
 pub vars_below : (n : ℕ) (ps : List Part) (d : ℤ) (c : Linear) → All (λ p. p.lit.var < n) ps → IsNormalOf ps d c → VarsBelow n c.terms
 vars_below n ps d c a f = λ k e h. within k e h (cases_lt (get_or c.terms k e).lit.var n)
   where

@@ -63,6 +63,7 @@ found (Some b) i a e = (let q : b ≡ a = cc in ap (λ (c : Linear). Some c) q)
 same_top : (a b : Linear) (st after : List Linear) → a ≡ b → after ≡ b ∷ st → after ≡ a ∷ st
 same_top a b st after e f = f ∙ ap (λ (c : Linear). c ∷ st) (sym e)
 
+-- an operation that applies is carried out
 pub carried : (context : Context) (o : Op) (st after : List Linear) → apply context o st ≡ Ok after → Carried context after o st
 carried context (Id i) st after e =
     was_small i (push st (ok_or (context.live i) (unknown i))) after (λ small f.
@@ -94,7 +95,8 @@ carried context (Weaken x) (a ∷ st) after e =
     was_known context x (Ok (weaken x a ∷ st)) after (λ known g. by_weakening small known (let q : weaken x a ∷ st ≡ after = cc in sym q)) f) e
 
 -- the first of several operations, and the others after it
-pub first_op : (context : Context) (o : Op) (os : List Op) (st after : List Linear) → apply_all context (o ∷ os) st ≡ Ok after → (mid : List Linear) × (apply context o st ≡ Ok mid) × (apply_all context os mid ≡ Ok after)
+pub first_op : (context : Context) (o : Op) (os : List Op) (st after : List Linear) → apply_all context (o ∷ os) st ≡ Ok after → (mid : List Linear) × (apply context o st ≡ Ok mid)
+    × (apply_all context os mid ≡ Ok after)
 first_op context o os st after e = go (apply context o st) refl e
   where
     go : (r : Stacks) → apply context o st ≡ r → and_then (apply_all context os) r ≡ Ok after → (mid : List Linear) × (apply context o st ≡ Ok mid) × (apply_all context os mid ≡ Ok after)

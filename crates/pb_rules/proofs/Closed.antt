@@ -10,11 +10,11 @@ use Rattle.pb_rules.specs.Partial.{falsifies, is_false, open_weight, Forces, IsC
 use Rattle.pb_rules.specs.Clauses.{IsClause, contradiction}
 use Rattle.pb_rules.specs.Honest.{IsAbsorbed, IsUnabsorbed, IsPropagated, AreHonest}
 use Rattle.pb_rules.proofs.Sums.{true_weight-cons}
-use Rattle.pb_rules.proofs.Assignments.{FalseToo, open-cons, closed-takes}
+use Rattle.pb_rules.proofs.Assignments.{FalseToo, open-cons, closed_takes}
 
 -- what goes on from an assignment makes its false literals false
-pub goes-false : (p q : ℕ → Option Bool) (ts : List Term) → GoesOn p q → FalseToo p q ts
-goes-false p q ts g i d l f = go (p m.var) refl
+pub goes_false : (p q : ℕ → Option Bool) (ts : List Term) → GoesOn p q → FalseToo p q ts
+goes_false p q ts g i d l f = go (p m.var) refl
   where
     m : Literal
     m = (get_or ts i d).lit
@@ -24,18 +24,18 @@ goes-false p q ts g i d l f = go (p m.var) refl
     go (Some b) e = ap (λ w. falsifies w m.yes) (g m.var b e) ∙ ap (λ w. falsifies w m.yes) (sym e) ∙ f
 
 -- a closed assignment takes what a smaller one forces
-pub closed-goes : (p a : ℕ → Option Bool) (c : Linear) (l : Literal) → Forces p c l → GoesOn p a → IsClosed a c → a l.var ≡ Some l.yes
-closed-goes p a c l f g closed = closed-takes p a c l f (goes-false p a c.terms g) closed
+pub closed_goes : (p a : ℕ → Option Bool) (c : Linear) (l : Literal) → Forces p c l → GoesOn p a → IsClosed a c → a l.var ≡ Some l.yes
+closed_goes p a c l f g closed = closed_takes p a c l f (goes_false p a c.terms g) closed
 
-false-or-true : (y w : Bool) → falsifies (Some w) y ≡ not (cond y w (not w))
-false-or-true true true = refl
-false-or-true true false = refl
-false-or-true false true = refl
-false-or-true false false = refl
+false_or_true : (y w : Bool) → falsifies (Some w) y ≡ not (cond y w (not w))
+false_or_true true true = refl
+false_or_true true false = refl
+false_or_true false true = refl
+false_or_true false false = refl
 
 -- under a whole assignment a literal is false where it is not true
 pub whole-false : (v : ℕ → Bool) (l : Literal) → is_false (whole v) l ≡ not (lit_true v l)
-whole-false v l = false-or-true l.yes (v l.var)
+whole-false v l = false_or_true l.yes (v l.var)
 
 -- the room under a whole assignment is the weight of the true literals
 pub open-whole : (v : ℕ → Bool) (ts : List Term) → open_weight (whole v) ts ≡ true_weight v ts
@@ -52,17 +52,17 @@ open-whole v (t ∷ ts) =
     turned false = refl
 
 -- a model is a closed partial assignment
-pub model-closed : (cs : List Linear) (v : ℕ → Bool) → IsModel cs v → IsClosedFor cs (whole v)
-model-closed cs v m i d l =
+pub model_closed : (cs : List Linear) (v : ℕ → Bool) → IsModel cs v → IsClosedFor cs (whole v)
+model_closed cs v m i d l =
     let c : Linear = get_or cs i d in
     let h = m i d l in
     let w = open-whole v c.terms in
     record { no_conflict = omega arith; none_forced = λ k t q n. absurd (cc) }
 
 -- where no literal with a positive coefficient is true, each one is false
-none-true : (v : ℕ → Bool) (ts : List Term) → All (λ t. 0 < t.coef) ts → true_weight v ts ≡ 0 → (i : ℕ) (d : Term) → i < length ts → is_false (whole v) (get_or ts i d).lit ≡ true
-none-true v [] p z i d l = absurd (omega arith)
-none-true v (t ∷ ts) p z zero d l =
+none_true : (v : ℕ → Bool) (ts : List Term) → All (λ t. 0 < t.coef) ts → true_weight v ts ≡ 0 → (i : ℕ) (d : Term) → i < length ts → is_false (whole v) (get_or ts i d).lit ≡ true
+none_true v [] p z i d l = absurd (omega arith)
+none_true v (t ∷ ts) p z zero d l =
     let b = true_weight-cons v t ts in
     let q = p 0 d (omega arith) in
     go (lit_true v t.lit) refl (omega arith)
@@ -70,83 +70,84 @@ none-true v (t ∷ ts) p z zero d l =
     go : (o : Bool) → lit_true v t.lit ≡ o → cond (lit_true v t.lit) t.coef 0 ≡ 0 → is_false (whole v) t.lit ≡ true
     go true e n = absurd (let q = p 0 d (omega arith) in let n' : t.coef ≡ 0 = (let f = ap (λ o. cond o t.coef 0) e in omega arith) in omega arith)
     go false e n = whole-false v t.lit ∙ ap not e
-none-true v (t ∷ ts) p z (suc i) d l =
+none_true v (t ∷ ts) p z (suc i) d l =
     let b = true_weight-cons v t ts in
-    none-true v ts (λ j e k. p (suc j) e (omega arith)) (omega arith) i d (omega arith)
+    none_true v ts (λ j e k. p (suc j) e (omega arith)) (omega arith) i d (omega arith)
 
 -- a propagated clause follows
-pub propagated-follows : (cs : List Linear) (c : Linear) (v : ℕ → Bool) → IsClause c → IsPropagated cs c → IsModel cs v → Holds v c
-propagated-follows cs c v clause propagated m =
+pub propagated_follows : (cs : List Linear) (c : Linear) (v : ℕ → Bool) → IsClause c → IsPropagated cs c → IsModel cs v → Holds v c
+propagated_follows cs c v clause propagated m =
     let d = clause.degree in
     elim (cases_lt (true_weight v c.terms) c.degree) [
-      | inl l ↦ absurd (propagated (whole v) (model-closed cs v m) (none-true v c.terms clause.normal.positive (omega arith)))
+      | inl l ↦ absurd (propagated (whole v) (model_closed cs v m) (none_true v c.terms clause.normal.positive (omega arith)))
       | inr g ↦ g
     ]
 
 -- what is closed for a list is closed for what is among it
-pub closed-among : (cs ds : List Linear) (p : ℕ → Option Bool) → AreAmong cs ds → IsClosedFor ds p → IsClosedFor cs p
-closed-among cs ds p among closed i d l =
+pub closed_among : (cs ds : List Linear) (p : ℕ → Option Bool) → AreAmong cs ds → IsClosedFor ds p → IsClosedFor cs p
+closed_among cs ds p among closed i d l =
     let c : Linear = get_or cs i d in
     let there = among c (i, l, get_or_default cs i c d l) in
     subst (IsClosed p) there.2 (closed there.0 c there.1)
 
-pub among-front : (cs ds : List Linear) → AreAmong cs (cs ++ ds)
-among-front cs ds c h = Contains-append_left cs ds c h
+-- the first of two lists are among both
+pub among_front : (cs ds : List Linear) → AreAmong cs (cs ++ ds)
+among_front cs ds c h = Contains-append_left cs ds c h
 
-pub among-back : (cs ds : List Linear) → AreAmong ds (cs ++ ds)
-among-back cs ds c h = Contains-append_right cs ds c h
+-- the second of two lists are among both
+pub among_back : (cs ds : List Linear) → AreAmong ds (cs ++ ds)
+among_back cs ds c h = Contains-append_right cs ds c h
 
 -- a model of a list is one of what is among it
-pub models-among : (v : ℕ → Bool) (cs ds : List Linear) → AreAmong cs ds → IsModel ds v → IsModel cs v
-models-among v cs ds among m i d l =
+pub models_among : (v : ℕ → Bool) (cs ds : List Linear) → AreAmong cs ds → IsModel ds v → IsModel cs v
+models_among v cs ds among m i d l =
     let c : Linear = get_or cs i d in
     let there = among c (i, l, get_or_default cs i c d l) in
     subst (Holds v) there.2 (m there.0 c there.1)
 
-pub models-front : (v : ℕ → Bool) (cs ds : List Linear) → IsModel (cs ++ ds) v → IsModel cs v
-models-front v cs ds m = models-among v cs (cs ++ ds) (among-front cs ds) m
+-- a model of two lists is one of the first,
+pub models_front : (v : ℕ → Bool) (cs ds : List Linear) → IsModel (cs ++ ds) v → IsModel cs v
+models_front v cs ds m = models_among v cs (cs ++ ds) (among_front cs ds) m
 
-pub models-back : (v : ℕ → Bool) (cs ds : List Linear) → IsModel (cs ++ ds) v → IsModel ds v
-models-back v cs ds m = models-among v ds (cs ++ ds) (among-back cs ds) m
+-- and one of the second
+pub models_back : (v : ℕ → Bool) (cs ds : List Linear) → IsModel (cs ++ ds) v → IsModel ds v
+models_back v cs ds m = models_among v ds (cs ++ ds) (among_back cs ds) m
 
-pub among-append : (cs ds es : List Linear) → AreAmong cs es → AreAmong ds es → AreAmong (cs ++ ds) es
-among-append cs ds es a b c h = elim (Contains-append_cases cs ds c h) [ inl x ↦ a c x | inr y ↦ b c y ]
+-- two lists whose constraints are among others, together
+pub among_append : (cs ds es : List Linear) → AreAmong cs es → AreAmong ds es → AreAmong (cs ++ ds) es
+among_append cs ds es a b c h = elim (Contains-append_cases cs ds c h) [ inl x ↦ a c x | inr y ↦ b c y ]
 
-pub closed-append : (cs ds : List Linear) (p : ℕ → Option Bool) → IsClosedFor cs p → IsClosedFor ds p → IsClosedFor (cs ++ ds) p
-closed-append cs ds p a b = All-append (IsClosed p) cs ds a b
-
-pub closed-front : (cs ds : List Linear) (p : ℕ → Option Bool) → IsClosedFor (cs ++ ds) p → IsClosedFor cs p
-closed-front cs ds p h = closed-among cs (cs ++ ds) p (among-front cs ds) h
-
-pub closed-back : (cs ds : List Linear) (p : ℕ → Option Bool) → IsClosedFor (cs ++ ds) p → IsClosedFor ds p
-closed-back cs ds p h = closed-among ds (cs ++ ds) p (among-back cs ds) h
+-- what is closed for two lists is closed for the first
+pub closed_front : (cs ds : List Linear) (p : ℕ → Option Bool) → IsClosedFor (cs ++ ds) p → IsClosedFor cs p
+closed_front cs ds p h = closed_among cs (cs ++ ds) p (among_front cs ds) h
 
 -- what a list absorbs, a longer one absorbs
-pub absorbed-among : (cs ds : List Linear) (c : Linear) → AreAmong cs ds → IsAbsorbed cs c → IsAbsorbed ds c
-absorbed-among cs ds c among absorbed p closed left = absorbed p (closed-among cs ds p among closed) left
+pub absorbed_among : (cs ds : List Linear) (c : Linear) → AreAmong cs ds → IsAbsorbed cs c → IsAbsorbed ds c
+absorbed_among cs ds c among absorbed p closed left = absorbed p (closed_among cs ds p among closed) left
 
 -- what a list does not absorb, no part of it absorbs
-pub unabsorbed-among : (cs ds : List Linear) (c : Linear) → AreAmong cs ds → IsUnabsorbed ds c → IsUnabsorbed cs c
-unabsorbed-among cs ds c among u = record { assignment = u.assignment; closed = closed-among cs ds u.assignment among u.closed; leaves_one = u.leaves_one }
+pub unabsorbed_among : (cs ds : List Linear) (c : Linear) → AreAmong cs ds → IsUnabsorbed ds c → IsUnabsorbed cs c
+unabsorbed_among cs ds c among u = record { assignment = u.assignment; closed = closed_among cs ds u.assignment among u.closed; leaves_one = u.leaves_one }
 
-pub unabsorbed-not : (cs : List Linear) (c : Linear) → IsUnabsorbed cs c → IsAbsorbed cs c → ⊥
-unabsorbed-not cs c u absorbed = absorbed u.assignment u.closed u.leaves_one
+-- a clause that says something new isn't absorbed
+pub unabsorbed_not : (cs : List Linear) (c : Linear) → IsUnabsorbed cs c → IsAbsorbed cs c → ⊥
+unabsorbed_not cs c u absorbed = absorbed u.assignment u.closed u.leaves_one
 
 -- what a list propagates, a longer one propagates
-pub propagated-among : (cs ds : List Linear) (c : Linear) → AreAmong cs ds → IsPropagated cs c → IsPropagated ds c
-propagated-among cs ds c among propagated p closed falsified = propagated p (closed-among cs ds p among closed) falsified
+pub propagated_among : (cs ds : List Linear) (c : Linear) → AreAmong cs ds → IsPropagated cs c → IsPropagated ds c
+propagated_among cs ds c among propagated p closed falsified = propagated p (closed_among cs ds p among closed) falsified
 
 -- `0 >= 1` is absorbed by every list
-pub contradiction-absorbed : (cs : List Linear) → IsAbsorbed cs contradiction
-contradiction-absorbed cs p closed left = let there = (left.there).1 in absurd (omega arith)
+pub contradiction_absorbed : (cs : List Linear) → IsAbsorbed cs contradiction
+contradiction_absorbed cs p closed left = let there = (left.there).1 in absurd (omega arith)
 
 -- where a list propagates `0 >= 1`, it has no model
-pub no-model : (cs : List Linear) → IsPropagated cs contradiction → (v : ℕ → Bool) → IsModel cs v → ⊥
-no-model cs propagated v m = propagated (whole v) (model-closed cs v m) (λ i d l. absurd (omega arith))
+pub no_model : (cs : List Linear) → IsPropagated cs contradiction → (v : ℕ → Bool) → IsModel cs v → ⊥
+no_model cs propagated v m = propagated (whole v) (model_closed cs v m) (λ i d l. absurd (omega arith))
 
 -- one clause more that the others do not absorb
-pub honest-push : (base cs : List Linear) (c : Linear) → AreHonest base cs → IsClause c → IsUnabsorbed (base ++ cs) c → AreHonest base (cs ++ c ∷ [])
-honest-push base cs c h clause new = record {
+pub honest_push : (base cs : List Linear) (c : Linear) → AreHonest base cs → IsClause c → IsUnabsorbed (base ++ cs) c → AreHonest base (cs ++ c ∷ [])
+honest_push base cs c h clause new = record {
   clauses_each = All-append IsClause cs (c ∷ []) h.clauses_each (λ k d l. only k d l);
   unabsorbed = λ k d l. elim (cases_lt k (length cs)) [
     | inl m ↦ (let e : take k (cs ++ c ∷ []) ≡ take k cs = take-append-le k cs (c ∷ []) (omega arith) in

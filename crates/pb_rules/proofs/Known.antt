@@ -1,8 +1,7 @@
 -- A legal line gives a constraint whose variables were there before.
 use Rattle.std.proofs.Common.{◌≡◌, ℕ, ◌+◌, ◌-◌, Bool, true, false, cond, eqb, ltb, List, [], ◌∷◌, map, min, Some, refl, sym, ap, ◌∙◌, subst, arith, ◌⊎◌, inl, inr}
 use Rattle.std.specs.Prelude.{Ok, ◌++◌}
-use Rattle.std.proofs.lemmas.Bool.{eqb-true}
-use Rattle.std.proofs.lemmas.Bool.Decides.{nat_tests}
+use Rattle.std.proofs.lemmas.Bool.{eq-eqb, eqb-true}
 use Rattle.pb_rules.specs.declared.Term.{Term}
 use Rattle.pb_rules.specs.declared.Op.{Op}
 use Rattle.pb_rules.specs.Literal.{Literal}
@@ -10,19 +9,16 @@ use Rattle.pb_rules.specs.Linear.{Linear}
 use Rattle.pb_rules.specs.CuttingPlanes.{axiom_of, Sum, same_sign, joined, merge, multiplied, divided, cut, without_var}
 use Rattle.pb_rules.specs.Operations.{Context, mentions, IsKnown, KnowsLive, line_gives}
 use Rattle.pb_rules.specs.Frames.{Line, derived, cover, Frame, Given, any_mentions, context_of, with_derived, given_from, blocks_from}
-use Rattle.pb_rules.proofs.Sound.{IsKept, line-keeps}
-use Rattle.pb_rules.proofs.Given.{Goes, by_ops, by_block, goes, first-line, given-knows}
+use Rattle.pb_rules.proofs.Sound.{IsKept, line_keeps}
+use Rattle.pb_rules.proofs.Given.{Goes, by_ops, by_block, goes, first_line, given_knows}
 use Rattle.pb_rules.proofs.Normal.{Merged, done, first, second, both, merged}
 
 -- a term has the variable
 abbrev Has : ℕ → List Term → Type 0
 Has x ts = mentions x ts ≡ true
 
-eqb_self : (n : ℕ) → eqb n n ≡ true
-eqb_self n = grind (arith, nat_tests)
-
 here : (x : ℕ) (t : Term) (ts : List Term) → t.lit.var ≡ x → Has x (t ∷ ts)
-here x t ts e = ap (λ (b : Bool). cond b true (mentions x ts)) (subst (λ (y : ℕ). eqb t.lit.var y ≡ true) e (eqb_self t.lit.var))
+here x t ts e = ap (λ (b : Bool). cond b true (mentions x ts)) (eq-eqb t.lit.var x e)
 
 later : (x : ℕ) (t : Term) (ts : List Term) → Has x ts → Has x (t ∷ ts)
 later x t ts h = go (eqb t.lit.var x)
@@ -126,8 +122,8 @@ axiom_known context l known x h =
     ]
 
 -- each rule keeps that all variables are there
-known-kept : (context : Context) → KnowsLive context → IsKept context (IsKnown context)
-known-kept context live = record {
+known_kept : (context : Context) → KnowsLive context → IsKept context (IsKnown context)
+known_kept context live = record {
   standing = live;
   axioms = axiom_known context;
   sums = λ a b p q small x h. elim (merged_has x a.terms b.terms (merge a.terms b.terms) (merged a.terms b.terms) h) [ inl m ↦ p x m | inr m ↦ q x m ];
@@ -138,8 +134,8 @@ known-kept context live = record {
 }
 
 -- a line gives a constraint whose variables are there
-pub line-known : (context : Context) (os : List Op) (c : Linear) → KnowsLive context → line_gives context os ≡ Ok c → IsKnown context c
-line-known context os c live e = line-keeps context (IsKnown context) (known-kept context live) os c e
+pub line_known : (context : Context) (os : List Op) (c : Linear) → KnowsLive context → line_gives context os ≡ Ok c → IsKnown context c
+line_known context os c live e = line_keeps context (IsKnown context) (known_kept context live) os c e
 
 or_assoc : (a b m : Bool) → cond a true (cond b true m) ≡ cond (cond a true b) true m
 or_assoc true b m = refl
@@ -160,19 +156,21 @@ derived-knows g c known x = mentions-append g.constraints (c ∷ []) x ∙ turn 
     turn false false h = refl
 
 -- after lines the variables are there that were there before, and those of the blocks of the covers
-pub given-variables : (f : Frame) (g h : Given) (ls : List Line) → given_from f g ls ≡ Some h → (x : ℕ) → (context_of h).knows x ≡ cond ((context_of g).knows x) true (any_mentions (blocks_from f g.covers ls) x)
-given-variables f g h [] e x = let q : g ≡ h = cc in ap (λ (k : Given). any_mentions k.constraints x) (sym q) ∙ none (any_mentions g.constraints x)
+pub given_variables : (f : Frame) (g h : Given) (ls : List Line) → given_from f g ls ≡ Some h → (x : ℕ)
+    → (context_of h).knows x ≡ cond ((context_of g).knows x) true (any_mentions (blocks_from f g.covers ls) x)
+given_variables f g h [] e x = let q : g ≡ h = cc in ap (λ (k : Given). any_mentions k.constraints x) (sym q) ∙ none (any_mentions g.constraints x)
   where
     none : (b : Bool) → b ≡ cond b true false
     none true = refl
     none false = refl
-given-variables f g h (l ∷ ls) e x =
-    let s = first-line f g h l ls e in
-    given-variables f s.0 h ls s.2 x ∙ go l s.0 (goes f g s.0 l s.1)
+given_variables f g h (l ∷ ls) e x =
+    let s = first_line f g h l ls e in
+    given_variables f s.0 h ls s.2 x ∙ go l s.0 (goes f g s.0 l s.1)
   where
-    go : (l : Line) (k : Given) → Goes f g k l → cond ((context_of k).knows x) true (any_mentions (blocks_from f k.covers ls) x) ≡ cond ((context_of g).knows x) true (any_mentions (blocks_from f g.covers (l ∷ ls)) x)
+    go : (l : Line) (k : Given) → Goes f g k l → cond ((context_of k).knows x) true (any_mentions (blocks_from f k.covers ls) x)
+        ≡ cond ((context_of g).knows x) true (any_mentions (blocks_from f g.covers (l ∷ ls)) x)
     go (derived ops) k (by_ops c q is) =
-        let known = line-known (context_of g) ops c (given-knows g) q in
+        let known = line_known (context_of g) ops c (given_knows g) q in
         ap (λ (k : Given). cond ((context_of k).knows x) true (any_mentions (blocks_from f k.covers ls) x)) is
         ∙ ap (λ (b : Bool). cond b true (any_mentions (blocks_from f g.covers ls) x)) (derived-knows g c known x)
     go (cover v) k (by_block small is) =

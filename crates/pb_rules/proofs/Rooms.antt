@@ -22,21 +22,22 @@ open_weight_fits p ts i t h e =
     let P : Term → Type 0 = λ u. open_weight p (take i ts) + u.coef ≤ total ts in
     subst P (sym e) m
 
-falsifies-own : (b : Bool) → falsifies (Some b) b ≡ false
-falsifies-own true = refl
-falsifies-own false = refl
+falsifies_own : (b : Bool) → falsifies (Some b) b ≡ false
+falsifies_own true = refl
+falsifies_own false = refl
 
 -- making an unassigned literal true leaves the room, where no other term has its variable
-pub open_weight-made_true : (p q : ℕ → Option Bool) (l : Literal) (ts : List Term) → p l.var ≡ None → q l.var ≡ Some l.yes → ((x : ℕ) → l.var ≢ x → q x ≡ p x) → ((i : ℕ) (d : Term) → i < length ts → (get_or ts i d).lit.var ≡ l.var → (get_or ts i d).lit ≡ l) → open_weight q ts ≡ open_weight p ts
-open_weight-made_true p q l [] free made others only = refl
-open_weight-made_true p q l (t ∷ ts) free made others only =
+pub open_weight_made_true : (p q : ℕ → Option Bool) (l : Literal) (ts : List Term) → p l.var ≡ None → q l.var ≡ Some l.yes → ((x : ℕ) → l.var ≢ x → q x ≡ p x)
+    → ((i : ℕ) (d : Term) → i < length ts → (get_or ts i d).lit.var ≡ l.var → (get_or ts i d).lit ≡ l) → open_weight q ts ≡ open_weight p ts
+open_weight_made_true p q l [] free made others only = refl
+open_weight_made_true p q l (t ∷ ts) free made others only =
     let f : (ℕ → Option Bool) → Term → ℕ = λ p t. cond (is_false p t.lit) 0 t.coef in
-    let ih = open_weight-made_true p q l ts free made others (λ i d h s. only (suc i) d (omega arith) s) in
+    let ih = open_weight_made_true p q l ts free made others (λ i d h s. only (suc i) d (omega arith) s) in
     let here : is_false q t.lit ≡ is_false p t.lit =
     elim (cases_eq t.lit.var l.var) [
       | inl s ↦ (let same : t.lit ≡ l = only 0 t (omega arith) s in
           let P : Literal → Type 0 = λ m. is_false q m ≡ is_false p m in
-          let a : falsifies (q l.var) l.yes ≡ false = rw made (falsifies-own l.yes) in
+          let a : falsifies (q l.var) l.yes ≡ false = rw made (falsifies_own l.yes) in
           let b : falsifies (p l.var) l.yes ≡ false = rw free refl in
           subst P (sym same) (a ∙ sym b))
       | inr n ↦ (let n' : l.var ≢ t.lit.var = λ z. n (sym z) in ap (λ o. falsifies o t.lit.yes) (others t.lit.var n'))
@@ -54,7 +55,9 @@ same_variable ts degree n i j d hi hj e =
       ])
     ]
 
-pub only_term : (ts : List Term) (degree : ℕ) → IsNormal ts degree → (i : ℕ) (t : Term) → i < length ts → t ≡ get_or ts i t → (j : ℕ) (d : Term) → j < length ts → (get_or ts j d).lit.var ≡ t.lit.var → (get_or ts j d).lit ≡ t.lit
+-- a variable has one term
+pub only_term : (ts : List Term) (degree : ℕ) → IsNormal ts degree → (i : ℕ) (t : Term) → i < length ts → t ≡ get_or ts i t → (j : ℕ) (d : Term) → j < length ts
+    → (get_or ts j d).lit.var ≡ t.lit.var → (get_or ts j d).lit ≡ t.lit
 only_term ts degree normal i t h at j d l v =
     let at' : get_or ts i d ≡ t = get_or_default ts i d t h ∙ sym at in
     let k : j ≡ i = same_variable ts degree normal j i d l h (v ∙ ap (λ (u : Term). u.lit.var) (sym at')) in

@@ -23,12 +23,12 @@ scaled : (o : Bool) (n k : ℕ) → cond o (n * k) 0 ≡ n * cond o k 0
 scaled true n k = refl
 scaled false n k = sym (mul-zero n)
 
-times-weight : (v : ℕ → Bool) (n : ℕ) (ts : List Term) → true_weight v (map (multiplied n) ts) ≡ n * true_weight v ts
-times-weight v n [] = sym (mul-zero n)
-times-weight v n (t ∷ ts) =
+times_weight : (v : ℕ → Bool) (n : ℕ) (ts : List Term) → true_weight v (map (multiplied n) ts) ≡ n * true_weight v ts
+times_weight v n [] = sym (mul-zero n)
+times_weight v n (t ∷ ts) =
     let a = true_weight-cons v (multiplied n t) (map (multiplied n) ts) in
     let b = true_weight-cons v t ts in
-    let ih = times-weight v n ts in
+    let ih = times_weight v n ts in
     let here = scaled (lit_true v t.lit) n t.coef in
     let split = mul-add n (cond (lit_true v t.lit) t.coef 0) (true_weight v ts) in
     let whole : n * true_weight v (t ∷ ts) ≡ n * (cond (lit_true v t.lit) t.coef 0 + true_weight v ts) = ap (λ m. n * m) b in
@@ -37,17 +37,17 @@ times-weight v n (t ∷ ts) =
 -- a multiple holds where the constraint does
 pub times-holds : (v : ℕ → Bool) (n : ℕ) (c : Linear) → Holds v c → Holds v (times n c)
 times-holds v n c h =
-    let a = times-weight v n c.terms in
+    let a = times_weight v n c.terms in
     let b = mul-le n c.degree n (true_weight v c.terms) (omega arith) h in
     omega arith
 
 -- rounding up loses nothing
-pub up-times : (n m : ℕ) → 0 < n → m ≤ n * up n m
-up-times n m p = let a = (div_ceil_times m n p).0 in let b = mul_comm (up n m) n in omega arith
+pub up_times : (n m : ℕ) → 0 < n → m ≤ n * up n m
+up_times n m p = let a = (div_ceil_times m n p).0 in let b = mul_comm (up n m) n in omega arith
 
 -- the least number whose product is enough
-pub up-least : (n m k : ℕ) → 0 < n → m ≤ n * k → up n m ≤ k
-up-least n m k p h = elim (cases_lt k (up n m)) [
+pub up_least : (n m k : ℕ) → 0 < n → m ≤ n * k → up n m ≤ k
+up_least n m k p h = elim (cases_lt k (up n m)) [
   | inl l ↦ (let a = (div_ceil_times m n p).1 in
       let b = mul_comm (up n m) n in
       let c = mul-le n (k + 1) n (up n m) (omega arith) (omega arith) in
@@ -57,12 +57,12 @@ up-least n m k p h = elim (cases_lt k (up n m)) [
   | inr g ↦ g
 ]
 
-divide-weight : (v : ℕ → Bool) (n : ℕ) (ts : List Term) → 0 < n → true_weight v ts ≤ n * true_weight v (map (divided n) ts)
-divide-weight v n [] p = omega arith
-divide-weight v n (t ∷ ts) p =
+divide_weight : (v : ℕ → Bool) (n : ℕ) (ts : List Term) → 0 < n → true_weight v ts ≤ n * true_weight v (map (divided n) ts)
+divide_weight v n [] p = omega arith
+divide_weight v n (t ∷ ts) p =
     let a = true_weight-cons v (divided n t) (map (divided n) ts) in
     let b = true_weight-cons v t ts in
-    let ih = divide-weight v n ts p in
+    let ih = divide_weight v n ts p in
     let here = scaled (lit_true v t.lit) n (up n t.coef) in
     let most : cond (lit_true v t.lit) t.coef 0 ≤ cond (lit_true v t.lit) (n * up n t.coef) 0 = go (lit_true v t.lit) in
     let split = mul-add n (cond (lit_true v t.lit) (up n t.coef) 0) (true_weight v (map (divided n) ts)) in
@@ -70,14 +70,14 @@ divide-weight v n (t ∷ ts) p =
     omega arith
   where
     go : (o : Bool) → cond o t.coef 0 ≤ cond o (n * up n t.coef) 0
-    go true = up-times n t.coef p
+    go true = up_times n t.coef p
     go false = omega arith
 
 -- division, rounded up, keeps what holds
 pub divide-holds : (v : ℕ → Bool) (n : ℕ) (c : Linear) → 0 < n → Holds v c → Holds v (divide n c)
 divide-holds v n c p h =
-    let w = divide-weight v n c.terms p in
-    up-least n c.degree (true_weight v (map (divided n) c.terms)) p (omega arith)
+    let w = divide_weight v n c.terms p in
+    up_least n c.degree (true_weight v (map (divided n) c.terms)) p (omega arith)
 
 cut-weight : (v : ℕ → Bool) (d : ℕ) (ts : List Term) → min d (true_weight v ts) ≤ true_weight v (cut d ts)
 cut-weight v d [] = omega arith
@@ -148,37 +148,37 @@ module _ (context : Context) (P : Linear → Type 0) (k : IsKept context P) wher
   put a st after p all e = subst (All P) (sym e) (All-cons P a st p all)
 
   -- one operation keeps it
-  apply-keeps : (o : Op) (st after : List Linear) → All P st → Carried context after o st → All P after
-  apply-keeps (Id i) st after all (by_id c small there is) = put c st after (k.standing i c there) all is
-  apply-keeps (Axiom l) st after all (by_axiom small known is) = put (axiom_of l) st after (k.axioms l known) all is
-  apply-keeps Add [] after all h = elim h [ ]
-  apply-keeps Add (b ∷ []) after all h = elim h [ ]
-  apply-keeps Add (b ∷ a ∷ st) after all (by_sum small is) =
+  apply_keeps : (o : Op) (st after : List Linear) → All P st → Carried context after o st → All P after
+  apply_keeps (Id i) st after all (by_id c small there is) = put c st after (k.standing i c there) all is
+  apply_keeps (Axiom l) st after all (by_axiom small known is) = put (axiom_of l) st after (k.axioms l known) all is
+  apply_keeps Add [] after all h = elim h [ ]
+  apply_keeps Add (b ∷ []) after all h = elim h [ ]
+  apply_keeps Add (b ∷ a ∷ st) after all (by_sum small is) =
       let rest = All-tail P b (a ∷ st) all in
       put (add a b) st after (k.sums a b (All-head P a st rest) (All-head P b (a ∷ st) all) small) (All-tail P a st rest) is
-  apply-keeps (Times n) [] after all h = elim h [ ]
-  apply-keeps (Times n) (a ∷ st) after all (by_factor positive small fits is) = put (times n a) st after (k.multiples n a positive (All-head P a st all) fits) (All-tail P a st all) is
-  apply-keeps (Divide n) [] after all h = elim h [ ]
-  apply-keeps (Divide n) (a ∷ st) after all (by_divisor positive small is) = put (divide n a) st after (k.quotients n a positive (All-head P a st all)) (All-tail P a st all) is
-  apply-keeps Saturate [] after all h = elim h [ ]
-  apply-keeps Saturate (a ∷ st) after all (by_cut is) = put (saturate a) st after (k.cuts a (All-head P a st all)) (All-tail P a st all) is
-  apply-keeps (Weaken x) [] after all h = elim h [ ]
-  apply-keeps (Weaken x) (a ∷ st) after all (by_weakening small known is) = put (weaken x a) st after (k.weaker x a (All-head P a st all)) (All-tail P a st all) is
+  apply_keeps (Times n) [] after all h = elim h [ ]
+  apply_keeps (Times n) (a ∷ st) after all (by_factor positive small fits is) = put (times n a) st after (k.multiples n a positive (All-head P a st all) fits) (All-tail P a st all) is
+  apply_keeps (Divide n) [] after all h = elim h [ ]
+  apply_keeps (Divide n) (a ∷ st) after all (by_divisor positive small is) = put (divide n a) st after (k.quotients n a positive (All-head P a st all)) (All-tail P a st all) is
+  apply_keeps Saturate [] after all h = elim h [ ]
+  apply_keeps Saturate (a ∷ st) after all (by_cut is) = put (saturate a) st after (k.cuts a (All-head P a st all)) (All-tail P a st all) is
+  apply_keeps (Weaken x) [] after all h = elim h [ ]
+  apply_keeps (Weaken x) (a ∷ st) after all (by_weakening small known is) = put (weaken x a) st after (k.weaker x a (All-head P a st all)) (All-tail P a st all) is
 
   -- operations one after another keep it
-  apply_all-keeps : (os : List Op) (st after : List Linear) → All P st → apply_all context os st ≡ Ok after → All P after
-  apply_all-keeps [] st after all e = let q : st ≡ after = cc in subst (All P) q all
-  apply_all-keeps (o ∷ os) st after all e =
+  apply_all_keeps : (os : List Op) (st after : List Linear) → All P st → apply_all context os st ≡ Ok after → All P after
+  apply_all_keeps [] st after all e = let q : st ≡ after = cc in subst (All P) q all
+  apply_all_keeps (o ∷ os) st after all e =
       let s = first_op context o os st after e in
-      apply_all-keeps os s.0 after (apply-keeps o st s.0 all (carried context o st s.0 s.1)) s.2
+      apply_all_keeps os s.0 after (apply_keeps o st s.0 all (carried context o st s.0 s.1)) s.2
 
   -- and so does a line
-  pub line-keeps : (os : List Op) (c : Linear) → line_gives context os ≡ Ok c → P c
-  line-keeps os c e = All-head P c [] (apply_all-keeps os [] (c ∷ []) (All-nil P) (line_stack context os c e))
+  pub line_keeps : (os : List Op) (c : Linear) → line_gives context os ≡ Ok c → P c
+  line_keeps os c e = All-head P c [] (apply_all_keeps os [] (c ∷ []) (All-nil P) (line_stack context os c e))
 
 -- each rule keeps what holds under an assignment
-holds-kept : (v : ℕ → Bool) (context : Context) → ((id : ℕ) (c : Linear) → context.live id ≡ Some c → Holds v c) → IsKept context (Holds v)
-holds-kept v context live = record {
+holds_kept : (v : ℕ → Bool) (context : Context) → ((id : ℕ) (c : Linear) → context.live id ≡ Some c → Holds v c) → IsKept context (Holds v)
+holds_kept v context live = record {
   standing = live;
   axioms = λ l known. axiom-holds v l;
   sums = λ a b p q x. add-holds v a b p q;
@@ -189,5 +189,5 @@ holds-kept v context live = record {
 }
 
 -- a line is sound: an assignment under which all that is live holds satisfies what it gives
-pub line-sound : (v : ℕ → Bool) (context : Context) (os : List Op) (c : Linear) → ((id : ℕ) (c : Linear) → context.live id ≡ Some c → Holds v c) → line_gives context os ≡ Ok c → Holds v c
-line-sound v context os c live e = line-keeps context (Holds v) (holds-kept v context live) os c e
+pub line_sound : (v : ℕ → Bool) (context : Context) (os : List Op) (c : Linear) → ((id : ℕ) (c : Linear) → context.live id ≡ Some c → Holds v c) → line_gives context os ≡ Ok c → Holds v c
+line_sound v context os c live e = line_keeps context (Holds v) (holds_kept v context live) os c e

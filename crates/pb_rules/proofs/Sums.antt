@@ -10,11 +10,13 @@ use Rattle.pb_rules.specs.CuttingPlanes.{Sum, same_sign, onto, joined, merge_one
 abbrev part : (ℕ → Bool) → Term → ℕ
 part v t = cond (lit_true v t.lit) t.coef 0
 
+-- the true weight with one term more
 pub true_weight-cons : (v : ℕ → Bool) (t : Term) (ts : List Term) → true_weight v (t ∷ ts) ≡ part v t + true_weight v ts
 true_weight-cons v t ts = sum_by-cons (part v) t ts
 
 -- opposite literals: exactly one is true
-opposite : (b y z : Bool) → same_sign y z ≡ false → (((k : ℕ) → cond (cond y b (not b)) k 0 ≡ k) × ((k : ℕ) → cond (cond z b (not b)) k 0 ≡ 0)) ⊎ (((k : ℕ) → cond (cond y b (not b)) k 0 ≡ 0) × ((k : ℕ) → cond (cond z b (not b)) k 0 ≡ k))
+opposite : (b y z : Bool) → same_sign y z ≡ false → (((k : ℕ) → cond (cond y b (not b)) k 0 ≡ k) × ((k : ℕ) → cond (cond z b (not b)) k 0 ≡ 0))
+    ⊎ (((k : ℕ) → cond (cond y b (not b)) k 0 ≡ 0) × ((k : ℕ) → cond (cond z b (not b)) k 0 ≡ k))
 opposite b true true h = absurd (cc)
 opposite true true false h = inl (λ k. refl, λ k. refl)
 opposite false true false h = inr (λ k. refl, λ k. refl)
@@ -22,13 +24,15 @@ opposite true false true h = inr (λ k. refl, λ k. refl)
 opposite false false true h = inl (λ k. refl, λ k. refl)
 opposite b false false h = absurd (cc)
 
+-- signs that the test calls the same are
 pub alike : (y z : Bool) → same_sign y z ≡ true → y ≡ z
 alike true true h = refl
 alike true false h = sym h
 alike false true h = h
 alike false false h = refl
 
-joined-weight : (v : ℕ → Bool) (t u : Term) (s : Sum) → t.lit.var ≡ u.lit.var → true_weight v (joined t u s).terms + (joined t u s).cancelled ≡ part v t + (part v u + (true_weight v s.terms + s.cancelled))
+joined-weight : (v : ℕ → Bool) (t u : Term) (s : Sum) → t.lit.var ≡ u.lit.var → true_weight v (joined t u s).terms + (joined t u s).cancelled ≡ part v t
+    + (part v u + (true_weight v s.terms + s.cancelled))
 joined-weight v t u sum e = go (same_sign t.lit.yes u.lit.yes) refl
   where
     G : Sum → Type 0
@@ -55,7 +59,11 @@ joined-weight v t u sum e = go (same_sign t.lit.yes u.lit.yes) refl
           | inl q ↦ (
               let test : eqb t.coef u.coef ≡ true = grind (arith, nat_tests) in
               let j : joined t u sum ≡ record { terms = sum.terms; cancelled = sum.cancelled + t.coef } = rw (s, test) refl in
-              subst G (sym j) (elim (opposite w t.lit.yes u.lit.yes s) [ inl o ↦ omega (arith, o.0 t.coef, o.0 u.coef, o.1 t.coef, o.1 u.coef) | inr o ↦ omega (arith, o.0 t.coef, o.0 u.coef, o.1 t.coef, o.1 u.coef) ]))
+              subst G (sym j) (elim (opposite w t.lit.yes u.lit.yes s) [
+                | inl o ↦ omega (arith, o.0 t.coef, o.0 u.coef, o.1 t.coef, o.1 u.coef)
+                | inr o ↦
+                    omega (arith, o.0 t.coef, o.0 u.coef, o.1 t.coef, o.1 u.coef)
+              ]))
           | inr n ↦ (
               let test : eqb t.coef u.coef ≡ false = grind (arith, nat_tests) in
               elim (cases_lt t.coef u.coef) [
@@ -65,7 +73,11 @@ joined-weight v t u sum e = go (same_sign t.lit.yes u.lit.yes) refl
                     let j : joined t u sum ≡ record { terms = r ∷ sum.terms; cancelled = sum.cancelled + t.coef } = rw (s, test, test2) refl in
                     let c = true_weight-cons v r sum.terms in
                     let m = minus (lit_true v u.lit) u.coef t.coef in
-                    subst G (sym j) (elim (opposite w t.lit.yes u.lit.yes s) [ inl o ↦ omega (arith, o.0 t.coef, o.0 u.coef, o.1 t.coef, o.1 u.coef) | inr o ↦ omega (arith, o.0 t.coef, o.0 u.coef, o.1 t.coef, o.1 u.coef) ]))
+                    subst G (sym j) (elim (opposite w t.lit.yes u.lit.yes s) [
+                      | inl o ↦ omega (arith, o.0 t.coef, o.0 u.coef, o.1 t.coef, o.1 u.coef)
+                      | inr o ↦
+                          omega (arith, o.0 t.coef, o.0 u.coef, o.1 t.coef, o.1 u.coef)
+                    ]))
                 | inr g ↦ (
                     let test2 : ltb t.coef u.coef ≡ false = grind (arith, nat_tests) in
                     let r : Term = record { coef = t.coef - u.coef; lit = t.lit } in
@@ -74,7 +86,11 @@ joined-weight v t u sum e = go (same_sign t.lit.yes u.lit.yes) refl
                     let m = minus (lit_true v t.lit) t.coef u.coef in
                     let at-r : part v r ≡ cond (cond t.lit.yes w (not w)) (t.coef - u.coef) 0 = ap (λ (x : ℕ). cond (cond t.lit.yes (v x) (not (v x))) (t.coef - u.coef) 0) e in
                     let m' = minus (cond t.lit.yes w (not w)) t.coef u.coef in
-                    subst G (sym j) (elim (opposite w t.lit.yes u.lit.yes s) [ inl o ↦ omega (arith, o.0 t.coef, o.0 u.coef, o.1 t.coef, o.1 u.coef) | inr o ↦ omega (arith, o.0 t.coef, o.0 u.coef, o.1 t.coef, o.1 u.coef) ]))
+                    subst G (sym j) (elim (opposite w t.lit.yes u.lit.yes s) [
+                      | inl o ↦ omega (arith, o.0 t.coef, o.0 u.coef, o.1 t.coef, o.1 u.coef)
+                      | inr o ↦
+                          omega (arith, o.0 t.coef, o.0 u.coef, o.1 t.coef, o.1 u.coef)
+                    ]))
               ])
         ]
       where
@@ -82,7 +98,8 @@ joined-weight v t u sum e = go (same_sign t.lit.yes u.lit.yes) refl
         minus true m n = refl
         minus false m n = refl
 
-merge_one-weight : (v : ℕ → Bool) (t : Term) (f : List Term → Sum) (m : ℕ) → ((us : List Term) → true_weight v (f us).terms + (f us).cancelled ≡ m + true_weight v us) → (us : List Term) → true_weight v (merge_one t f us).terms + (merge_one t f us).cancelled ≡ part v t + m + true_weight v us
+merge_one-weight : (v : ℕ → Bool) (t : Term) (f : List Term → Sum) (m : ℕ) → ((us : List Term) → true_weight v (f us).terms + (f us).cancelled ≡ m + true_weight v us) → (us : List Term)
+    → true_weight v (merge_one t f us).terms + (merge_one t f us).cancelled ≡ part v t + m + true_weight v us
 merge_one-weight v t f m h [] = let c = true_weight-cons v t (f []).terms in let g = h [] in omega arith
 merge_one-weight v t f m h (u ∷ us) =
     let ih = merge_one-weight v t f m h us in

@@ -173,7 +173,8 @@ abbrev small_frame : Frame
 small_frame = record { base = base; block = λ b v. at_least 1 (on b 4 ∷ []) ∷ contradiction ∷ [] }
 
 -- a derived line's constraint has the next id, and so have those of a block, which brings its variables
-lines_give : derived_by small_frame (derived (Id 1 ∷ Divide 2 ∷ []) ∷ cover (7 ∷ []) ∷ derived (Id 5 ∷ Id 6 ∷ Add ∷ []) ∷ derived (Id 7 ∷ Weaken 4 ∷ []) ∷ []) ≡ at_least 1 (on 1 0 ∷ on 1 1 ∷ on 1 2 ∷ []) ∷ at_least 2 (on 1 0 ∷ on 1 1 ∷ on 1 2 ∷ on 1 4 ∷ []) ∷ contradiction ∷ []
+lines_give : derived_by small_frame (derived (Id 1 ∷ Divide 2 ∷ []) ∷ cover (7 ∷ []) ∷ derived (Id 5 ∷ Id 6 ∷ Add ∷ []) ∷ derived (Id 7 ∷ Weaken 4 ∷ []) ∷ [])
+    ≡ at_least 1 (on 1 0 ∷ on 1 1 ∷ on 1 2 ∷ []) ∷ at_least 2 (on 1 0 ∷ on 1 1 ∷ on 1 2 ∷ on 1 4 ∷ []) ∷ contradiction ∷ []
 lines_give = refl
 
 -- before its cover a block's constraint isn't there, and neither is its variable

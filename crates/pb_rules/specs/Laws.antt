@@ -19,11 +19,15 @@ IdsAreCounted = (f : Frame) (g : Given) (ls : List Line) → IsFrame f → given
 
 -- one legal derived line more gives its constraint more
 abbrev pub LineGivesOne : Type 0
-LineGivesOne = (f : Frame) (g : Given) (ls : List Line) (ops : List Op) (c : Linear) → given_by f ls ≡ Some g → line_gives (context_of g) ops ≡ Ok c → given_by f (ls ++ derived ops ∷ []) ≡ Some (with_derived g c)
+LineGivesOne =
+    (f : Frame) (g : Given) (ls : List Line) (ops : List Op) (c : Linear) → given_by f ls ≡ Some g → line_gives (context_of g) ops ≡ Ok c
+    → given_by f (ls ++ derived ops ∷ []) ≡ Some (with_derived g c)
 
 -- which is one more of those that the derived lines give
 abbrev pub LineDerivesOne : Type 0
-LineDerivesOne = (f : Frame) (g : Given) (ls : List Line) (ops : List Op) (c : Linear) → given_by f ls ≡ Some g → line_gives (context_of g) ops ≡ Ok c → derived_by f (ls ++ derived ops ∷ []) ≡ derived_by f ls ++ c ∷ []
+LineDerivesOne =
+    (f : Frame) (g : Given) (ls : List Line) (ops : List Op) (c : Linear) → given_by f ls ≡ Some g → line_gives (context_of g) ops ≡ Ok c
+    → derived_by f (ls ++ derived ops ∷ []) ≡ derived_by f ls ++ c ∷ []
 
 -- what lines gave knows the variables of all that is live
 abbrev pub GivenKnowsLive : Type 0

@@ -77,7 +77,8 @@ for_two [] = Err no_step
 for_two (a ∷ []) = Err no_step
 for_two (b ∷ a ∷ st) = push st (fits (add a b))
 
--- one operation over a context and a stack, its top first. A number that no line may have is no step; then an id or a variable that isn't there, or a divisor of 0, counts; then a missing operand or a factor of 0, which is no step; and then a result that is too large
+-- one operation over a context and a stack, its top first. A number that no line may have is no step; then an id or a variable that isn't there, or a divisor of 0,
+-- counts; then a missing operand or a factor of 0, which is no step; and then a result that is too large
 abbrev pub apply : Context → Op → List Linear → Result (List Linear) Fault
 apply context (Id i) st = if_small i (push st (ok_or (context.live i) (unknown i)))
 apply context (Axiom l) st = if_small l.var (if_known context l.var (Ok (axiom_of l ∷ st)))

@@ -1,7 +1,7 @@
 -- Vectors that rise, and entries without fault.
 use Rattle.std.proofs.Common.{◌≡◌, ℕ, zero, suc, ◌+◌, ◌-◌, ◌<◌, ◌≤◌, true, false, eqb, List, [], ◌∷◌, length, map, take, get_or, refl, sym, ap, ◌∙◌, subst, arith, inl, inr}
-use Rattle.std.specs.Prelude.{All, slice_index, slice_index_or}
-use Rattle.std.proofs.lemmas.Bool.{cases_lt, cases_eq}
+use Rattle.std.specs.Prelude.{All, slice_index_or}
+use Rattle.std.proofs.lemmas.Bool.{cases_lt}
 use Rattle.std.proofs.lemmas.List.{get_or-map, length-map, get_or-take, length-take}
 use Rattle.spec_model.specs.Spec.{SpecValue}
 use Rattle.spec_model.specs.Vectors.{IsAtMost}
@@ -13,6 +13,7 @@ use Rattle.std.proofs.lemmas.List.Elements.{All-map, All-take}
 use Rattle.front_model.specs.declared.refusals.FrontWhy.{FrontWhy}
 use Rattle.front_model.specs.declared.refusals.FrontWhy.TheVariants.{Invalid, VectorDiffers, NotRising, CoveredBy, Open}
 use Rattle.front_model.specs.Faults.{StandsAfter, IsFine, HasFault, IsFaultAt, FaultOf, earlier}
+use Rattle.front_model.proofs.Rising.{through}
 use Rattle.proof_checker.specs.Answers.{AllLong}
 use Rattle.proof_checker.specs.Checkers.{vectors_in}
 
@@ -41,41 +42,7 @@ of_after es e v some is h =
     let at : get_or (vectors_in es) (length (vectors_in es) - 1) [] ≡ e.vector = ap (λ (k : ℕ). get_or (vectors_in es) k []) n ∙ vector_at es (length es - 1) e [] (omega (arith, some)) is in
     subst (λ (u : List ℕ). StandsBefore u v) at (h [] (omega (arith, some, vectors_long es)))
 
-pub after_none : (es : List Entry) (v : List ℕ) → length es ≡ 0 → StandsAfter (vectors_in es) v
-after_none es v e d l = absurd (omega (arith, e, l, vectors_long es))
-
 -- ---- rising
-
-through : (u v w : List ℕ) → StandsBefore u v → StandsBefore v w → StandsBefore u w
-through u v w a b =
-    elim (cases_lt a.place b.place) [
-      | inl l ↦ record {
-        place = a.place;
-        same = λ j k. a.same j k ∙ b.same j (omega (arith, k, l));
-        less = omega (arith, a.less, b.same a.place l);
-      }
-      | inr g ↦ elim (cases_eq a.place b.place) [
-        | inl e ↦ record {
-          place = a.place;
-          same = λ j k. a.same j k ∙ b.same j (omega (arith, k, e));
-          less = omega (arith, a.less, subst (λ (p : ℕ). slice_index v p < slice_index w p) (sym e) b.less);
-        }
-        | inr n ↦
-            let l : b.place < a.place = below b.place a.place g n in
-            record {
-              place = b.place;
-              same = λ j k. a.same j (omega (arith, k, l)) ∙ b.same j k;
-              less = omega (arith, a.same b.place l, b.less);
-            }
-      ]
-    ]
-  where
-    below : (p q : ℕ) → p ≤ q → (q ≡ p → ⊥) → p < q
-    below p q h n =
-        elim (cases_lt p q) [
-          | inl l ↦ l
-          | inr g ↦ absurd (n (omega (arith, h, g)))
-        ]
 
 not_back : (u v : List ℕ) → StandsBefore u v → ¬ IsAtMost v u
 not_back u v a h = omega (arith, a.less, h a.place)
@@ -94,17 +61,17 @@ module _ (s : SpecValue) (front : FrontValue) (fine : AllFine s front (length fr
   at : (k : ℕ) (d : List ℕ) (e : EntryValue) → k < length front.entries → get_or (vectors_of front) k d ≡ (get_or front.entries k e).vector
   at k d e l = get_or-map vector_in front.entries k e d l
 
-  none : EntryValue
-  none = record { design = []; vector = [] }
-
   next : (k : ℕ) (d : List ℕ) → k + 1 < length front.entries → StandsBefore (get_or (vectors_of front) k d) (get_or (vectors_of front) (k + 1) d)
   next k d l =
       let blank : EntryValue = record { design = []; vector = [] } in
       let h = fine (k + 1) blank l in
       let n : length (take (k + 1) (vectors_of front)) ≡ k + 1 = omega (arith, length-take (k + 1) (vectors_of front), l, many) in
       let b = h.after d (omega (arith, n)) in
-      let is : get_or (take (k + 1) (vectors_of front)) (length (take (k + 1) (vectors_of front)) - 1) d ≡ get_or (vectors_of front) k d = (let m : length (take (k + 1) (vectors_of front)) - 1 ≡ k = omega (arith, n) in ap (λ (i : ℕ). get_or (take (k + 1) (vectors_of front)) i d) m ∙ get_or-take (k + 1) (vectors_of front) k d (omega arith)) in
-      subst (λ (u : List ℕ). StandsBefore u (get_or (vectors_of front) (k + 1) d)) is (subst (λ (w : List ℕ). StandsBefore (get_or (take (k + 1) (vectors_of front)) (length (take (k + 1) (vectors_of front)) - 1) d) w) (sym (at (k + 1) d blank l)) b)
+      let is : get_or (take (k + 1) (vectors_of front)) (length (take (k + 1) (vectors_of front)) - 1) d ≡ get_or (vectors_of front) k d =
+      (let m : length (take (k + 1) (vectors_of front)) - 1 ≡ k = omega (arith, n) in ap (λ (i : ℕ). get_or (take (k + 1) (vectors_of front)) i d) m
+      ∙ get_or-take (k + 1) (vectors_of front) k d (omega arith)) in
+      subst (λ (u : List ℕ). StandsBefore u (get_or (vectors_of front) (k + 1) d)) is (subst (λ (w : List ℕ).
+      StandsBefore (get_or (take (k + 1) (vectors_of front)) (length (take (k + 1) (vectors_of front)) - 1) d) w) (sym (at (k + 1) d blank l)) b)
 
   rise_by : (m i : ℕ) (d : List ℕ) → i + suc m < length front.entries → StandsBefore (get_or (vectors_of front) i d) (get_or (vectors_of front) (i + suc m) d)
   rise_by zero i d l = next i d l
@@ -125,7 +92,8 @@ module _ (s : SpecValue) (front : FrontValue) (fine : AllFine s front (length fr
       let there : j < length front.entries = omega (arith, l, many) in
       let x = fine j blank there in
       let n : length (take j (vectors_of front)) ≡ j = omega (arith, length-take j (vectors_of front), l) in
-      let here : IsAtMost (get_or (take j (vectors_of front)) i d) (get_or (vectors_of front) j d) = subst (λ (u : List ℕ). IsAtMost u (get_or (vectors_of front) j d)) (sym (get_or-take j (vectors_of front) i d lt)) h in
+      let here : IsAtMost (get_or (take j (vectors_of front)) i d) (get_or (vectors_of front) j d) =
+      subst (λ (u : List ℕ). IsAtMost u (get_or (vectors_of front) j d)) (sym (get_or-take j (vectors_of front) i d lt)) h in
       x.apart i d (omega (arith, lt, n)) (subst (λ (w : List ℕ). IsAtMost (get_or (take j (vectors_of front)) i d) w) (at j d blank there) here)
 
   pub claim_of : front.complete ≡ true → IsClaim s front
@@ -148,6 +116,7 @@ module _ (s : SpecValue) (front : FrontValue) (fine : AllFine s front (length fr
 
 -- ---- along the entries
 
+-- a number that isn't 0 is more
 pub some_of : (n : ℕ) → eqb n 0 ≡ false → 0 < n
 some_of zero e = absurd (let c : true ≡ false = e in cc)
 some_of (suc n) e = omega arith
@@ -165,34 +134,41 @@ seen_at entries es i e d same l is =
     let there : get_or (map as_seen es) i d ≡ as_seen e = get_or-map as_seen es i e d l ∙ ap as_seen (sym is) in
     sym there ∙ ap (λ (xs : List EntryValue). get_or xs i d) same
 
-pub shaped_long : (s : SpecValue) (front : FrontValue) (es : List Entry) (i : ℕ) → map as_seen es ≡ front.entries → All (IsShaped s) front.entries → AllLong (length s.objectives) (vectors_in (take i es))
+pub shaped_long : (s : SpecValue) (front : FrontValue) (es : List Entry) (i : ℕ) → map as_seen es ≡ front.entries → All (IsShaped s) front.entries
+    → AllLong (length s.objectives) (vectors_in (take i es))
 shaped_long s front es i same h =
     let all : AllLong (length s.objectives) (vectors_of front) = All-map (λ (u : List ℕ). length u ≡ length s.objectives) vector_in front.entries (λ k d l. (h k d l).one_each) in
     subst (AllLong (length s.objectives)) (sym (earlier_is front es i same)) (All-take (λ (u : List ℕ). length u ≡ length s.objectives) i (vectors_of front) all)
 
-pub one_more_fine : (s : SpecValue) (front : FrontValue) (es : List Entry) (i : ℕ) (e : Entry) → map as_seen es ≡ front.entries → i < length es → e ≡ get_or es i e → AllFine s front i → IsFine s (vectors_in (take i es)) (as_seen e) → AllFine s front (i + 1)
+pub one_more_fine : (s : SpecValue) (front : FrontValue) (es : List Entry) (i : ℕ) (e : Entry) → map as_seen es ≡ front.entries → i < length es → e ≡ get_or es i e → AllFine s front i
+    → IsFine s (vectors_in (take i es)) (as_seen e) → AllFine s front (i + 1)
 one_more_fine s front es i e same l is fine here k d m =
     elim (cases_lt k i) [
       | inl before ↦ fine k d before
       | inr g ↦
           let at : i ≡ k = omega (arith, m, g) in
           subst (λ (j : ℕ). IsFine s (earlier front j) (get_or front.entries j d)) at
-          (subst (λ (x : EntryValue). IsFine s (earlier front i) x) (seen_at front.entries es i e d same l is) (subst (λ (us : List (List ℕ)). IsFine s us (as_seen e)) (earlier_is front es i same) here))
+          (subst (λ (x : EntryValue). IsFine s (earlier front i) x) (seen_at front.entries es i e d same l is)
+          (subst (λ (us : List (List ℕ)). IsFine s us (as_seen e)) (earlier_is front es i same) here))
     ]
 
-fault_is : (s : SpecValue) (front : FrontValue) (i : ℕ) (why : FrontWhy) → i < length front.entries → ((d : EntryValue) → HasFault s (earlier front i) (get_or front.entries i d) why) → AllFine s front i → (0 < i + 1) × IsFaultAt s front ((i + 1) - 1) why
+fault_is : (s : SpecValue) (front : FrontValue) (i : ℕ) (why : FrontWhy) → i < length front.entries → ((d : EntryValue) → HasFault s (earlier front i) (get_or front.entries i d) why)
+    → AllFine s front i → (0 < i + 1) × IsFaultAt s front ((i + 1) - 1) why
 fault_is s front i why l h fine =
     let e : i ≡ (i + 1) - 1 = omega arith in
     (omega arith, subst (λ (k : ℕ). IsFaultAt s front k why) e (record { in_range = l; fault = h; first = fine }))
 
-pub fault_at : (s : SpecValue) (front : FrontValue) (i : ℕ) (why : FrontWhy) → i < length front.entries → ((d : EntryValue) → HasFault s (earlier front i) (get_or front.entries i d) why) → AllFine s front i → FaultOf s front (i + 1) why
+pub fault_at : (s : SpecValue) (front : FrontValue) (i : ℕ) (why : FrontWhy) → i < length front.entries → ((d : EntryValue) → HasFault s (earlier front i) (get_or front.entries i d) why)
+    → AllFine s front i → FaultOf s front (i + 1) why
 fault_at s front i (Invalid rule) l h fine = fault_is s front i (Invalid rule) l h fine
 fault_at s front i (VectorDiffers j) l h fine = fault_is s front i (VectorDiffers j) l h fine
 fault_at s front i NotRising l h fine = fault_is s front i NotRising l h fine
 fault_at s front i (CoveredBy j) l h fine = fault_is s front i (CoveredBy j) l h fine
 fault_at s front i Open l h fine = absurd (h (record { design = []; vector = [] }))
 
-pub fault_of_entry : (s : SpecValue) (front : FrontValue) (es : List Entry) (i : ℕ) (e : Entry) (why : FrontWhy) → map as_seen es ≡ front.entries → i < length es → e ≡ get_or es i e → HasFault s (vectors_in (take i es)) (as_seen e) why → AllFine s front i → FaultOf s front (i + 1) why
+pub fault_of_entry : (s : SpecValue) (front : FrontValue) (es : List Entry) (i : ℕ) (e : Entry) (why : FrontWhy) → map as_seen es ≡ front.entries → i < length es → e ≡ get_or es i e
+    → HasFault s (vectors_in (take i es)) (as_seen e) why → AllFine s front i → FaultOf s front (i + 1) why
 fault_of_entry s front es i e why same l is h fine =
     fault_at s front i why (omega (arith, l, ap length same, length-map es as_seen))
-    (λ d. subst (λ (x : EntryValue). HasFault s (earlier front i) x why) (seen_at front.entries es i e d same l is) (subst (λ (us : List (List ℕ)). HasFault s us (as_seen e) why) (earlier_is front es i same) h)) fine
+    (λ d. subst (λ (x : EntryValue). HasFault s (earlier front i) x why) (seen_at front.entries es i e d same l is)
+    (subst (λ (us : List (List ℕ)). HasFault s us (as_seen e) why) (earlier_is front es i same) h)) fine

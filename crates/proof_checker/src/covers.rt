@@ -2,7 +2,7 @@
 
 ghost use Rattle.std.specs.Prelude.{◌≡◌, ◌<◌, ◌≤◌, ◌^◌, length, map, option_map, IfOk};
 ghost use Rattle.std.specs.List.{list_any};
-ghost use Rattle.proof_words.specs.Words.{number_of};
+ghost use Rattle.proof_words.specs.Words.{numeral_number};
 ghost use Rattle.result_text.specs.Fronts.{front_of};
 ghost use Rattle.front_model.specs.Fronts.{vectors_of};
 ghost use Rattle.front_model.specs.Judging.{numbers_of, first_above, is_at_most, judge_numbers, judge_cover};
@@ -18,7 +18,7 @@ use std::alloc::{AllocError, Global};
 
 /// The number that a word writes, where it is a numeral.
 fn number_of(word: &[u8]) -> Option<u64>
-    ensures { result ≡ number_of word.now }
+    ensures { result ≡ numeral_number word.now }
 {
     match std::str::from_utf8(word) {
         Ok(text) => plain_whole(text).ok(),

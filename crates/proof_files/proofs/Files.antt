@@ -5,19 +5,16 @@ use Rattle.desk_io.specs.Files.{Files}
 use Rattle.pb_rules.specs.Frames.{Line}
 use Rattle.proof_log.specs.Log.{LogValue}
 use Rattle.proof_log.specs.Text.{proof_text}
-use Rattle.proof_log.specs.Files.{OfFile, LegalReadBack, AreLegal}
+use Rattle.proof_log.specs.Files.{LegalReadBack}
+use Rattle.proof_log.proofs.Legal.{of_lines}
 use Rattle.spec_model.specs.Spec.{SpecValue}
-use Rattle.encode_model.specs.Block.{cover_frame}
 use Rattle.result_text.specs.Fronts.{front_text, IsShaped}
 use Rattle.front_model.specs.Fronts.{IsClaim, IsEntry}
 use Rattle.front_model.specs.Proofs.{AcceptsTexts, Refute}
 use Rattle.file_writes.specs.Writes.{WritesIfNamed}
 use Rattle.proof_files.specs.Proving.{LinesRefute, RefuteAll, Refutes, no_entries}
 use Rattle.proof_files.specs.Writing.{files_of}
-
--- legal lines are those of their file
-pub of_lines : LegalReadBack → (P : List Line → Type 0) (s : SpecValue) (ls : List Line) → AreLegal (cover_frame s) ls → P ls → OfFile P (proof_text ls)
-of_lines back P s ls legal h = record { lines = ls; read = back (cover_frame s) legal.0 ls legal.1; holds = h }
+use Rattle.encode_model.specs.Block.{cover_frame}
 
 -- what is written where a file may be named
 pub written : (proof : Option (List ℕ)) (log : LogValue) (writes : Files) (P : List ℕ → Type 0) → writes ≡ files_of proof log → P (proof_text log.lines) → WritesIfNamed proof P writes
@@ -42,4 +39,4 @@ accepted s ls h = record {
 
 -- the file of lines that refute
 pub refutes_file : LegalReadBack → (s : SpecValue) (budget : Option ℕ) (ls : List Line) → RefuteAll s budget ls → Refutes s budget (proof_text ls)
-refutes_file back s budget ls h = record { accepted = accepted s ls h.refute; lines = of_lines back (LinesRefute s budget) s ls h.lines.legal h.lines }
+refutes_file back s budget ls h = record { accepted = accepted s ls h.refute; lines = of_lines back (LinesRefute s budget) (cover_frame s) ls h.lines.legal h.lines }

@@ -21,7 +21,8 @@ gives_one (Ok d) c e = let q : d ≡ c = cc in ap Ok q
 gives_one (Err f) c e = absurd (cc)
 
 -- the last line of a refutation derives `0 >= 1`
-last_gives : (f : Frame) (g h : Given) (steps : List Line) (ops : List Op) → given_from f g steps ≡ Some h → derived_from f g (steps ++ derived ops ∷ []) ≡ derived_from f g steps ++ contradiction ∷ [] → line_gives (context_of h) ops ≡ Ok contradiction
+last_gives : (f : Frame) (g h : Given) (steps : List Line) (ops : List Op) → given_from f g steps ≡ Some h
+    → derived_from f g (steps ++ derived ops ∷ []) ≡ derived_from f g steps ++ contradiction ∷ [] → line_gives (context_of h) ops ≡ Ok contradiction
 last_gives f g h steps ops legal e =
     let rest : derived_from f h (derived ops ∷ []) ≡ contradiction ∷ [] = append_cancel_left (derived_from f g steps) _ _ (sym (derived-append f g h steps (derived ops ∷ []) legal) ∙ e) in
     gives_one (line_gives (context_of h) ops) contradiction rest
@@ -34,7 +35,8 @@ no_covers s us ls each = λ k d l. one (get_or ls k d) (each k d l)
     one (derived ops) e = tt
     one (cover v) e = absurd (cc)
 
-refutes : (s : SpecValue) (steps : List Line) (last : Line) (ls : List Line) → All (λ l. is_derived l ≡ true) ls → is_derived last ≡ true → ls ≡ steps ++ last ∷ [] → (h : Given) → given_by (cover_frame s) steps ≡ Some h → derived_by (cover_frame s) ls ≡ derived_by (cover_frame s) steps ++ contradiction ∷ [] → Refute s [] ls
+refutes : (s : SpecValue) (steps : List Line) (last : Line) (ls : List Line) → All (λ l. is_derived l ≡ true) ls → is_derived last ≡ true → ls ≡ steps ++ last ∷ [] → (h : Given)
+    → given_by (cover_frame s) steps ≡ Some h → derived_by (cover_frame s) ls ≡ derived_by (cover_frame s) steps ++ contradiction ∷ [] → Refute s [] ls
 refutes s steps (cover v) ls each is split h legal e = absurd (cc)
 refutes s steps (derived ops) ls each is split h legal e = record {
   covers = no_covers s [] ls each;
@@ -44,7 +46,9 @@ refutes s steps (derived ops) ls each is split h legal e = record {
   before = h;
   legal = legal;
   clash = contradiction;
-  gives = last_gives (cover_frame s) (base_of (cover_frame s)) h steps ops legal (subst (λ (ks : List Line). derived_by (cover_frame s) ks ≡ derived_by (cover_frame s) steps ++ contradiction ∷ []) split e);
+  gives =
+      last_gives (cover_frame s) (base_of (cover_frame s)) h steps ops legal (subst (λ (ks : List Line). derived_by (cover_frame s) ks ≡ derived_by (cover_frame s) steps ++ contradiction ∷ [])
+      split e);
   clashes = record { no_terms = refl; asks = omega arith };
 }
 
@@ -56,7 +60,8 @@ last_derived steps last ls each split =
     subst (λ (l : Line). is_derived l ≡ true) at (each (length steps) last (omega (arith, len)))
 
 -- what an answer says that no design is valid is worth
-pub refute_all : (s : SpecValue) (budget : Option ℕ) (ls : List Line) (after : Given) → AreDerived ls → given_by (cover_frame s) ls ≡ Some after → IsWithin budget (derived_count ls) → IsRefutation (cover_frame s) (base_of (cover_frame s)) (encoding s) ls → RefuteAll s budget ls
+pub refute_all : (s : SpecValue) (budget : Option ℕ) (ls : List Line) (after : Given) → AreDerived ls → given_by (cover_frame s) ls ≡ Some after → IsWithin budget (derived_count ls)
+    → IsRefutation (cover_frame s) (base_of (cover_frame s)) (encoding s) ls → RefuteAll s budget ls
 refute_all s budget ls after each legal within says = record {
   lines = record {
     derived_each = each;

@@ -5,18 +5,19 @@ use Rattle.std.proofs.lemmas.Bool.{cases_Bool, eqb-true}
 use Rattle.std.proofs.lemmas.List.Splits.{join_with_byte-slice_split}
 use Rattle.line_words.specs.Front.{is_lf}
 use Rattle.spelled_lines.specs.Lines.{pieces, lacks_lf, words_of}
-use Rattle.spelled_lines.proofs.FirstPiece.{pieces-nil, pieces-end, pieces-byte}
+use Rattle.spelled_lines.proofs.FirstPiece.{pieces-nil, pieces_end, pieces_byte}
 
 join_first : (b : ℕ) (ps : List (List ℕ)) → concat (onto_first b ps) ≡ b ∷ concat ps
 join_first b [] = refl
 join_first b (p ∷ ps) = refl
 
+-- the pieces of a text make the text
 pub pieces_join : (bs : List ℕ) → concat (pieces bs) ≡ bs
 pieces_join [] = ap concat pieces-nil
 pieces_join (b ∷ bs) =
     elim (cases_Bool (is_lf b)) [
-      | inl t ↦ ap concat (pieces-end b bs t) ∙ ap (λ (cs : List ℕ). b ∷ cs) (pieces_join bs)
-      | inr f ↦ ap concat (pieces-byte b bs f) ∙ (join_first b (pieces bs) ∙ ap (λ (cs : List ℕ). b ∷ cs) (pieces_join bs))
+      | inl t ↦ ap concat (pieces_end b bs t) ∙ ap (λ (cs : List ℕ). b ∷ cs) (pieces_join bs)
+      | inr f ↦ ap concat (pieces_byte b bs f) ∙ (join_first b (pieces bs) ∙ ap (λ (cs : List ℕ). b ∷ cs) (pieces_join bs))
     ]
 
 -- no LF stands before the last byte
@@ -29,12 +30,13 @@ cut_first b (p ∷ ps) f h =
     let n : position_or_len is_lf (b ∷ p) ≡ suc (position_or_len is_lf p) = rw f (omega arith) in
     (omega (arith, h.0, n), h.1)
 
+-- no piece has an LF before its last byte
 pub pieces_cut : (bs : List ℕ) → AllByRecursion Cut (pieces bs)
 pieces_cut [] = subst (AllByRecursion Cut) (sym pieces-nil) tt
 pieces_cut (b ∷ bs) =
     elim (cases_Bool (is_lf b)) [
-      | inl t ↦ subst (AllByRecursion Cut) (sym (pieces-end b bs t)) (omega arith, pieces_cut bs)
-      | inr f ↦ subst (AllByRecursion Cut) (sym (pieces-byte b bs f)) (cut_first b (pieces bs) f (pieces_cut bs))
+      | inl t ↦ subst (AllByRecursion Cut) (sym (pieces_end b bs t)) (omega arith, pieces_cut bs)
+      | inr f ↦ subst (AllByRecursion Cut) (sym (pieces_byte b bs f)) (cut_first b (pieces bs) f (pieces_cut bs))
     ]
 
 -- ---- the words of a piece

@@ -9,7 +9,7 @@ use Rattle.line_words.specs.Rules.{Words}
 use Rattle.pb_rules.specs.declared.Op.{Op}
 use Rattle.pb_rules.specs.declared.Op.TheVariants.{Id, Axiom, Add, Times, Divide, Saturate, Weaken}
 use Rattle.pb_rules.specs.Frames.{Line, derived, cover, base_of}
-use Rattle.proof_words.specs.Words.{op_text, op_of, number_of, IsWritable}
+use Rattle.proof_words.specs.Words.{op_text, op_of, numeral_number, IsWritable}
 use Rattle.proof_words.specs.Lines.{line_text, derivation_words, cover_words}
 use Rattle.proof_words.specs.Legal.{IsWritableLine}
 use Rattle.proof_words.proofs.Spellings.{read_back}
@@ -28,10 +28,7 @@ use Rattle.proof_log.proofs.Pieces.{Cut, pieces_cut, pieces_join, joined_words}
 -- words say a line: `p` and its operations, or `c` and its numbers
 pub data SaysLine (ws : Words) : Line → Type 0 where
   says_derived : {ops : List Op} (later : Words) → ws ≡ codes "p" ∷ later → each_said op_of later ≡ Some ops → SaysLine ws (derived ops)
-  says_cover : {v : List ℕ} (later : Words) → ws ≡ codes "c" ∷ later → each_said number_of later ≡ Some v → SaysLine ws (cover v)
-
-same_word : (k w : List ℕ) → bytes_eq k w ≡ true → k ≡ w
-same_word k w e = (bytes_eq-Decides k w).0 e
+  says_cover : {v : List ℕ} (later : Words) → ws ≡ codes "c" ∷ later → each_said numeral_number later ≡ Some v → SaysLine ws (cover v)
 
 derived_said : (ws later : Words) (l : Line) → ws ≡ codes "p" ∷ later → option_map derived (each_said op_of later) ≡ Some l → SaysLine ws l
 derived_said ws later l is e = go (each_said op_of later) refl e
@@ -40,10 +37,10 @@ derived_said ws later l is e = go (each_said op_of later) refl e
     go None q f = absurd cc
     go (Some ops) q f = let same : derived ops ≡ l = cc in subst (SaysLine ws) same (says_derived later is q)
 
-cover_said : (ws later : Words) (l : Line) → ws ≡ codes "c" ∷ later → option_map cover (each_said number_of later) ≡ Some l → SaysLine ws l
-cover_said ws later l is e = go (each_said number_of later) refl e
+cover_said : (ws later : Words) (l : Line) → ws ≡ codes "c" ∷ later → option_map cover (each_said numeral_number later) ≡ Some l → SaysLine ws l
+cover_said ws later l is e = go (each_said numeral_number later) refl e
   where
-    go : (o : Option (List ℕ)) → each_said number_of later ≡ o → option_map cover o ≡ Some l → SaysLine ws l
+    go : (o : Option (List ℕ)) → each_said numeral_number later ≡ o → option_map cover o ≡ Some l → SaysLine ws l
     go None q f = absurd cc
     go (Some v) q f = let same : cover v ≡ l = cc in subst (SaysLine ws) same (says_cover later is q)
 
@@ -51,9 +48,10 @@ words_say : (ws : Words) (l : Line) → line_said ws ≡ Some l → SaysLine ws 
 words_say [] l e = absurd cc
 words_say (k ∷ ws) l e = go (bytes_eq k (codes "p")) (bytes_eq k (codes "c")) refl refl e
   where
-    go : (a b : Bool) → bytes_eq k (codes "p") ≡ a → bytes_eq k (codes "c") ≡ b → cond a (option_map derived (each_said op_of ws)) (cond b (option_map cover (each_said number_of ws)) None) ≡ Some l → SaysLine (k ∷ ws) l
-    go true b p q f = derived_said (k ∷ ws) ws l (ap (λ (w : List ℕ). w ∷ ws) (same_word k (codes "p") p)) f
-    go false true p q f = cover_said (k ∷ ws) ws l (ap (λ (w : List ℕ). w ∷ ws) (same_word k (codes "c") q)) f
+    go : (a b : Bool) → bytes_eq k (codes "p") ≡ a → bytes_eq k (codes "c") ≡ b → cond a (option_map derived (each_said op_of ws)) (cond b (option_map cover (each_said numeral_number ws)) None)
+        ≡ Some l → SaysLine (k ∷ ws) l
+    go true b p q f = derived_said (k ∷ ws) ws l (ap (λ (w : List ℕ). w ∷ ws) ((bytes_eq-Decides k (codes "p")).0 p)) f
+    go false true p q f = cover_said (k ∷ ws) ws l (ap (λ (w : List ℕ). w ∷ ws) ((bytes_eq-Decides k (codes "c")).0 q)) f
     go false false p q f = absurd cc
 
 -- a piece says a line: it has its form, and its words say the line
@@ -62,6 +60,7 @@ pub record PieceSays (piece : List ℕ) (l : Line) : Type 0 where
   pub no_empty : list_any is_empty (words_of piece) ≡ false
   pub says : SaysLine (words_of piece) l
 
+-- a piece that is read as a line says it
 pub piece_says : (piece : List ℕ) (l : Line) → line_in piece ≡ Some l → PieceSays piece l
 piece_says piece l e = go (lacks_lf piece) (list_any is_empty (words_of piece)) refl refl e
   where
@@ -75,6 +74,7 @@ said_writable : (ws : Words) (l : Line) → SaysLine ws l → IsWritableLine l
 said_writable ws (derived ops) (says_derived later is e) = (said_texts op_text op_of IsWritable op_text_of later ops e).each
 said_writable ws (cover v) (says_cover later is e) = (numbers_text later v e).each
 
+-- a line that is read can be written
 pub line_writable : (piece : List ℕ) (l : Line) → line_in piece ≡ Some l → IsWritableLine l
 line_writable piece l e = said_writable (words_of piece) l (piece_says piece l e).says
 
@@ -92,6 +92,7 @@ line_of_text piece l h e =
 
 -- ---- pieces that each say a line
 
+-- the pieces that are read as lines make the lines' text
 pub texts_join : (ps : List (List ℕ)) (ls : List Line) → AllByRecursion Cut ps → each_said line_in ps ≡ Some ls → concat ps ≡ flat_map line_text ls
 texts_join [] ls h e = go ls cc
   where
@@ -108,6 +109,7 @@ lines_writable ps ls e = said_each line_in IsWritableLine line_writable ps ls e
 
 -- ---- the text of a line
 
+-- an operation's text is a word
 pub op_named : (op : Op) → IsWritable op → IsWord (op_text op)
 op_named (Id i) h = decimal_word i h
 op_named (Axiom l) h = of_sign l.yes
@@ -174,6 +176,7 @@ pub record IsCutSo (text : List ℕ) (ls : List Line) : Type 0 where
   pub cut : pieces text ≡ header ∷ more
   pub said : each_said line_in more ≡ Some ls
 
+-- a file that is read has a first line and a piece for each line
 pub file_cut : (text : List ℕ) (ls : List Line) → lines_in text ≡ Some ls → IsCutSo text ls
 file_cut text ls e = go (pieces text) refl e
   where
@@ -183,7 +186,7 @@ file_cut text ls e = go (pieces text) refl e
       where
         by_test : (b : Bool) → bytes_eq p header ≡ b → cond b (each_said line_in ps) None ≡ Some ls → IsCutSo text ls
         by_test false r g = absurd cc
-        by_test true r g = record { more = ps; cut = q ∙ ap (λ (w : List ℕ). w ∷ ps) (same_word p header r); said = g }
+        by_test true r g = record { more = ps; cut = q ∙ ap (λ (w : List ℕ). w ∷ ps) ((bytes_eq-Decides p header).0 r); said = g }
 
 written : (ls : List Line) (text : List ℕ) → lines_in text ≡ Some ls → IsWritten ls text
 written ls text e =
@@ -194,6 +197,7 @@ written ls text e =
       writable = lines_writable x.more ls x.said;
     }
 
+-- lines that can be written are read again
 pub read_again : (ls : List Line) → All IsWritableLine ls → lines_in (proof_text ls) ≡ Some ls
 read_again ls h =
     ap after_header (header_first (flat_map line_text ls))

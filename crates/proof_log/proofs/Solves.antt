@@ -10,7 +10,7 @@ use Rattle.pb_rules.specs.Operations.{small_number}
 use Rattle.pb_rules.specs.Clauses.{IsClause}
 use Rattle.pb_rules.specs.Honest.{AreHonest, IsUnabsorbed}
 use Rattle.pb_rules.specs.Frames.{Line, derived, cover, Frame, Given, base_of, with_block, given_by, given_from, blocks_by, derived_from, is_derived}
-use Rattle.pb_rules.proofs.Given.{given-append, given-front, given-cover, derived-append}
+use Rattle.pb_rules.proofs.Given.{given-append, given_front, given-cover, derived-append}
 use Rattle.proof_log.specs.HonestLog.{AreHonestLines, EndsASolve, AreHonestSolves}
 
 abbrev AllDerived : List Line → Type 0
@@ -18,17 +18,17 @@ AllDerived ls = All (λ l. is_derived l ≡ true) ls
 
 -- ---- lists cut in two ways
 
-take-past : (xs ys : List Line) (r : ℕ) → take (length xs + r) (xs ++ ys) ≡ xs ++ take r ys
-take-past [] ys r = let e : 0 + r ≡ r = omega arith in ap (λ (n : ℕ). take n ys) e
-take-past (x ∷ xs) ys r =
+take_past : (xs ys : List Line) (r : ℕ) → take (length xs + r) (xs ++ ys) ≡ xs ++ take r ys
+take_past [] ys r = let e : 0 + r ≡ r = omega arith in ap (λ (n : ℕ). take n ys) e
+take_past (x ∷ xs) ys r =
     let e : length (x ∷ xs) + r ≡ suc (length xs + r) = omega arith in
-    ap (λ (n : ℕ). take n (x ∷ (xs ++ ys))) e ∙ ap (λ (zs : List Line). x ∷ zs) (take-past xs ys r)
+    ap (λ (n : ℕ). take n (x ∷ (xs ++ ys))) e ∙ ap (λ (zs : List Line). x ∷ zs) (take_past xs ys r)
 
 -- the first of two lists, where the other cut ends later
 front_of : (a b c d : List Line) → a ++ b ≡ c ++ d → length c ≤ length a → a ≡ c ++ take (length a - length c) d
 front_of a b c d e l =
     let n : length c + (length a - length c) ≡ length a = omega (arith, l) in
-    sym (take-append-le (length a) a b (omega arith) ∙ take_all (length a) a (omega arith)) ∙ (ap (take (length a)) e ∙ (ap (λ (k : ℕ). take k (c ++ d)) (sym n) ∙ take-past c d (length a - length c)))
+    sym (take-append-le (length a) a b (omega arith) ∙ take_all (length a) a (omega arith)) ∙ (ap (take (length a)) e ∙ (ap (λ (k : ℕ). take k (c ++ d)) (sym n) ∙ take_past c d (length a - length c)))
 
 read_past : (a b : List Line) (i : ℕ) (d : Line) → length a ≤ i → get_or (a ++ b) i d ≡ get_or b (i - length a) d
 read_past a b i d l =
@@ -47,7 +47,7 @@ honest_front base cs ds h = record {
 
 pub lines_front : (f : Frame) (g : Given) (base : List Linear) (ls ms : List Line) → AreHonestLines f g base (ls ++ ms) → AreHonestLines f g base ls
 lines_front f g base ls ms h =
-    let front = given-front f g h.after ls ms h.legal in
+    let front = given_front f g h.after ls ms h.legal in
     record {
       derived_each = λ k d l. subst (λ (x : Line). is_derived x ≡ true) (get_or_append_left ls ms d k l) (h.derived_each k d (omega (arith, l, length-append ls ms)));
       after = front.0;
@@ -56,7 +56,17 @@ lines_front f g base ls ms h =
     }
 
 pub none_honest : (f : Frame) (g : Given) (base : List Linear) (ls : List Line) → length ls ≤ 0 → AreHonestLines f g base ls
-none_honest f g base [] l = record { derived_each = λ k d q. absurd (omega (arith, q)); after = g; legal = refl; honest = record { clauses_each = λ k d q. absurd (omega (arith, q)); unabsorbed = λ k d q. absurd (omega (arith, q)) } }
+none_honest f g base [] l =
+    record {
+      derived_each = λ k d q. absurd (omega (arith, q));
+      after = g;
+      legal = refl;
+      honest = record {
+        clauses_each = λ k d q. absurd (omega (arith, q));
+        unabsorbed =
+            λ k d q. absurd (omega (arith, q));
+      };
+    }
 none_honest f g base (x ∷ ls) l = absurd (omega (arith, l))
 
 no_cover : (v : List ℕ) → is_derived (cover v) ≡ true → ⊥
@@ -64,10 +74,12 @@ no_cover v e = absurd (cc)
 
 -- ---- a cover more
 
+-- a log stays honest with one cover more,
 pub honest_cover : (f : Frame) (ls : List Line) (v : List ℕ) → list_all small_number v ≡ true → AreHonestSolves f ls → AreHonestSolves f (ls ++ cover v ∷ [])
 honest_cover f ls v small h = record { after = with_block f h.after v; legal = given-cover f (base_of f) h.after ls v h.legal small; solves = parts }
   where
-    parts : (early solve late : List Line) (g : Given) → ls ++ cover v ∷ [] ≡ early ++ solve ++ late → EndsASolve early → AllDerived solve → given_by f early ≡ Some g → AreHonestLines f g (f.base ++ blocks_by f early) solve
+    parts : (early solve late : List Line) (g : Given) → ls ++ cover v ∷ [] ≡ early ++ solve ++ late → EndsASolve early → AllDerived solve → given_by f early ≡ Some g
+        → AreHonestLines f g (f.base ++ blocks_by f early) solve
     parts early solve late g whole ends each legal =
         let e = whole ∙ append_assoc early solve late in
         let joined : length (early ++ solve) ≡ length early + length solve = length-append early solve in
@@ -83,7 +95,9 @@ honest_cover f ls v small h = record { after = with_block f h.after v; legal = g
                 none_honest f g (f.base ++ blocks_by f early) solve (omega (arith, before, long, sides, both, ap length e))
             | inr inside ↦
                 let at : length ls - length early < length solve = omega (arith, past, inside) in
-                let read : get_or solve (length ls - length early) (cover v) ≡ cover v = sym (get_or_append_left solve late (cover v) (length ls - length early) at) ∙ (sym (read_past early (solve ++ late) (length ls) (cover v) inside) ∙ (ap (λ (ks : List Line). get_or ks (length ls) (cover v)) (sym e) ∙ get_or_push ls (cover v) (cover v) (length ls) refl)) in
+                let read : get_or solve (length ls - length early) (cover v) ≡ cover v = sym (get_or_append_left solve late (cover v) (length ls - length early) at)
+                ∙ (sym (read_past early (solve ++ late) (length ls) (cover v) inside) ∙ (ap (λ (ks : List Line). get_or ks (length ls) (cover v)) (sym e)
+                ∙ get_or_push ls (cover v) (cover v) (length ls) refl)) in
                 absurd (no_cover v (subst (λ (x : Line). is_derived x ≡ true) read (each (length ls - length early) (cover v) at)))
           ]
         ]
@@ -100,10 +114,13 @@ last_cover ls (inr x) some =
     let at : length ls - 1 ≡ length early = omega (arith, len) in
     (v, λ d. ap (λ (n : ℕ). get_or ls n d) at ∙ (ap (λ (ks : List Line). get_or ks (length early) d) x.2 ∙ get_or_push early (cover v) d (length early) refl))
 
-pub honest_solve : (f : Frame) (ls new : List Line) (b : Given) → AreHonestSolves f ls → EndsASolve ls → given_by f ls ≡ Some b → AreHonestLines f b (f.base ++ blocks_by f ls) new → AreHonestSolves f (ls ++ new)
+-- and with one solve more
+pub honest_solve : (f : Frame) (ls new : List Line) (b : Given) → AreHonestSolves f ls → EndsASolve ls → given_by f ls ≡ Some b → AreHonestLines f b (f.base ++ blocks_by f ls) new
+    → AreHonestSolves f (ls ++ new)
 honest_solve f ls new b h ends_ls legal_ls lines = record { after = lines.after; legal = given-append f (base_of f) b ls new legal_ls ∙ lines.legal; solves = parts }
   where
-    parts : (early solve late : List Line) (g : Given) → ls ++ new ≡ early ++ solve ++ late → EndsASolve early → AllDerived solve → given_by f early ≡ Some g → AreHonestLines f g (f.base ++ blocks_by f early) solve
+    parts : (early solve late : List Line) (g : Given) → ls ++ new ≡ early ++ solve ++ late → EndsASolve early → AllDerived solve → given_by f early ≡ Some g
+        → AreHonestLines f g (f.base ++ blocks_by f early) solve
     parts early solve late g whole ends each legal =
         let e = whole ∙ append_assoc early solve late in
         let joined : length (early ++ solve) ≡ length early + length solve = length-append early solve in
@@ -116,7 +133,9 @@ honest_solve f ls new b h ends_ls legal_ls lines = record { after = lines.after;
                 let k : ℕ = length ls - 1 in
                 let x = last_cover ls ends_ls (omega (arith, inside)) in
                 let at : k - length early < length solve = omega (arith, past, inside) in
-                let read : get_or solve (k - length early) (cover x.0) ≡ cover x.0 = sym (get_or_append_left solve late (cover x.0) (k - length early) at) ∙ (sym (read_past early (solve ++ late) k (cover x.0) (omega (arith, inside))) ∙ (ap (λ (ks : List Line). get_or ks k (cover x.0)) (sym e) ∙ (get_or_append_left ls new (cover x.0) k (omega (arith, inside)) ∙ x.1 (cover x.0)))) in
+                let read : get_or solve (k - length early) (cover x.0) ≡ cover x.0 = sym (get_or_append_left solve late (cover x.0) (k - length early) at)
+                ∙ (sym (read_past early (solve ++ late) k (cover x.0) (omega (arith, inside))) ∙ (ap (λ (ks : List Line). get_or ks k (cover x.0)) (sym e)
+                ∙ (get_or_append_left ls new (cover x.0) k (omega (arith, inside)) ∙ x.1 (cover x.0)))) in
                 absurd (no_cover x.0 (subst (λ (y : Line). is_derived y ≡ true) read (each (k - length early) (cover x.0) at)))
             | inr after ↦ elim (cases_lt (length ls) (length early)) [
               | inl more ↦
@@ -126,7 +145,8 @@ honest_solve f ls new b h ends_ls legal_ls lines = record { after = lines.after;
                   let long : length (ls ++ new) ≡ length ls + length new = length-append ls new in
                   let sides : length (early ++ (solve ++ late)) ≡ length early + length (solve ++ late) = length-append early (solve ++ late) in
                   let at : k - length ls < length new = omega (arith, more, long, sides, ap length e) in
-                  let read : get_or new (k - length ls) (cover x.0) ≡ cover x.0 = sym (read_past ls new k (cover x.0) (omega (arith, more))) ∙ (ap (λ (ks : List Line). get_or ks k (cover x.0)) e ∙ (get_or_append_left early (solve ++ late) (cover x.0) k (omega (arith, more)) ∙ x.1 (cover x.0))) in
+                  let read : get_or new (k - length ls) (cover x.0) ≡ cover x.0 = sym (read_past ls new k (cover x.0) (omega (arith, more)))
+                  ∙ (ap (λ (ks : List Line). get_or ks k (cover x.0)) e ∙ (get_or_append_left early (solve ++ late) (cover x.0) k (omega (arith, more)) ∙ x.1 (cover x.0))) in
                   absurd (no_cover x.0 (subst (λ (y : Line). is_derived y ≡ true) read (lines.derived_each (k - length ls) (cover x.0) at)))
               | inr no_more ↦
                   let cut = front_of early (solve ++ late) ls new (sym e) after in
@@ -135,7 +155,8 @@ honest_solve f ls new b h ends_ls legal_ls lines = record { after = lines.after;
                   let rest : new ≡ solve ++ late = append_cancel_left ls new (solve ++ late) (e ∙ ap (λ (ks : List Line). ks ++ (solve ++ late)) same) in
                   let here : b ≡ g = one_given b g (sym legal_ls ∙ (ap (given_by f) (sym same) ∙ legal)) in
                   subst (λ (ks : List Line). AreHonestLines f g (f.base ++ blocks_by f ks) solve) (sym same)
-                  (subst (λ (k : Given). AreHonestLines f k (f.base ++ blocks_by f ls) solve) here (lines_front f b (f.base ++ blocks_by f ls) solve late (subst (AreHonestLines f b (f.base ++ blocks_by f ls)) rest lines)))
+                  (subst (λ (k : Given). AreHonestLines f k (f.base ++ blocks_by f ls) solve) here (lines_front f b (f.base ++ blocks_by f ls) solve late
+                  (subst (AreHonestLines f b (f.base ++ blocks_by f ls)) rest lines)))
             ]
           ]
         ]
@@ -145,6 +166,7 @@ honest_solve f ls new b h ends_ls legal_ls lines = record { after = lines.after;
 
 -- ---- no line
 
+-- and an empty one is
 pub begins_honest : (f : Frame) → AreHonestSolves f []
 begins_honest f = record { after = base_of f; legal = refl; solves = λ early solve late g e ends each legal. parts early solve late g e }
   where

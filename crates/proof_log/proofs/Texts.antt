@@ -10,6 +10,7 @@ use Rattle.proof_log.specs.Text.{header, line_at, TextBegins, TextGoesOn}
 pub text_begins : TextBegins
 text_begins = append-nil header
 
+-- the text of one line more
 pub text_goes_on : TextGoesOn
 text_goes_on ls i lt =
     let l : Line = line_at ls i in

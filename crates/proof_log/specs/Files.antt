@@ -7,7 +7,7 @@ use Rattle.spelled_lines.specs.Lines.{pieces, lacks_lf, words_of, is_empty}
 use Rattle.pb_rules.specs.Literal.{Literal}
 use Rattle.pb_rules.specs.Frames.{Line, derived, cover, Frame, Given, given_by, derived_by}
 use Rattle.pb_rules.specs.Order.{ShowsFirst}
-use Rattle.proof_words.specs.Words.{op_of, number_of}
+use Rattle.proof_words.specs.Words.{op_of, numeral_number}
 use Rattle.proof_words.specs.Legal.{IsWritableLine}
 use Rattle.proof_log.specs.HonestLog.{IsHonestLog}
 use Rattle.proof_log.specs.Text.{header, proof_text}
@@ -35,7 +35,7 @@ abbrev pub line_said : Words → Option Line
 line_said [] = None
 line_said (k ∷ ws) =
     if bytes_eq k (codes "p") then option_map derived (each_said op_of ws)
-    else (if bytes_eq k (codes "c") then option_map cover (each_said number_of ws)
+    else (if bytes_eq k (codes "c") then option_map cover (each_said numeral_number ws)
     else None)
 
 -- the line of a piece of a text
@@ -60,10 +60,6 @@ pub record OfFile (P : List Line → Type 0) (text : List ℕ) : Type 0 where
 -- lines are legal one after another
 abbrev pub AreLegal : Frame → List Line → Type 0
 AreLegal f ls = (g : Given) × (given_by f ls ≡ Some g)
-
--- each line of a file is legal at its place
-abbrev pub IsLegalFile : Frame → List ℕ → Type 0
-IsLegalFile f text = OfFile (AreLegal f) text
 
 -- a file is honest: its lines are legal, and each clause that they derive says something new
 abbrev pub IsHonestFile : Frame → List ℕ → Type 0

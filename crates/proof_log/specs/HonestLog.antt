@@ -20,7 +20,8 @@ EndsASolve ls = (ls ≡ []) ⊎ ((early : List Line) × (v : List ℕ) × (ls �
 pub record AreHonestSolves (f : Frame) (ls : List Line) : Type 0 where
   pub after : Given
   pub legal : given_by f ls ≡ Some after
-  pub solves : (early solve late : List Line) (g : Given) → ls ≡ early ++ solve ++ late → EndsASolve early → All (λ l. is_derived l ≡ true) solve → given_by f early ≡ Some g → AreHonestLines f g (f.base ++ blocks_by f early) solve
+  pub solves : (early solve late : List Line) (g : Given) → ls ≡ early ++ solve ++ late → EndsASolve early → All (λ l. is_derived l ≡ true) solve → given_by f early ≡ Some g
+      → AreHonestLines f g (f.base ++ blocks_by f early) solve
 
 -- a whole log: each solve is honest, and the last derived constraint is not `0 >= 1`
 pub record IsHonestLog (f : Frame) (ls : List Line) : Type 0 where

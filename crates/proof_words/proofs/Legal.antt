@@ -2,19 +2,19 @@
 use Rattle.std.proofs.Common.{◌≡◌, ℕ, ◌<◌, ◌^◌, true, List, [], ◌∷◌, map, Option, Some, refl, ap, ◌∙◌, arith}
 use Rattle.std.specs.Prelude.{All, Ok, decimal, nat_lt}
 use Rattle.std.specs.List.{list_all}
+use Rattle.std.proofs.lemmas.Bool.{and_parts}
 use Rattle.std.proofs.lemmas.Bool.Decides.{nat_tests}
 use Rattle.std.proofs.lemmas.List.Elements.{All-cons, All-head, All-tail, All-nil}
-use Rattle.line_words.proofs.Whys.{both}
 use Rattle.pb_rules.specs.declared.Op.{Op}
 use Rattle.pb_rules.specs.declared.Op.TheVariants.{Id, Axiom, Add, Times, Divide, Saturate, Weaken}
 use Rattle.pb_rules.specs.Linear.{Linear}
 use Rattle.pb_rules.specs.Operations.{Context, small_number, apply_all}
 use Rattle.pb_rules.specs.Frames.{Line, derived, cover, Frame, Given, context_of, given_from}
 use Rattle.pb_rules.proofs.Carried.{Carried, by_id, by_axiom, by_factor, by_divisor, by_weakening, carried, first_op, line_stack}
-use Rattle.pb_rules.proofs.Given.{Goes, by_ops, by_block, goes, first-line}
-use Rattle.proof_words.specs.Words.{op_text, op_of, number_of, IsWritable}
+use Rattle.pb_rules.proofs.Given.{Goes, by_ops, by_block, goes, first_line}
+use Rattle.proof_words.specs.Words.{op_text, op_of, numeral_number, IsWritable}
 use Rattle.proof_words.specs.Legal.{IsWritableLine, ReadsBack}
-use Rattle.proof_words.proofs.Spellings.{read_back, number_of-decimal}
+use Rattle.proof_words.proofs.Spellings.{read_back, numeral_number-decimal}
 
 -- an operation that was carried out can be written
 carried_is : (context : Context) (after : List Linear) (op : Op) (st : List Linear) → Carried context after op st → IsWritable op
@@ -39,7 +39,7 @@ all_are context (op ∷ ops) st after e =
 numbers_are : (v : List ℕ) → list_all small_number v ≡ true → All (λ n. n < 2 ^ 63) v
 numbers_are [] e = All-nil (λ n. n < 2 ^ 63)
 numbers_are (n ∷ v) e =
-    let h = both (small_number n) (list_all small_number v) e in
+    let h = and_parts (small_number n) (list_all small_number v) e in
     let t : nat_lt n (2 ^ 63) ≡ true = h.0 in
     All-cons (λ n. n < 2 ^ 63) n v (grind (arith, nat_tests, t)) (numbers_are v h.1)
 
@@ -47,10 +47,11 @@ line_is : (f : Frame) (g h : Given) (l : Line) → Goes f g h l → IsWritableLi
 line_is f g h (derived ops) (by_ops c gives is) = all_are (context_of g) ops [] (c ∷ []) (line_stack (context_of g) ops c gives)
 line_is f g h (cover v) (by_block small is) = numbers_are v small
 
+-- legal lines can be written
 pub lines_are : (f : Frame) (before after : Given) (ls : List Line) → given_from f before ls ≡ Some after → All IsWritableLine ls
 lines_are f before after [] e = All-nil IsWritableLine
 lines_are f before after (l ∷ ls) e =
-    let s = first-line f before after l ls e in
+    let s = first_line f before after l ls e in
     All-cons IsWritableLine l ls (line_is f before s.0 l (goes f before s.0 l s.1)) (lines_are f s.0 after ls s.2)
 
 -- what reads back one by one reads back as a list
@@ -61,4 +62,4 @@ each_back {X} write read P back (x ∷ xs) all =
 
 pub line_back : (l : Line) → IsWritableLine l → ReadsBack l
 line_back (derived ops) h = each_back op_text op_of IsWritable read_back ops h
-line_back (cover v) h = each_back decimal number_of (λ n. n < 2 ^ 63) number_of-decimal v h
+line_back (cover v) h = each_back decimal numeral_number (λ n. n < 2 ^ 63) numeral_number-decimal v h

@@ -1,11 +1,10 @@
 -- The letter at a word's front, and what a word says by it.
-use Rattle.std.proofs.Common.{◌≡◌, ◌≢◌, ℕ, true, false, List, [], ◌∷◌, Option, Some, None, MatchOption, Bor, refl, sym, ap, ◌∙◌, arith, inl, inr}
+use Rattle.std.proofs.Common.{◌≡◌, ◌≢◌, ℕ, false, List, [], ◌∷◌, Option, Some, None, MatchOption, Bor, refl, sym, ap, ◌∙◌, inl, inr}
 use Rattle.std.specs.Prelude.{◌==◌, option_map}
-use Rattle.std.proofs.lemmas.Bool.{cases_Bool, eqb-true}
-use Rattle.std.proofs.lemmas.Bool.Decides.{nat_tests}
+use Rattle.std.proofs.lemmas.Bool.{cases_Bool, eqb-true, eq-eqb}
 use Rattle.line_words.specs.Numbers.{plain_whole_of, whole_of}
 use Rattle.pb_rules.specs.declared.Op.TheVariants.{Id}
-use Rattle.proof_words.specs.Words.{after, number_of, op_of}
+use Rattle.proof_words.specs.Words.{after, numeral_number, op_of}
 
 abbrev some_rest : List ℕ → Option (List ℕ)
 some_rest rest = Some rest
@@ -48,15 +47,23 @@ pub record HasNoMark (word : List ℕ) : Type 0 where
   pub divide : after 47 word ≡ None
   pub weaken : after 119 word ≡ None
 
-empty_says : op_of [] ≡ option_map Id (number_of [])
+empty_says : op_of [] ≡ option_map Id (numeral_number [])
 unfolding plain_whole_of whole_of
 empty_says = refl
 
 -- then the word is a numeral, or nothing
-pub op_of-numeral : (word : List ℕ) → HasNoMark word → op_of word ≡ option_map Id (number_of word)
+pub op_of-numeral : (word : List ℕ) → HasNoMark word → op_of word ≡ option_map Id (numeral_number word)
 op_of-numeral [] h = empty_says
 op_of-numeral (b ∷ more) h =
-    rw (after_none 43 b more h.plus, after_none 115 b more h.saturate, after_none 120 b more h.variable, after_none 126 b more h.opposite, after_none 42 b more h.times, after_none 47 b more h.divide, after_none 119 b more h.weaken) refl
+    rw (
+      after_none 43 b more h.plus,
+      after_none 115 b more h.saturate,
+      after_none 120 b more h.variable,
+      after_none 126 b more h.opposite,
+      after_none 42 b more h.times,
+      after_none 47 b more h.divide,
+      after_none 119 b more h.weaken,
+    ) refl
 
 no_front : (letter : ℕ) (word : List ℕ) → ((rest : List ℕ) → word ≢ letter ∷ rest) → after letter word ≡ None
 no_front letter [] other = refl
@@ -66,11 +73,8 @@ no_front letter (b ∷ more) other =
       | inr f ↦ rw f refl
     ]
 
-self_eqb : (n : ℕ) → (n == n) ≡ true
-self_eqb n = grind (arith, nat_tests)
-
 front : (letter : ℕ) (rest : List ℕ) → after letter (letter ∷ rest) ≡ Some rest
-front letter rest = rw (self_eqb letter) refl
+front letter rest = rw (eq-eqb letter letter refl) refl
 
 -- what stripping a letter gives is what follows it
 pub after_match : (letter : ℕ) (word : List ℕ) (r : Option (Bor (List ℕ))) → MatchOption r ((rest : List ℕ) → word ≢ letter ∷ rest) (λ x. word ≡ letter ∷ x.now)

@@ -48,8 +48,8 @@ IsWritable Saturate = Unit {0}
 IsWritable (Weaken x) = x < 2 ^ 63
 
 -- the number that a numeral writes: without a leading zero, and below 2^63
-abbrev pub number_of : List ℕ → Option ℕ
-number_of numeral = result_ok (plain_whole_of numeral)
+abbrev pub numeral_number : List ℕ → Option ℕ
+numeral_number numeral = result_ok (plain_whole_of numeral)
 
 -- the operation of a letter that stands alone
 abbrev pub alone : Op → List ℕ → Option Op
@@ -71,7 +71,7 @@ after letter (b ∷ rest) = if b == letter then Some rest else None
 
 -- the axiom of a variable's opposite, by what follows `~`
 abbrev pub opposite_said : List ℕ → Option Op
-opposite_said rest = option_map (axiom_on false) (option_and_then number_of (after letter_x rest))
+opposite_said rest = option_map (axiom_on false) (option_and_then numeral_number (after letter_x rest))
 
 -- the operation that a word says, if it is one: a letter and what it wants after it, or a numeral
 abbrev pub op_of : List ℕ → Option Op
@@ -79,9 +79,9 @@ op_of [] = None
 op_of (b ∷ rest) =
     if b == plus then alone Add rest
     else if b == letter_s then alone Saturate rest
-    else if b == letter_x then option_map (axiom_on true) (number_of rest)
+    else if b == letter_x then option_map (axiom_on true) (numeral_number rest)
     else if b == tilde then opposite_said rest
-    else if b == star then option_and_then times_of (number_of rest)
-    else if b == slash then option_map Divide (number_of rest)
-    else if b == letter_w then option_map Weaken (number_of rest)
-    else option_map Id (number_of (b ∷ rest))
+    else if b == star then option_and_then times_of (numeral_number rest)
+    else if b == slash then option_map Divide (numeral_number rest)
+    else if b == letter_w then option_map Weaken (numeral_number rest)
+    else option_map Id (numeral_number (b ∷ rest))

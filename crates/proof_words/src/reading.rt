@@ -1,7 +1,7 @@
 //! Reads a word of a derived line as an operation.
 
 ghost use Rattle.std.specs.Prelude.{◌≡◌, ◌<◌, Some, None, MatchOption, IfSome, option_map, option_and_then};
-ghost use Rattle.proof_words.specs.Words.{number_of, axiom_on, times_of, alone, after, opposite_said, op_of};
+ghost use Rattle.proof_words.specs.Words.{numeral_number, axiom_on, times_of, alone, after, opposite_said, op_of};
 ghost use Rattle.proof_words.specs.Said.{op_in, IsFarWhereSaid};
 ghost use Rattle.pb_rules.specs.declared.Op.TheVariants.{Id, Divide, Weaken};
 
@@ -28,14 +28,14 @@ fn after(word: &str, letter: char) -> Option<&str>
 
 /// The number that a numeral writes, where it is spelled well.
 fn number_of(numeral: &str) -> Option<u64>
-    ensures { result ≡ number_of numeral.now }
+    ensures { result ≡ numeral_number numeral.now }
 {
     plain_whole(numeral).ok()
 }
 
 /// The axiom of a variable or of its opposite, by the variable's numeral.
 fn read_axiom(numeral: &str, yes: bool) -> Option<WordOp>
-    ensures value { option_map op_in result ≡ option_map (axiom_on yes) (number_of numeral.now) }
+    ensures value { option_map op_in result ≡ option_map (axiom_on yes) (numeral_number numeral.now) }
     ensures far { IfSome result IsFarWhereSaid }
 {
     match number_of(numeral) {
@@ -70,7 +70,7 @@ fn alone(op: Op, rest: &str) -> Option<WordOp>
 
 /// Multiplication by the number of a numeral, if that isn't 0.
 fn read_times(numeral: &str) -> Option<WordOp>
-    ensures value { option_map op_in result ≡ option_and_then times_of (number_of numeral.now) }
+    ensures value { option_map op_in result ≡ option_and_then times_of (numeral_number numeral.now) }
     ensures far { IfSome result IsFarWhereSaid }
 {
     match number_of(numeral) {
@@ -81,7 +81,7 @@ fn read_times(numeral: &str) -> Option<WordOp>
 
 /// Division by the number of a numeral, which may be 0.
 fn read_divide(numeral: &str) -> Option<WordOp>
-    ensures value { option_map op_in result ≡ option_map Divide (number_of numeral.now) }
+    ensures value { option_map op_in result ≡ option_map Divide (numeral_number numeral.now) }
     ensures far { IfSome result IsFarWhereSaid }
 {
     number_of(numeral).map(|number| WordOp::Operation(Op::Divide(number)))
@@ -89,7 +89,7 @@ fn read_divide(numeral: &str) -> Option<WordOp>
 
 /// Weakening on the variable of a numeral.
 fn read_weaken(numeral: &str) -> Option<WordOp>
-    ensures value { option_map op_in result ≡ option_map Weaken (number_of numeral.now) }
+    ensures value { option_map op_in result ≡ option_map Weaken (numeral_number numeral.now) }
     ensures far { IfSome result IsFarWhereSaid }
 {
     number_of(numeral).map(|var| WordOp::Operation(Op::Weaken(var)))
@@ -97,7 +97,7 @@ fn read_weaken(numeral: &str) -> Option<WordOp>
 
 /// The constraint whose id a numeral is.
 fn read_id(numeral: &str) -> Option<WordOp>
-    ensures value { option_map op_in result ≡ option_map Id (number_of numeral.now) }
+    ensures value { option_map op_in result ≡ option_map Id (numeral_number numeral.now) }
     ensures far { IfSome result IsFarWhereSaid }
 {
     number_of(numeral).map(|id| WordOp::Operation(Op::Id(id)))

@@ -18,32 +18,32 @@ attached_at-one a c k h =
       | inr n ↦ (let v : attached_at (a ∷ []) c ≡ None = grind (arith, nat_tests) in absurd (cc))
     ]
 
-pub attached_at-own : (a : Attached) → attached_at (a ∷ []) a.id ≡ Some a.constraint
-attached_at-own a = grind (arith, nat_tests)
+pub attached_at_own : (a : Attached) → attached_at (a ∷ []) a.id ≡ Some a.constraint
+attached_at_own a = grind (arith, nat_tests)
 
 abbrev pub empty : Option Linear
 empty = None
 
 -- nothing is attached below the first slot
-pub attached_at-below : (k : ℕ) (ss : List (Option Linear)) (c : ConId) → c.0 < k → attached_at (attached_from k ss) c ≡ None
-attached_at-below k [] c h = refl
-attached_at-below k (None ∷ ss) c h = attached_at-below (k + 1) ss c (omega arith)
-attached_at-below k (Some s ∷ ss) c h =
-    let ih = attached_at-below (k + 1) ss c (omega arith) in
+pub attached_at_below : (k : ℕ) (ss : List (Option Linear)) (c : ConId) → c.0 < k → attached_at (attached_from k ss) c ≡ None
+attached_at_below k [] c h = refl
+attached_at_below k (None ∷ ss) c h = attached_at_below (k + 1) ss c (omega arith)
+attached_at_below k (Some s ∷ ss) c h =
+    let ih = attached_at_below (k + 1) ss c (omega arith) in
     let ne : k ≢ c.0 = omega arith in
     grind (arith, nat_tests)
 
 -- what is attached under an id stands in its slot
-pub attached_at-from : (k : ℕ) (ss : List (Option Linear)) (c : ConId) (i : ℕ) → c.0 ≡ k + i → attached_at (attached_from k ss) c ≡ get_or ss i empty
-attached_at-from k [] c i e = refl
-attached_at-from k (None ∷ ss) c zero e = attached_at-below (k + 1) ss c (omega arith)
-attached_at-from k (None ∷ ss) c (suc i) e = attached_at-from (k + 1) ss c i (omega arith)
-attached_at-from k (Some s ∷ ss) c zero e = let q : k ≡ c.0 = omega arith in grind (arith, nat_tests)
-attached_at-from k (Some s ∷ ss) c (suc i) e =
-    let ih = attached_at-from (k + 1) ss c i (omega arith) in
+pub attached_at_from : (k : ℕ) (ss : List (Option Linear)) (c : ConId) (i : ℕ) → c.0 ≡ k + i → attached_at (attached_from k ss) c ≡ get_or ss i empty
+attached_at_from k [] c i e = refl
+attached_at_from k (None ∷ ss) c zero e = attached_at_below (k + 1) ss c (omega arith)
+attached_at_from k (None ∷ ss) c (suc i) e = attached_at_from (k + 1) ss c i (omega arith)
+attached_at_from k (Some s ∷ ss) c zero e = let q : k ≡ c.0 = omega arith in grind (arith, nat_tests)
+attached_at_from k (Some s ∷ ss) c (suc i) e =
+    let ih = attached_at_from (k + 1) ss c i (omega arith) in
     let ne : k ≢ c.0 = omega arith in
     let a : attached_at (attached_from k (Some s ∷ ss)) c ≡ attached_at (attached_from (k + 1) ss) c = grind (arith, nat_tests) in
     a ∙ ih
 
-pub attached_at-slot : (ss : List (Option Linear)) (c : ConId) → attached_at (attached_from 0 ss) c ≡ get_or ss c.0 empty
-attached_at-slot ss c = attached_at-from 0 ss c c.0 (omega arith)
+pub attached_at_slot : (ss : List (Option Linear)) (c : ConId) → attached_at (attached_from 0 ss) c ≡ get_or ss c.0 empty
+attached_at_slot ss c = attached_at_from 0 ss c c.0 (omega arith)

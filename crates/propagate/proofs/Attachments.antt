@@ -10,22 +10,23 @@ use Rattle.pb_constraints.specs.declared.ConId.{ConId}
 use Rattle.trail_state.specs.Trail.{Entry}
 use Rattle.propagate.specs.Attached.{Attached, attached_at, ChangesOnly}
 use Rattle.propagate.specs.Counters.{attached_from, IsPut}
-use Rattle.propagate.proofs.Attaching.{attached_at-slot, same_id}
+use Rattle.propagate.proofs.Attaching.{attached_at_slot, same_id}
 use Rattle.propagate.proofs.Tying.{lits_of}
 
-pub changes-put : (old new : List (Option Linear)) (c : ConId) (o : Option Linear) → IsPut c.0 o old new → ChangesOnly (attached_from 0 old) (attached_from 0 new) c o
-changes-put old new c o p = record {
-  here = attached_at-slot new c ∙ p.here;
-  others = λ d n. attached_at-slot new d ∙ p.others d.0 (λ z. n (same_id d c z)) ∙ sym (attached_at-slot old d);
+pub changes_put : (old new : List (Option Linear)) (c : ConId) (o : Option Linear) → IsPut c.0 o old new → ChangesOnly (attached_from 0 old) (attached_from 0 new) c o
+changes_put old new c o p = record {
+  here = attached_at_slot new c ∙ p.here;
+  others = λ d n. attached_at_slot new d ∙ p.others d.0 (λ z. n (same_id d c z)) ∙ sym (attached_at_slot old d);
 }
 
-pub stays-attached : (held : List Attached) (c : ConId) (k : Linear) (o : Option Linear) → is_some o ≡ true → attached_at held c ≡ o → ((l : Linear) → attached_at held c ≡ Some l → k ≡ l) → ChangesOnly held held c (Some k)
-stays-attached held c k None h e f = absurd (cc)
-stays-attached held c k (Some l) h e f = record { here = e ∙ ap (λ (m : Linear). Some m) (sym (f l e)); others = λ d n. refl }
+pub stays_attached : (held : List Attached) (c : ConId) (k : Linear) (o : Option Linear) → is_some o ≡ true → attached_at held c ≡ o → ((l : Linear) → attached_at held c ≡ Some l → k ≡ l)
+    → ChangesOnly held held c (Some k)
+stays_attached held c k None h e f = absurd (cc)
+stays_attached held c k (Some l) h e f = record { here = e ∙ ap (λ (m : Linear). Some m) (sym (f l e)); others = λ d n. refl }
 
-pub on-ok_map : (r : Result (Unit {0}) AllocError) (P Q : Type 0) → (P → Q) → OnOk r P → OnOk r Q
-on-ok_map (Ok x) P Q f p = f p
-on-ok_map (Err e) P Q f p = p
+pub on_ok_map : (r : Result (Unit {0}) AllocError) (P Q : Type 0) → (P → Q) → OnOk r P → OnOk r Q
+on_ok_map (Ok x) P Q f p = f p
+on_ok_map (Err e) P Q f p = p
 
 pub same_parts : (k : Linear) (ts : List Term) (degree : ℕ) (made : Linear) → made ≡ record { terms = ts; degree = degree } → ts ≡ k.terms → degree ≡ k.degree → made ≡ k
 same_parts k ts degree made e t d =
@@ -33,7 +34,7 @@ same_parts k ts degree made e t d =
     e ∙ ap (λ (us : List Term). f us degree) t ∙ ap (f k.terms) d
 
 -- the counted literals are a prefix of the trail's, as many as are used
-pub ready-counted : (p ls : List Literal) (used : ℕ) (es : List Entry) → take used ls ≡ p → used ≤ length ls → take (length p) (lits_of es) ≡ p → take used ls ≡ take used (lits_of es)
-ready-counted p ls used es e h k =
+pub ready_counted : (p ls : List Literal) (used : ℕ) (es : List Entry) → take used ls ≡ p → used ≤ length ls → take (length p) (lits_of es) ≡ p → take used ls ≡ take used (lits_of es)
+ready_counted p ls used es e h k =
     let n : length p ≡ used = ap (λ (us : List Literal). length us) (sym e) ∙ length-take-le used ls h in
     e ∙ sym k ∙ ap (λ (m : ℕ). take m (lits_of es)) n

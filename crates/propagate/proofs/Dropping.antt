@@ -10,8 +10,8 @@ use Rattle.propagate.specs.Attached.{Attached, attached_at, ChangesOnly, Drops}
 use Rattle.propagate.proofs.Attaching.{same_id}
 
 -- nothing was dropped yet
-pub drops-none : (held : List Attached) (ids : List ConId) → Drops (take 0 ids) held held
-drops-none held ids = record { gone = λ k d h. absurd (omega arith); others = λ d n. refl }
+pub drops_none : (held : List Attached) (ids : List ConId) → Drops (take 0 ids) held held
+drops_none held ids = record { gone = λ k d h. absurd (omega arith); others = λ d n. refl }
 
 at_more : (ids : List ConId) (i : ℕ) (c : ConId) → i < length ids → c ≡ get_or ids i c → take (i + 1) ids ≡ take i ids ++ c ∷ []
 at_more ids i c h is = take_more ids i c h ∙ ap (λ (x : ConId). take i ids ++ x ∷ []) (sym is)
@@ -30,8 +30,9 @@ stays_gone mid new c d h p = elim (cases_eq d.0 c.0) [
   | inr n ↦ (h.others d (λ z. n (ap (λ (x : ConId). x.0) z)) ∙ p)
 ]
 
-pub drops-more : (ids : List ConId) (i : ℕ) (c : ConId) (old mid new : List Attached) → i < length ids → c ≡ get_or ids i c → Drops (take i ids) old mid → ChangesOnly mid new c None → Drops (take (i + 1) ids) old new
-drops-more ids i c old mid new h is p e =
+pub drops_more : (ids : List ConId) (i : ℕ) (c : ConId) (old mid new : List Attached) → i < length ids → c ≡ get_or ids i c → Drops (take i ids) old mid → ChangesOnly mid new c None
+    → Drops (take (i + 1) ids) old new
+drops_more ids i c old mid new h is p e =
     let P : List ConId → Type 0 = λ cs. Drops cs old new in
     let N : ConId → Type 0 = λ x. attached_at new x ≡ None in
     subst P (sym (at_more ids i c h is)) (record {
@@ -53,5 +54,6 @@ among (c ∷ ids) d = elim (cases_eq c.0 d.0) [
   ]
 ]
 
-pub drops-gone : (ids : List ConId) (old new : List Attached) (d : ConId) → Drops ids old new → Contains ids d → attached_at new d ≡ None
-drops-gone ids old new d p w = All-contains (λ (c : ConId). attached_at new c ≡ None) ids d p.gone w
+-- a constraint that is dropped isn't attached
+pub drops_gone : (ids : List ConId) (old new : List Attached) (d : ConId) → Drops ids old new → Contains ids d → attached_at new d ≡ None
+drops_gone ids old new d p w = All-contains (λ (c : ConId). attached_at new c ≡ None) ids d p.gone w

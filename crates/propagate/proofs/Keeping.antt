@@ -12,11 +12,11 @@ use Rattle.pb_rules.specs.Partial.{open_weight}
 use Rattle.propagate.specs.declared.occurrences.Occurrence.{Occurrence}
 use Rattle.propagate.specs.Ranked.{RankedView, IsRanked, part_of, part_in, whole_in, parts, wholes, IsKept, IsKeptIn, AreKept}
 use Rattle.propagate.specs.Flags.{is_waiting, Awaits}
-use Rattle.propagate.specs.Counters.{value_of, nothing, linear_at, number_of, weight_of, weight_at, occurrences_of, SlotsBelow, IsLimited, IsQuiet, IsBuilt, IsInStep, IsInStepBut, Added, Removed, Renamed, IsPut, IsMovedSlot}
+use Rattle.propagate.specs.Counters.{value_given, nothing, linear_at, literal_number, weight_of, weight_at, occurrences_of, SlotsBelow, IsLimited, IsQuiet, IsBuilt, IsInStep, IsInStepBut, Added, Removed, Renamed, IsPut, IsMovedSlot}
 use Rattle.propagate.proofs.Attaching.{empty}
-use Rattle.propagate.proofs.Weights.{number-below}
-use Rattle.propagate.proofs.Placing.{at-each, built-set, limited-nothing, slot-same, slot-other}
-use Rattle.propagate.proofs.Remapping.{built-moved, step-moved, slots-moved}
+use Rattle.propagate.proofs.Weights.{number_below}
+use Rattle.propagate.proofs.Placing.{at_each, built_set, limited_nothing, slot_same, slot_other}
+use Rattle.propagate.proofs.Remapping.{built_moved, step_moved, slots_moved}
 use Rattle.propagate.proofs.Watching.{unfilled, parts-length, parts-at, parts-set, wholes-at, wholes-set, part-is, whole-is, kept-set, kept-at, quiet-nothing}
 
 pub linear_at-parts : (slots : List (Option RankedView)) (i : ℕ) → linear_at (parts slots) i ≡ unwrap_or (part_in (get_or slots i unfilled)) nothing
@@ -39,11 +39,11 @@ built-out n i slots limits lists lists' b h r =
     subst P (sym (parts-set slots i unfilled)) (record {
       few = b.few;
       wide = omega (arith, wide, same);
-      in_range = at-each ps i empty V h' (λ k d z. absurd (omega arith)) (λ j z. b.in_range j);
-      small = at-each ps i empty T h' (omega arith) (λ j z. b.small j);
+      in_range = at_each ps i empty V h' (λ k d z. absurd (omega arith)) (λ j z. b.in_range j);
+      small = at_each ps i empty T h' (omega arith) (λ j z. b.small j);
       inside = λ k j d g. (let a = r.inside (length ps) k (b.inside k) j d g in omega (arith, a, n'));
-      weights = λ j k. at-each ps i empty (W k) h' (let a = r.own k in omega (arith, a)) (λ m z. r.others m k z ∙ b.weights m k) j;
-      limited = at-each ps i empty L h' (limited-nothing (get_or limits i 0)) (λ j z. b.limited j);
+      weights = λ j k. at_each ps i empty (W k) h' (let a = r.own k in omega (arith, a)) (λ m z. r.others m k z ∙ b.weights m k) j;
+      limited = at_each ps i empty L h' (limited_nothing (get_or limits i 0)) (λ j z. b.limited j);
     })
 
 pub step-out : (n i : ℕ) (slots : List (Option RankedView)) (rooms : List ℕ) (w : List Bool) (ls : List Literal) (q : ℕ → Option Bool) → IsInStepBut i n (parts slots) rooms w ls q → i < length slots → i < length rooms → IsInStep n (parts (set slots i unfilled)) (set rooms i 0) w ls q
@@ -51,14 +51,14 @@ step-out n i slots rooms w ls q s h hr =
     let ps = parts slots in
     let len = parts-length slots in
     let h' : i < length ps = omega (arith, len) in
-    let S : ℕ → Linear → Type 0 = λ j k. get_or (set rooms i 0) j 0 ≡ open_weight (value_of ls) k.terms in
+    let S : ℕ → Linear → Type 0 = λ j k. get_or (set rooms i 0) j 0 ≡ open_weight (value_given ls) k.terms in
     let Q : ℕ → Linear → Type 0 = λ j k. is_waiting w j ≡ false → IsQuiet (get_or (set rooms i 0) j 0) q k in
     let P : List (Option Linear) → Type 0 = λ us. IsInStep n us (set rooms i 0) w ls q in
     subst P (sym (parts-set slots i unfilled)) (record {
-      sums = at-each ps i empty S h' (get_or-set_same rooms i 0 0 hr) (λ j z. get_or-set_other rooms i j 0 0 z ∙ s.sums j);
+      sums = at_each ps i empty S h' (get_or-set_same rooms i 0 0 hr) (λ j z. get_or-set_other rooms i j 0 0 z ∙ s.sums j);
       distinct = s.distinct;
       below = s.below;
-      quiet = at-each ps i empty Q h' (λ z. quiet-nothing (get_or (set rooms i 0) i 0) q) (λ j m z. (let R : ℕ → Type 0 = λ x. IsQuiet x q (linear_at ps j) in subst R (sym (get_or-set_other rooms i j 0 0 m)) (s.quiet j m z)));
+      quiet = at_each ps i empty Q h' (λ z. quiet-nothing (get_or (set rooms i 0) i 0) q) (λ j m z. (let R : ℕ → Type 0 = λ x. IsQuiet x q (linear_at ps j) in subst R (sym (get_or-set_other rooms i j 0 0 m)) (s.quiet j m z)));
     })
 
 -- a slot that is filled
@@ -68,29 +68,29 @@ built-in n i limit r slots limits lists lists' b h hl range small limited a =
     let len = parts-length slots in
     let h' : i < length ps = omega (arith, len) in
     let P : List (Option Linear) → Type 0 = λ us. IsBuilt n us (set limits i limit) lists' in
-    subst P (sym (parts-set slots i (Some r))) (built-set n i limit (Some (part_of r)) ps limits lists lists' b h' hl range small limited a.same_length (λ k. a.inside (length ps) k h' (b.inside k)) a.own (λ j k z. a.others j k z))
+    subst P (sym (parts-set slots i (Some r))) (built_set n i limit (Some (part_of r)) ps limits lists lists' b h' hl range small limited a.same_length (λ k. a.inside (length ps) k h' (b.inside k)) a.own (λ j k z. a.others j k z))
 
-pub step-in : (n i room : ℕ) (r : RankedView) (slots : List (Option RankedView)) (rooms : List ℕ) (w : List Bool) (ls : List Literal) (q : ℕ → Option Bool) → IsInStepBut i n (parts slots) rooms w ls q → i < length slots → i < length rooms → room ≡ open_weight (value_of ls) (part_of r).terms → IsInStepBut i n (parts (set slots i (Some r))) (set rooms i room) w ls q
+pub step-in : (n i room : ℕ) (r : RankedView) (slots : List (Option RankedView)) (rooms : List ℕ) (w : List Bool) (ls : List Literal) (q : ℕ → Option Bool) → IsInStepBut i n (parts slots) rooms w ls q → i < length slots → i < length rooms → room ≡ open_weight (value_given ls) (part_of r).terms → IsInStepBut i n (parts (set slots i (Some r))) (set rooms i room) w ls q
 step-in n i room r slots rooms w ls q s h hr is =
     let ps = parts slots in
     let len = parts-length slots in
     let h' : i < length ps = omega (arith, len) in
     let o : Option Linear = Some (part_of r) in
-    let S : ℕ → Linear → Type 0 = λ j k. get_or (set rooms i room) j 0 ≡ open_weight (value_of ls) k.terms in
+    let S : ℕ → Linear → Type 0 = λ j k. get_or (set rooms i room) j 0 ≡ open_weight (value_given ls) k.terms in
     let Q : ℕ → Linear → Type 0 = λ j k. j ≢ i → is_waiting w j ≡ false → IsQuiet (get_or (set rooms i room) j 0) q k in
     let P : List (Option Linear) → Type 0 = λ us. IsInStepBut i n us (set rooms i room) w ls q in
     subst P (sym (parts-set slots i (Some r))) (record {
-      sums = at-each ps i o S h' (get_or-set_same rooms i room 0 hr ∙ is) (λ j z. get_or-set_other rooms i j room 0 z ∙ s.sums j);
+      sums = at_each ps i o S h' (get_or-set_same rooms i room 0 hr ∙ is) (λ j z. get_or-set_other rooms i j room 0 z ∙ s.sums j);
       distinct = s.distinct;
       below = s.below;
-      quiet = at-each ps i o Q h' (λ ne z. absurd (ne refl)) (λ j m ne z. (let R : ℕ → Type 0 = λ x. IsQuiet x q (linear_at ps j) in subst R (sym (get_or-set_other rooms i j room 0 m)) (s.quiet j m z)));
+      quiet = at_each ps i o Q h' (λ ne z. absurd (ne refl)) (λ j m ne z. (let R : ℕ → Type 0 = λ x. IsQuiet x q (linear_at ps j) in subst R (sym (get_or-set_other rooms i j room 0 m)) (s.quiet j m z)));
     })
 
 -- what is put or emptied
 pub put-set : (ws ws' : List (Option Linear)) (i : ℕ) (o : Option Linear) → i < length ws → ws' ≡ set ws i o → IsPut i o ws ws'
 put-set ws ws' i o h e =
     let P : List (Option Linear) → Type 0 = λ us. IsPut i o ws us in
-    subst P (sym e) (record { here = slot-same ws i o h; others = λ j n. slot-other ws i j o n })
+    subst P (sym e) (record { here = slot_same ws i o h; others = λ j n. slot_other ws i j o n })
 
 pub put-out : (slots : List (Option RankedView)) (i : ℕ) → i < length slots → IsPut i None (wholes slots) (wholes (set slots i unfilled))
 put-out slots i h =
@@ -112,21 +112,21 @@ built-goes n from to r slots limits lists lists' b h l h' here rn =
     let len = parts-length slots in
     let P : List (Option Linear) → Type 0 = λ us. IsBuilt n us (set limits to (get_or limits from 0)) lists' in
     let e : parts (set (set slots from unfilled) to (Some r)) ≡ set (set (parts slots) from empty) to (Some (part_of r)) = parts-set (set slots from unfilled) to (Some r) ∙ ap (λ us. set us to (Some (part_of r))) (parts-set slots from unfilled) in
-    subst P (sym e) (built-moved n from to (part_of r) (parts slots) limits lists lists' b (omega (arith, len)) l h' (part-is slots from r here) rn)
+    subst P (sym e) (built_moved n from to (part_of r) (parts slots) limits lists lists' b (omega (arith, len)) l h' (part-is slots from r here) rn)
 
 pub step-goes : (n from to : ℕ) (r : RankedView) (slots : List (Option RankedView)) (rooms : List ℕ) (w w' : List Bool) (ls : List Literal) (q : ℕ → Option Bool) → IsInStep n (parts slots) rooms w ls q → from < length slots → to < from → from < length rooms → get_or slots from unfilled ≡ Some r → Awaits to w w' → IsInStep n (parts (set (set slots from unfilled) to (Some r))) (set (set rooms to (get_or rooms from 0)) from 0) w' ls q
 step-goes n from to r slots rooms w w' ls q s h l h' here a =
     let len = parts-length slots in
     let P : List (Option Linear) → Type 0 = λ us. IsInStep n us (set (set rooms to (get_or rooms from 0)) from 0) w' ls q in
     let e : parts (set (set slots from unfilled) to (Some r)) ≡ set (set (parts slots) from empty) to (Some (part_of r)) = parts-set (set slots from unfilled) to (Some r) ∙ ap (λ us. set us to (Some (part_of r))) (parts-set slots from unfilled) in
-    subst P (sym e) (step-moved n from to (part_of r) (parts slots) rooms w w' ls q s (omega (arith, len)) l h' (part-is slots from r here) a)
+    subst P (sym e) (step_moved n from to (part_of r) (parts slots) rooms w w' ls q s (omega (arith, len)) l h' (part-is slots from r here) a)
 
 pub wholes-go : (from to : ℕ) (r : RankedView) (slots : List (Option RankedView)) → from < length slots → to < from → get_or slots from unfilled ≡ Some r → IsMovedSlot from to (wholes slots) (wholes (set (set slots from unfilled) to (Some r)))
 wholes-go from to r slots h l here =
     let len = length-map slots whole_in in
     let P : List (Option Linear) → Type 0 = λ us. IsMovedSlot from to (wholes slots) us in
     let e : wholes (set (set slots from unfilled) to (Some r)) ≡ set (set (wholes slots) from empty) to (Some r.whole) = wholes-set (set slots from unfilled) to (Some r) ∙ ap (λ us. set us to (Some r.whole)) (wholes-set slots from unfilled) in
-    subst P (sym e) (slots-moved from to r.whole (wholes slots) (omega (arith, len)) l (whole-is slots from r here))
+    subst P (sym e) (slots_moved from to r.whole (wholes slots) (omega (arith, len)) l (whole-is slots from r here))
 
 pub kept-goes : (n from to : ℕ) (r : RankedView) (slots : List (Option RankedView)) → from < length slots → to < from → get_or slots from unfilled ≡ Some r → AreKept n slots → AreKept n (set (set slots from unfilled) to (Some r))
 kept-goes n from to r slots h l here k =
@@ -134,12 +134,12 @@ kept-goes n from to r slots h l here k =
     kept-set n (set slots from unfilled) to (Some r) (omega (arith, len)) (kept-set n slots from unfilled h k tt) (kept-at n slots from r k here)
 
 -- the numbers of the literals that occur, and their weights
-numbers-below : (n m : ℕ) (ts : List Term) → VarsBelow n ts → 2 * n ≤ m → All (λ (t : Term). number_of t.lit < m) ts
-numbers-below n m ts h w k d l = number-below (get_or ts k d).lit n m (h k d l) w
+numbers-below : (n m : ℕ) (ts : List Term) → VarsBelow n ts → 2 * n ≤ m → All (λ (t : Term). literal_number t.lit < m) ts
+numbers-below n m ts h w k d l = number_below (get_or ts k d).lit n m (h k d l) w
 
-pub numbers-at : (n i : ℕ) (slots : List (Option RankedView)) (limits : List ℕ) (lists : List (List Occurrence)) (o : Option RankedView) → IsBuilt n (parts slots) limits lists → get_or slots i unfilled ≡ o → All (λ (t : Term). number_of t.lit < length lists) (unwrap_or (part_in o) nothing).terms
+pub numbers-at : (n i : ℕ) (slots : List (Option RankedView)) (limits : List ℕ) (lists : List (List Occurrence)) (o : Option RankedView) → IsBuilt n (parts slots) limits lists → get_or slots i unfilled ≡ o → All (λ (t : Term). literal_number t.lit < length lists) (unwrap_or (part_in o) nothing).terms
 numbers-at n i slots limits lists o b e =
-    let P : Linear → Type 0 = λ c. All (λ (t : Term). number_of t.lit < length lists) c.terms in
+    let P : Linear → Type 0 = λ c. All (λ (t : Term). literal_number t.lit < length lists) c.terms in
     let is : linear_at (parts slots) i ≡ unwrap_or (part_in o) nothing = linear_at-parts slots i ∙ ap (λ (u : Option RankedView). unwrap_or (part_in u) nothing) e in
     subst P is (numbers-below n (length lists) (linear_at (parts slots) i).terms (b.in_range i) b.wide)
 
@@ -150,7 +150,7 @@ weights-at n i slots limits lists o b e k = b.weights i k ∙ ap (λ (c : Linear
 pub part-below : (n : ℕ) (r : RankedView) → IsRanked r → VarsBelow n r.whole.terms → VarsBelow n (part_of r).terms
 part-below n r k h = (let P : Term → Type 0 = λ t. t.lit.var < n in All-take P r.watched r.order (All-permutation P r.whole.terms r.order k.ranking.moved h))
 
-pub part-numbers : (n m : ℕ) (r : RankedView) → IsRanked r → VarsBelow n r.whole.terms → 2 * n ≤ m → All (λ (t : Term). number_of t.lit < m) (part_of r).terms
+pub part-numbers : (n m : ℕ) (r : RankedView) → IsRanked r → VarsBelow n r.whole.terms → 2 * n ≤ m → All (λ (t : Term). literal_number t.lit < m) (part_of r).terms
 part-numbers n m r k h w = numbers-below n m (part_of r).terms (part-below n r k h) w
 
 -- what room for slots leaves

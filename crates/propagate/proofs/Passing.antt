@@ -10,15 +10,15 @@ use Rattle.trail_state.specs.Trail.{Entry, value_in}
 use Rattle.propagate.specs.Attached.{Attached}
 use Rattle.propagate.specs.Ranked.{RankedView, IsRanked, part_of, rest_of, rest_in, wholes, parts}
 use Rattle.propagate.specs.Forced.{Appends, AllClosed}
-use Rattle.propagate.specs.Counters.{value_of, nothing, linear_at, attached_from, IsQuiet, IsInStepBut}
-use Rattle.propagate.proofs.Weights.{value_of-entries}
-use Rattle.propagate.proofs.Tying.{lits_of, weight-same, room-is}
+use Rattle.propagate.specs.Counters.{value_given, nothing, linear_at, attached_from, IsQuiet, IsInStepBut}
+use Rattle.propagate.proofs.Weights.{value_given_entries}
+use Rattle.propagate.proofs.Tying.{lits_of, weight_same, room_is}
 use Rattle.propagate.proofs.Watching.{unfilled, part-is, linear_part-is, linear_whole-is, linear_whole-none, open-split, quiet-part, closed-nothing, attached-closed}
 
 -- the room that is read, where no term is open but those watched
-pub room-whole : (slots : List (Option RankedView)) (rooms : List ℕ) (ls : List Literal) (es : List Entry) (i room : ℕ) (r : RankedView) → IsRanked r → ls ≡ lits_of es → get_or slots i unfilled ≡ Some r → i < length rooms → room ≡ get_or rooms i room → get_or rooms i 0 ≡ open_weight (value_of ls) (linear_at (parts slots) i).terms → open_weight (value_in es) (rest_in (get_or slots i unfilled)) ≡ 0 → room ≡ open_weight (value_in es) r.whole.terms
+pub room-whole : (slots : List (Option RankedView)) (rooms : List ℕ) (ls : List Literal) (es : List Entry) (i room : ℕ) (r : RankedView) → IsRanked r → ls ≡ lits_of es → get_or slots i unfilled ≡ Some r → i < length rooms → room ≡ get_or rooms i room → get_or rooms i 0 ≡ open_weight (value_given ls) (linear_at (parts slots) i).terms → open_weight (value_in es) (rest_in (get_or slots i unfilled)) ≡ 0 → room ≡ open_weight (value_in es) r.whole.terms
 room-whole slots rooms ls es i room r k counted here lt at sum rest =
-    let a = room-is (parts slots) rooms ls es i room (part_of r) counted (part-is slots i r here) lt at sum in
+    let a = room_is (parts slots) rooms ls es i room (part_of r) counted (part-is slots i r here) lt at sum in
     let z : open_weight (value_in es) (rest_of r) ≡ 0 = ap (λ (o : Option RankedView). open_weight (value_in es) (rest_in o)) (sym here) ∙ rest in
     let split = open-split (value_in es) r k in
     omega (arith, a, z, split)
@@ -36,7 +36,7 @@ pub quiet-watched : (slot n : ℕ) (slots : List (Option RankedView)) (rooms : L
 quiet-watched slot n slots rooms w ls es r h counted here quiet =
     let is = linear_part-is slots slot r here in
     let ts = (linear_at (parts slots) slot).terms in
-    let sum : get_or rooms slot 0 ≡ open_weight (value_in es) (part_of r).terms = h.sums slot ∙ ap (λ (us : List Literal). open_weight (value_of us) ts) counted ∙ weight-same (value_of (lits_of es)) (value_in es) ts (value_of-entries es) ∙ ap (λ (c : Linear). open_weight (value_in es) c.terms) is in
+    let sum : get_or rooms slot 0 ≡ open_weight (value_in es) (part_of r).terms = h.sums slot ∙ ap (λ (us : List Literal). open_weight (value_given us) ts) counted ∙ weight_same (value_given (lits_of es)) (value_in es) ts (value_given_entries es) ∙ ap (λ (c : Linear). open_weight (value_in es) c.terms) is in
     let P : ℕ → Type 0 = λ x. IsQuiet x (value_in es) (part_of r) in
     let Q : Linear → Type 0 = λ c. IsQuiet (get_or rooms slot 0) (value_in es) c in
     subst Q (sym is) (subst P (sym sum) quiet)

@@ -1,9 +1,9 @@
 -- Terms by falling coefficient.
 use Rattle.std.proofs.Common.{◌≡◌, ℕ, ◌+◌, ◌-◌, ◌<◌, ◌≤◌, ◌^◌, List, length, get_or, take, sym, ap, ◌∙◌, subst, arith, inl, inr, All}
 use Rattle.std.specs.List.Sorted.{IsNonDecreasingBy, IsPermutation}
-use Rattle.std.proofs.lemmas.List.Sorted.{IsPermutation-refl, All-permutation}
+use Rattle.std.proofs.lemmas.List.Sorted.{All-permutation}
 use Rattle.std.proofs.lemmas.List.Elements.{All-more}
-use Rattle.std.proofs.lemmas.List.{length-take-le, get_or-take, get_or_default, take_all}
+use Rattle.std.proofs.lemmas.List.{length-take-le, get_or-take, get_or_default}
 use Rattle.std.proofs.lemmas.Bool.{cases_lt}
 use Rattle.pb_rules.specs.declared.Term.{Term}
 use Rattle.pb_rules.specs.Linear.{total}
@@ -15,16 +15,17 @@ abbrev pub below_greatest : Term → ℕ
 below_greatest t = 18446744073709551615 - t.coef
 
 -- what rises by that falls by its coefficient
-pub falling-from : (ts : List Term) → All (λ (t : Term). t.coef < 2 ^ 64) ts → IsNonDecreasingBy below_greatest ts → IsFalling ts
-falling-from ts small up i j d le lt =
+pub falling_from : (ts : List Term) → All (λ (t : Term). t.coef < 2 ^ 64) ts → IsNonDecreasingBy below_greatest ts → IsFalling ts
+falling_from ts small up i j d le lt =
     let a = small i d (omega arith) in
     let b = small j d lt in
     let c = up i j d le lt in
     omega (arith, a, b, c)
 
 -- one more coefficient that isn't greater
-pub falling-more : (ts : List Term) (k last : ℕ) (t : Term) → k < length ts → t ≡ get_or ts k t → IsFalling (take k ts) → All (λ (u : Term). last ≤ u.coef) (take k ts) → t.coef ≤ last → IsFalling (take (k + 1) ts)
-falling-more ts k last t h at falling bound le i j d ij lt =
+pub falling_more : (ts : List Term) (k last : ℕ) (t : Term) → k < length ts → t ≡ get_or ts k t → IsFalling (take k ts) → All (λ (u : Term). last ≤ u.coef) (take k ts) → t.coef ≤ last
+    → IsFalling (take (k + 1) ts)
+falling_more ts k last t h at falling bound le i j d ij lt =
     let coef : Term → ℕ = λ u. u.coef in
     let len : length (take (k + 1) ts) ≡ k + 1 = length-take-le (k + 1) ts (omega arith) in
     let len' : length (take k ts) ≡ k = length-take-le k ts (omega arith) in
@@ -53,23 +54,18 @@ falling-more ts k last t h at falling bound le i j d ij lt =
     ]
 
 -- and none that was there is less
-pub bound-more : (ts : List Term) (k last : ℕ) (t : Term) → k < length ts → t ≡ get_or ts k t → All (λ (u : Term). last ≤ u.coef) (take k ts) → t.coef ≤ last → All (λ (u : Term). t.coef ≤ u.coef) (take (k + 1) ts)
-bound-more ts k last t h at bound le =
+pub bound_more : (ts : List Term) (k last : ℕ) (t : Term) → k < length ts → t ≡ get_or ts k t → All (λ (u : Term). last ≤ u.coef) (take k ts) → t.coef ≤ last
+    → All (λ (u : Term). t.coef ≤ u.coef) (take (k + 1) ts)
+bound_more ts k last t h at bound le =
     let P : Term → Type 0 = λ u. t.coef ≤ u.coef in
     All-more P ts k t h (λ j d l. (let b = bound j d l in omega arith)) (subst P at (omega arith))
 
-pub falling-none : (ts : List Term) → IsFalling (take 0 ts)
-falling-none ts i j d le lt = absurd (omega arith)
-
-pub falling-all : (ts : List Term) (k : ℕ) → length ts ≤ k → IsFalling (take k ts) → IsFalling ts
-falling-all ts k h f = (let P : List Term → Type 0 = λ us. IsFalling us in subst P (take_all k ts h) f)
-
-pub ranking-same : (ts : List Term) → IsFalling ts → IsRanking ts ts
-ranking-same ts f = record { moved = IsPermutation-refl ts; falling = f }
+pub falling_none : (ts : List Term) → IsFalling (take 0 ts)
+falling_none ts i j d le lt = absurd (omega arith)
 
 -- after a sort
-pub ranking-from : (ts ranked : List Term) → total ts < 2 ^ 63 → IsPermutation ts ranked → IsNonDecreasingBy below_greatest ranked → IsRanking ts ranked
-ranking-from ts ranked small moved up =
+pub ranking_from : (ts ranked : List Term) → total ts < 2 ^ 63 → IsPermutation ts ranked → IsNonDecreasingBy below_greatest ranked → IsRanking ts ranked
+ranking_from ts ranked small moved up =
     let P : Term → Type 0 = λ t. t.coef < 2 ^ 64 in
     let each : All P ts = λ k d h. (let a = coef-le ts k (get_or ts k d) h (get_or_default ts k d (get_or ts k d) h) in omega (arith, a)) in
-    record { moved = moved; falling = falling-from ranked (All-permutation P ts ranked moved each) up }
+    record { moved = moved; falling = falling_from ranked (All-permutation P ts ranked moved each) up }

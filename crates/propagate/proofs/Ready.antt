@@ -2,6 +2,7 @@
 use Rattle.std.proofs.Common.{◌≡◌, ◌≢◌, ℕ, Bool, true, cond, eqb, Option, Some, None, List, [], ◌∷◌, ◌++◌, get_or, zero, suc, refl, sym, ap, ◌∙◌, subst, inl, inr, ◌⊎◌, IsTrue, length, take, map, arith}
 use Rattle.std.proofs.lemmas.Bool.{cases_eq, cases_lt}
 use Rattle.std.proofs.lemmas.List.{take-map, take-take}
+use Rattle.std.proofs.lemmas.Option.{same_Some}
 use Rattle.pb_constraints.specs.declared.ConId.{ConId}
 use Rattle.pb_rules.specs.Literal.{Literal}
 use Rattle.pb_rules.specs.Linear.{Linear}
@@ -10,22 +11,16 @@ use Rattle.constraint_store.proofs.Laws.{is_live_added, live_at_added, live_at_r
 use Rattle.trail_state.specs.Trail.{Entry, TrailView}
 use Rattle.propagate.specs.Attached.{Attached, attached_at, ChangesOnly, Drops, IsMoved}
 use Rattle.propagate.specs.Propagator.{PropagatorView, IsCounted, IsAlong, IsReady}
-use Rattle.propagate.proofs.Dropping.{among, drops-gone}
+use Rattle.propagate.proofs.Dropping.{among, drops_gone}
 use Rattle.propagate.proofs.Attaching.{same_id}
 
 abbrev other_number : (c d : ConId) → d.0 ≢ c.0 → d ≢ c
 other_number c d n z = n (ap (λ (b : ConId). b.0) z)
 
-same-constraint : (j k : Linear) → Some j ≡ Some k → j ≡ k
-same-constraint j k e = cc
-
--- a new propagator fits every store and every trail of its variables
-pub ready-new : (store : List Live) (t : TrailView) → IsReady (record { variables = t.variables; attached = []; counted = [] }) store t
-ready-new store t = record { variables = refl; live = λ c k h. absurd (cc); stored = λ c k h. absurd (cc); counted = refl }
-
 -- after attaching a constraint of the store
-pub ready-attach : (p q : PropagatorView) (store : List Live) (t : TrailView) (c : ConId) → IsReady p store t → IsTrue (is_live store c) → ChangesOnly p.attached q.attached c (Some (constraint_of store c)) → q.variables ≡ p.variables → IsCounted q t → IsReady q store t
-ready-attach p q store t c r live change variables counted = record {
+pub ready_attach : (p q : PropagatorView) (store : List Live) (t : TrailView) (c : ConId) → IsReady p store t → IsTrue (is_live store c)
+    → ChangesOnly p.attached q.attached c (Some (constraint_of store c)) → q.variables ≡ p.variables → IsCounted q t → IsReady q store t
+ready_attach p q store t c r live change variables counted = record {
   variables = variables ∙ r.variables;
   live = λ d k h. elim (cases_eq d.0 c.0) [
     | inl e ↦ (let P : ConId → Type 0 = λ b. IsTrue (is_live store b) in subst P (sym (same_id d c e)) live)
@@ -33,15 +28,16 @@ ready-attach p q store t c r live change variables counted = record {
   ];
   stored = λ d k h. elim (cases_eq d.0 c.0) [
     | inl e ↦ (let a : attached_at q.attached d ≡ Some (constraint_of store c) = ap (attached_at q.attached) (same_id d c e) ∙ change.here in
-        ap (constraint_of store) (same_id d c e) ∙ same-constraint (constraint_of store c) k (sym a ∙ h))
+        ap (constraint_of store) (same_id d c e) ∙ same_Some (constraint_of store c) k (sym a ∙ h))
     | inr n ↦ r.stored d k (sym (change.others d (other_number c d n)) ∙ h)
   ];
   counted = counted;
 }
 
 -- over another trail of as many variables that goes on from the counted literals, as after `run` or `back`
-pub ready-trail : (p q : PropagatorView) (store : List Live) (t u : TrailView) → IsReady p store t → q.attached ≡ p.attached → q.variables ≡ p.variables → u.variables ≡ t.variables → IsCounted q u → IsReady q store u
-ready-trail p q store t u r attached variables same counted = record {
+pub ready_trail : (p q : PropagatorView) (store : List Live) (t u : TrailView) → IsReady p store t → q.attached ≡ p.attached → q.variables ≡ p.variables → u.variables ≡ t.variables → IsCounted q u
+    → IsReady q store u
+ready_trail p q store t u r attached variables same counted = record {
   variables = variables ∙ r.variables ∙ sym same;
   live = λ c k h. r.live c k (ap (λ (held : List Attached). attached_at held c) (sym attached) ∙ h);
   stored = λ c k h. r.stored c k (ap (λ (held : List Attached). attached_at held c) (sym attached) ∙ h);
@@ -49,8 +45,8 @@ ready-trail p q store t u r attached variables same counted = record {
 }
 
 -- after literals were taken off from the end, `back` can be called
-pub along-kept : (p : PropagatorView) (t u : TrailView) → IsCounted p t → take (length u.entries) t.entries ≡ u.entries → IsAlong p u
-along-kept p t u counted kept =
+pub along_kept : (p : PropagatorView) (t u : TrailView) → IsCounted p t → take (length u.entries) t.entries ≡ u.entries → IsAlong p u
+along_kept p t u counted kept =
     let lit : Entry → Literal = λ e. e.lit in
     let n = length p.counted in
     let m = length u.entries in
@@ -62,14 +58,14 @@ along-kept p t u counted kept =
     ]
 
 -- and where nothing is left
-pub along-nothing : (p : PropagatorView) (u : TrailView) → u.entries ≡ [] → IsAlong p u
-along-nothing p u e =
+pub along_nothing : (p : PropagatorView) (u : TrailView) → u.entries ≡ [] → IsAlong p u
+along_nothing p u e =
     let P : List Entry → Type 0 = λ es. take (length es) p.counted ≡ map (λ (x : Entry). x.lit) es in
     inr (subst P (sym e) refl)
 
 -- after one more constraint in the store
-pub ready-add : (p : PropagatorView) (store : List Live) (t : TrailView) (e : Live) → IsReady p store t → IsReady p (store ++ e ∷ []) t
-ready-add p store t e r = record {
+pub ready_add : (p : PropagatorView) (store : List Live) (t : TrailView) (e : Live) → IsReady p store t → IsReady p (store ++ e ∷ []) t
+ready_add p store t e r = record {
   variables = r.variables;
   live = λ c k h. is_live_added store e c ∙ ap (λ (b : Bool). cond b true (eqb e.id.0 c.0)) (r.live c k h);
   stored = λ c k h. ap (λ (x : Live). x.constraint) (live_at_added store e c (r.live c k h)) ∙ r.stored c k h;
@@ -77,8 +73,9 @@ ready-add p store t e r = record {
 }
 
 -- after a constraint was detached and then removed from the store
-pub ready-remove : (p q : PropagatorView) (store : List Live) (t : TrailView) (c : ConId) → IsReady p store t → ChangesOnly p.attached q.attached c None → q.variables ≡ p.variables → IsCounted q t → IsReady q (without c store) t
-ready-remove p q store t c r change variables counted = record {
+pub ready_remove : (p q : PropagatorView) (store : List Live) (t : TrailView) (c : ConId) → IsReady p store t → ChangesOnly p.attached q.attached c None → q.variables ≡ p.variables → IsCounted q t
+    → IsReady q (without c store) t
+ready_remove p q store t c r change variables counted = record {
   variables = variables ∙ r.variables;
   live = λ d k h. elim (cases_eq d.0 c.0) [
     | inl e ↦ absurd (gone d k h e)
@@ -98,12 +95,13 @@ ready-remove p q store t c r change variables counted = record {
     before d k h n = sym (change.others d (other_number c d n)) ∙ h
 
 -- after a constraint that isn't attached was removed from the store
-pub ready-free : (p : PropagatorView) (store : List Live) (t : TrailView) (c : ConId) → IsReady p store t → attached_at p.attached c ≡ None → IsReady p (without c store) t
-ready-free p store t c r h = ready-remove p p store t c r (record { here = h; others = λ d n. refl }) refl r.counted
+pub ready_free : (p : PropagatorView) (store : List Live) (t : TrailView) (c : ConId) → IsReady p store t → attached_at p.attached c ≡ None → IsReady p (without c store) t
+ready_free p store t c r h = ready_remove p p store t c r (record { here = h; others = λ d n. refl }) refl r.counted
 
 -- after constraints were detached
-pub ready-drop : (p q : PropagatorView) (store : List Live) (t : TrailView) (ids : List ConId) → IsReady p store t → Drops ids p.attached q.attached → q.variables ≡ p.variables → IsCounted q t → IsReady q store t
-ready-drop p q store t ids r drops variables counted = record {
+pub ready_drop : (p q : PropagatorView) (store : List Live) (t : TrailView) (ids : List ConId) → IsReady p store t → Drops ids p.attached q.attached → q.variables ≡ p.variables → IsCounted q t
+    → IsReady q store t
+ready_drop p q store t ids r drops variables counted = record {
   variables = variables ∙ r.variables;
   live = λ d k h. r.live d k (before d k h);
   stored = λ d k h. r.stored d k (before d k h);
@@ -113,7 +111,7 @@ ready-drop p q store t ids r drops variables counted = record {
     before : (d : ConId) (k : Linear) → attached_at q.attached d ≡ Some k → attached_at p.attached d ≡ Some k
     before d k h = elim (among ids d) [
       | inl w ↦ (
-          let gone : attached_at q.attached d ≡ None = drops-gone ids p.attached q.attached d drops w in
+          let gone : attached_at q.attached d ≡ None = drops_gone ids p.attached q.attached d drops w in
           absurd (cc))
       | inr n ↦ sym (drops.others d n) ∙ h
     ]
@@ -142,13 +140,15 @@ reached (Some e ∷ ids) d = elim (cases_eq e.0 d.0) [
     none q r zero = λ h. q (ap (λ (c : ConId). c.0) (same e d h))
     none q r (suc n) = r n
 
-    later : e.0 ≢ d.0 → ((n : ℕ) × (get_or ids n None ≡ Some d)) ⊎ ((n : ℕ) → get_or ids n None ≢ Some d) → ((n : ℕ) × (get_or (Some e ∷ ids) n None ≡ Some d)) ⊎ ((n : ℕ) → get_or (Some e ∷ ids) n None ≢ Some d)
+    later : e.0 ≢ d.0 → ((n : ℕ) × (get_or ids n None ≡ Some d)) ⊎ ((n : ℕ) → get_or ids n None ≢ Some d) → ((n : ℕ) × (get_or (Some e ∷ ids) n None ≡ Some d))
+        ⊎ ((n : ℕ) → get_or (Some e ∷ ids) n None ≢ Some d)
     later q (inl r) = inl (suc r.0, r.1)
     later q (inr r) = inr (none q r)
 
 -- after the store gave other ids and the propagator took them
-pub ready-remap : (p q : PropagatorView) (old new : List Live) (ids : List (Option ConId)) (t : TrailView) → IsReady p old t → IsRenaming old new ids → IsOneToOne ids → IsMoved (new_id ids) p.attached q.attached → q.variables ≡ p.variables → IsCounted q t → IsReady q new t
-ready-remap p q old new ids t r renaming one moved variables counted = record {
+pub ready_remap : (p q : PropagatorView) (old new : List Live) (ids : List (Option ConId)) (t : TrailView) → IsReady p old t → IsRenaming old new ids → IsOneToOne ids
+    → IsMoved (new_id ids) p.attached q.attached → q.variables ≡ p.variables → IsCounted q t → IsReady q new t
+ready_remap p q old new ids t r renaming one moved variables counted = record {
   variables = variables ∙ r.variables;
   live = λ d k h. (let w = from d k h in (live_at_renamed old new ids w.0 d renaming one w.1).0);
   stored = λ d k h.

@@ -17,11 +17,11 @@ use Rattle.trail_state.specs.Trail.{Entry, value_in}
 use Rattle.propagate.specs.Ranked.{IsFalling, IsRanking, RankedView, IsRanked, HasCoefficients, HasOpenFirst, part_of, rest_of, rest_in, whole_in, part_in, wholes, parts, IsKept, IsKeptIn, AreKept}
 use Rattle.propagate.specs.Forced.{AllClosed}
 use Rattle.propagate.specs.Flags.{is_waiting, Awaits, Takes}
-use Rattle.propagate.specs.Counters.{value_of, nothing, linear_at, attached_from, IsQuiet, IsInStep, IsInStepBut, AreCleared}
-use Rattle.propagate.proofs.Attaching.{attached_at-slot, empty}
-use Rattle.propagate.proofs.Weights.{value_of-entries}
-use Rattle.propagate.proofs.Steps.{quiet-later}
-use Rattle.propagate.proofs.Tying.{lits_of, weight-same}
+use Rattle.propagate.specs.Counters.{value_given, nothing, linear_at, attached_from, IsQuiet, IsInStep, IsInStepBut, AreCleared}
+use Rattle.propagate.proofs.Attaching.{attached_at_slot, empty}
+use Rattle.propagate.proofs.Weights.{value_given_entries}
+use Rattle.propagate.proofs.Steps.{quiet_later}
+use Rattle.propagate.proofs.Tying.{lits_of, weight_same}
 
 abbrev pub unfilled : Option RankedView
 unfilled = None
@@ -229,7 +229,7 @@ but-later slot n slots rooms w ls p q later h = record {
   sums = h.sums;
   distinct = h.distinct;
   below = h.below;
-  quiet = λ i ne z. quiet-later (get_or rooms i 0) p q (linear_at slots i) later (h.quiet i ne z);
+  quiet = λ i ne z. quiet_later (get_or rooms i 0) p q (linear_at slots i) later (h.quiet i ne z);
 }
 
 -- once nothing waits, the trail is closed
@@ -241,7 +241,7 @@ all-watched-closed n slots rooms w ls es kept h counted none i = go (get_or slot
     go (Some r) e = (
         let P : Linear → Type 0 = λ c. IsClosed (value_in es) c in
         let Q : Linear → Type 0 = λ c. IsQuiet (get_or rooms i 0) (value_in es) c in
-        let sum : get_or rooms i 0 ≡ open_weight (value_in es) (linear_at (parts slots) i).terms = h.sums i ∙ ap (λ (us : List Literal). open_weight (value_of us) (linear_at (parts slots) i).terms) counted ∙ weight-same (value_of (lits_of es)) (value_in es) (linear_at (parts slots) i).terms (value_of-entries es) in
+        let sum : get_or rooms i 0 ≡ open_weight (value_in es) (linear_at (parts slots) i).terms = h.sums i ∙ ap (λ (us : List Literal). open_weight (value_given us) (linear_at (parts slots) i).terms) counted ∙ weight_same (value_given (lits_of es)) (value_in es) (linear_at (parts slots) i).terms (value_given_entries es) in
         let is = linear_part-is slots i r e in
         let room = sum ∙ ap (λ (c : Linear). open_weight (value_in es) c.terms) is in
         let k = kept-at n slots i r kept e in
@@ -249,7 +249,7 @@ all-watched-closed n slots rooms w ls es kept h counted none i = go (get_or slot
 
 pub attached-closed : (slots : List (Option Linear)) (es : List Entry) → ((i : ℕ) → IsClosed (value_in es) (linear_at slots i)) → AllClosed (attached_from 0 slots) es
 attached-closed slots es h c k e =
-    let here : get_or slots c.0 empty ≡ Some k = sym (attached_at-slot slots c) ∙ e in
+    let here : get_or slots c.0 empty ≡ Some k = sym (attached_at_slot slots c) ∙ e in
     let P : Linear → Type 0 = λ d. IsClosed (value_in es) d in
     let is : linear_at slots c.0 ≡ k = ap (λ (o : Option Linear). unwrap_or o nothing) here in
     subst P is (h c.0)

@@ -12,13 +12,13 @@ use Rattle.propagate.specs.declared.counters.Counters.{Counters}
 use Rattle.propagate.specs.Flags.{is_waiting}
 
 -- the number of a literal
-abbrev pub number_of : Literal → ℕ
-number_of l = 2 * l.var + (if l.yes then 1 else 0)
+abbrev pub literal_number : Literal → ℕ
+literal_number l = 2 * l.var + (if l.yes then 1 else 0)
 
 -- the value that literals give a variable
-abbrev pub value_of : List Literal → ℕ → Option Bool
-value_of [] x = None
-value_of (l ∷ ls) x = if l.var == x then Some l.yes else value_of ls x
+abbrev pub value_given : List Literal → ℕ → Option Bool
+value_given [] x = None
+value_given (l ∷ ls) x = if l.var == x then Some l.yes else value_given ls x
 
 -- a constraint that always holds
 abbrev pub nothing : Linear
@@ -36,7 +36,7 @@ attached_from k (Some c ∷ ss) = record { id = record { 0 = k }; constraint = c
 
 -- the coefficient of the literal of a number in terms
 abbrev pub weight_of : ℕ → List Term → ℕ
-weight_of k ts = sum_by (λ t. if number_of t.lit == k then t.coef else 0) ts
+weight_of k ts = sum_by (λ t. if literal_number t.lit == k then t.coef else 0) ts
 
 -- the coefficients of a slot among occurrences
 abbrev pub weight_at : ℕ → List Occurrence → ℕ
@@ -67,7 +67,7 @@ pub record IsQuiet (room : ℕ) (q : ℕ → Option Bool) (c : Linear) : Type 0 
 -- the same, but for forcing literals that were taken off
 pub record IsQuietBut (room : ℕ) (q : ℕ → Option Bool) (off : List Literal) (c : Linear) : Type 0 where
   pub no_conflict : c.degree ≤ room
-  pub none_forced : All (λ t. q t.lit.var ≡ None → value_of off t.lit.var ≢ Some t.lit.yes → c.degree + t.coef ≤ room) c.terms
+  pub none_forced : All (λ t. q t.lit.var ≡ None → value_given off t.lit.var ≢ Some t.lit.yes → c.degree + t.coef ≤ room) c.terms
 
 -- the lists of occurrences and the limits are those of the slots
 pub record IsBuilt (n : ℕ) (slots : List (Option Linear)) (limits : List ℕ) (lists : List (List Occurrence)) : Type 0 where
@@ -87,29 +87,29 @@ pub record HasRoom (slots : List (Option Linear)) (rooms limits : List ℕ) (wai
 
 -- no variable stands twice
 abbrev pub AreDistinct : List Literal → Type 0
-AreDistinct ls = (k : ℕ) (d : Literal) → k < length ls → value_of (take k ls) (slice_index_or ls k d).var ≡ None
+AreDistinct ls = (k : ℕ) (d : Literal) → k < length ls → value_given (take k ls) (slice_index_or ls k d).var ≡ None
 
 -- the rooms are those under the counted literals, and each constraint that doesn't wait is quiet while these variables are unassigned
 pub record IsInStep (n : ℕ) (slots : List (Option Linear)) (rooms : List ℕ) (waiting : List Bool) (ls : List Literal) (q : ℕ → Option Bool) : Type 0 where
-  pub sums : (i : ℕ) → slice_index_or rooms i 0 ≡ open_weight (value_of ls) (linear_at slots i).terms
+  pub sums : (i : ℕ) → slice_index_or rooms i 0 ≡ open_weight (value_given ls) (linear_at slots i).terms
   pub distinct : AreDistinct ls
   pub below : All (λ l. l.var < n) ls
   pub quiet : (i : ℕ) → is_waiting waiting i ≡ false → IsQuiet (slice_index_or rooms i 0) q (linear_at slots i)
 
 -- the same but for one slot, of which only the room is known
 pub record IsInStepBut (slot n : ℕ) (slots : List (Option Linear)) (rooms : List ℕ) (waiting : List Bool) (ls : List Literal) (q : ℕ → Option Bool) : Type 0 where
-  pub sums : (i : ℕ) → slice_index_or rooms i 0 ≡ open_weight (value_of ls) (linear_at slots i).terms
+  pub sums : (i : ℕ) → slice_index_or rooms i 0 ≡ open_weight (value_given ls) (linear_at slots i).terms
   pub distinct : AreDistinct ls
   pub below : All (λ l. l.var < n) ls
   pub quiet : (i : ℕ) → i ≢ slot → is_waiting waiting i ≡ false → IsQuiet (slice_index_or rooms i 0) q (linear_at slots i)
 
 -- the rooms are those under the counted literals, and each constraint that doesn't wait is quiet but for forcing literals that were taken off
 pub record IsGivenBack (n : ℕ) (slots : List (Option Linear)) (rooms : List ℕ) (waiting : List Bool) (ls off : List Literal) : Type 0 where
-  pub sums : (i : ℕ) → slice_index_or rooms i 0 ≡ open_weight (value_of ls) (linear_at slots i).terms
+  pub sums : (i : ℕ) → slice_index_or rooms i 0 ≡ open_weight (value_given ls) (linear_at slots i).terms
   pub distinct : AreDistinct ls
   pub below : All (λ l. l.var < n) ls
   pub off_below : All (λ l. l.var < n) off
-  pub quiet : (i : ℕ) → is_waiting waiting i ≡ false → IsQuietBut (slice_index_or rooms i 0) (value_of ls) off (linear_at slots i)
+  pub quiet : (i : ℕ) → is_waiting waiting i ≡ false → IsQuietBut (slice_index_or rooms i 0) (value_given ls) off (linear_at slots i)
 
 -- the counted literals
 abbrev pub counted_of : Counters → List Literal
@@ -149,7 +149,7 @@ taken_off top c = drop c.used (take top c.lits.items)
 
 -- the rooms are those under the counted literals
 abbrev pub AreSummed : Counters → Type 0
-AreSummed c = (i : ℕ) → slice_index_or c.rooms.items i 0 ≡ open_weight (value_of (counted_of c)) (linear_at (parts_of c) i).terms
+AreSummed c = (i : ℕ) → slice_index_or c.rooms.items i 0 ≡ open_weight (value_given (counted_of c)) (linear_at (parts_of c) i).terms
 
 -- the rooms have lost the coefficients of occurrences, and what may no longer be quiet waits
 pub record TookRooms (os : List Occurrence) (limits rooms rooms' : List ℕ) (w w' : List Bool) : Type 0 where
@@ -191,7 +191,8 @@ pub record IsPut (slot : ℕ) (o : Option Linear) (old new : List (Option Linear
 pub record AreCleared {X : Type 0} (slots slots' : List (Option X)) (rooms rooms' : List ℕ) : Type 0 where
   pub same_slots : length slots' ≡ length slots
   pub same_rooms : length rooms' ≡ length rooms
-  pub each : (i : ℕ) → ((slice_index_or slots' i None ≡ slice_index_or slots i None) × (slice_index_or rooms' i 0 ≡ slice_index_or rooms i 0)) ⊎ ((slice_index_or slots' i None ≡ None) × (slice_index_or rooms' i 0 ≡ 0))
+  pub each : (i : ℕ) → ((slice_index_or slots' i None ≡ slice_index_or slots i None) × (slice_index_or rooms' i 0 ≡ slice_index_or rooms i 0))
+      ⊎ ((slice_index_or slots' i None ≡ None) × (slice_index_or rooms' i 0 ≡ 0))
 
 -- an occurrence of one slot in another
 abbrev pub moved_to : ℕ → ℕ → Occurrence → Occurrence

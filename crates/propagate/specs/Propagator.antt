@@ -7,7 +7,7 @@ use Rattle.constraint_store.specs.Live.{Live, is_live, constraint_of}
 use Rattle.trail_state.specs.Trail.{TrailView}
 use Rattle.propagate.specs.Attached.{Attached, attached_at}
 use Rattle.propagate.specs.declared.counters.Counters.{Counters}
-use Rattle.propagate.specs.Counters.{AreBuilt, AreInStep, value_of, counted_of}
+use Rattle.propagate.specs.Counters.{AreBuilt, AreInStep, value_given, counted_of}
 
 -- a propagator: how many variables there are, what is attached, and the literals that it has counted
 pub record PropagatorView : Type 0 where
@@ -18,7 +18,7 @@ pub record PropagatorView : Type 0 where
 -- what a propagator's fields keep
 pub record IsPropagator (c : Counters) : Type 0 where
   pub built : AreBuilt c
-  pub step : AreInStep c (value_of (counted_of c))
+  pub step : AreInStep c (value_given (counted_of c))
 
 -- the counted literals are a prefix of the trail's
 abbrev pub IsCounted : PropagatorView → TrailView → Type 0

@@ -18,7 +18,7 @@ ghost use Rattle.constraint_store.specs.Live.{new_id};
 ghost use Rattle.trail_state.specs.Trail.{value_in};
 ghost use Rattle.propagate.specs.Attached.{Drops};
 ghost use Rattle.propagate.specs.Ranked.{part_of, wholes};
-ghost use Rattle.propagate.specs.Counters.{IsLimited, SlotsBelow, weight_at, TookRooms, GaveRooms, Woke, AreBuilt, AreInStep, AreInStepBut, AreGivenBack, AreSummed, AreDistinct, taken_off, counted_of, value_of, attached_in, occurrences_of, IsPut, IsMovedSlot, IsOneMoved, AreMoved, AreCleared};
+ghost use Rattle.propagate.specs.Counters.{IsLimited, SlotsBelow, weight_at, TookRooms, GaveRooms, Woke, AreBuilt, AreInStep, AreInStepBut, AreGivenBack, AreSummed, AreDistinct, taken_off, counted_of, value_given, attached_in, occurrences_of, IsPut, IsMovedSlot, IsOneMoved, AreMoved, AreCleared};
 ghost use Rattle.propagate.specs.Flags.{is_waiting};
 
 use super::filling::{add_watched, grow_empty, grow_literals, grow_zeros, remove_watched, rename_all};
@@ -180,7 +180,7 @@ impl Counters {
     /// Takes counted literals off until so many are left, and gives what they took back to the rooms.
     fn give_back_to(&mut self, kept: usize)
         requires built { AreBuilt self.old }
-        requires step { AreInStep self.old (value_of (counted_of self.old)) }
+        requires step { AreInStep self.old (value_given (counted_of self.old)) }
         requires fewer { kept ≤ self.old.used }
         ensures built { AreBuilt self.new }
         ensures given { AreGivenBack (taken_off self.old.used self.new) self.new }
@@ -220,7 +220,7 @@ impl Counters {
         requires more { self.old.used ≤ top }
         requires there { top ≤ length self.old.lits.items }
         ensures built { AreBuilt self.new }
-        ensures step { AreInStep self.new (value_of (counted_of self.new)) }
+        ensures step { AreInStep self.new (value_given (counted_of self.new)) }
         ensures lits { self.new.lits ≡ self.old.lits }
         ensures used { self.new.used ≡ self.old.used }
         ensures slots { self.new.slots ≡ self.old.slots }
@@ -236,10 +236,10 @@ impl Counters {
     /// constraints that a literal was forced by then have room enough to stay quiet.
     pub fn uncount_to(&mut self, kept: usize)
         requires built { AreBuilt self.old }
-        requires step { AreInStep self.old (value_of (counted_of self.old)) }
+        requires step { AreInStep self.old (value_given (counted_of self.old)) }
         requires fewer { kept ≤ self.old.used }
         ensures built { AreBuilt self.new }
-        ensures step { AreInStep self.new (value_of (counted_of self.new)) }
+        ensures step { AreInStep self.new (value_given (counted_of self.new)) }
         ensures lits { self.new.lits ≡ self.old.lits }
         ensures used { self.new.used ≡ kept }
         ensures slots { self.new.slots ≡ self.old.slots }
@@ -253,9 +253,9 @@ impl Counters {
     /// Makes room for the slots below this number.
     fn make_slots(&mut self, count: usize) -> Result<(), AllocError>
         requires built { AreBuilt self.old }
-        requires step { AreInStep self.old (value_of (counted_of self.old)) }
+        requires step { AreInStep self.old (value_given (counted_of self.old)) }
         ensures built { AreBuilt self.new }
-        ensures step { AreInStep self.new (value_of (counted_of self.new)) }
+        ensures step { AreInStep self.new (value_given (counted_of self.new)) }
         ensures lits { self.new.lits ≡ self.old.lits }
         ensures used { self.new.used ≡ self.old.used }
         ensures variables { self.new.variables ≡ self.old.variables }
@@ -315,7 +315,7 @@ impl Counters {
     /// None for no variable.
     pub fn new(alloc: Global) -> Result<Counters, AllocError>
         ensures built { IfOk result AreBuilt }
-        ensures step { IfOk result (λ c. AreInStep c (value_of (counted_of c))) }
+        ensures step { IfOk result (λ c. AreInStep c (value_given (counted_of c))) }
         ensures empty { IfOk result (λ c. c.slots.items ≡ []) }
         ensures counted { IfOk result (λ c. counted_of c ≡ []) }
         ensures variables { IfOk result (λ c. c.variables ≡ 0) }
@@ -335,11 +335,11 @@ impl Counters {
     /// Makes room for so many variables.
     pub fn grow(&mut self, variables: u64) -> Result<(), AllocError>
         requires built { AreBuilt self.old }
-        requires step { AreInStep self.old (value_of (counted_of self.old)) }
+        requires step { AreInStep self.old (value_given (counted_of self.old)) }
         requires more { self.old.variables ≤ variables }
         requires few { variables < 2 ^ 62 }
         ensures built { AreBuilt self.new }
-        ensures step { AreInStep self.new (value_of (counted_of self.new)) }
+        ensures step { AreInStep self.new (value_given (counted_of self.new)) }
         ensures slots { self.new.slots ≡ self.old.slots }
         ensures counted { counted_of self.new ≡ counted_of self.old }
         ensures ok { OnOk result (self.new.variables ≡ variables) }
@@ -361,7 +361,7 @@ impl Counters {
     /// Puts a constraint into an empty slot. An `Err` leaves what is attached and what is counted.
     pub fn attach(&mut self, slot: usize, mut c: Ranked, trail: &Trail) -> Result<(), AllocError>
         requires built { AreBuilt self.old }
-        requires step { AreInStep self.old (value_of (counted_of self.old)) }
+        requires step { AreInStep self.old (value_given (counted_of self.old)) }
         requires variables { self.old.variables ≡ trail.now.variables }
         requires counted { counted_of self.old ≡ take self.old.used (map (λ e. e.lit) trail.now.entries) }
         requires used { self.old.used ≤ length trail.now.entries }
@@ -369,7 +369,7 @@ impl Counters {
         requires free { slice_index_or self.old.slots.items slot None ≡ None }
         requires in_range { VarsBelow self.old.variables c.whole.terms }
         ensures built { AreBuilt self.new }
-        ensures step { AreInStep self.new (value_of (counted_of self.new)) }
+        ensures step { AreInStep self.new (value_given (counted_of self.new)) }
         ensures variables { self.new.variables ≡ self.old.variables }
         ensures counted { counted_of self.new ≡ take self.new.used (map (λ e. e.lit) trail.now.entries) }
         ensures ok { OnOk result (IsPut slot (Some c.whole) (wholes self.old.slots.items) (wholes self.new.slots.items)) }
@@ -392,9 +392,9 @@ impl Counters {
     /// Takes out what stands in a slot.
     pub fn empty(&mut self, slot: usize)
         requires built { AreBuilt self.old }
-        requires step { AreInStep self.old (value_of (counted_of self.old)) }
+        requires step { AreInStep self.old (value_given (counted_of self.old)) }
         ensures built { AreBuilt self.new }
-        ensures step { AreInStep self.new (value_of (counted_of self.new)) }
+        ensures step { AreInStep self.new (value_given (counted_of self.new)) }
         ensures lits { self.new.lits ≡ self.old.lits }
         ensures used { self.new.used ≡ self.old.used }
         ensures variables { self.new.variables ≡ self.old.variables }
@@ -435,9 +435,9 @@ impl Counters {
     /// Takes out what stands in the slots of ids, by one pass over all lists of occurrences.
     pub fn empty_each(&mut self, dropped: &[ConId])
         requires built { AreBuilt self.old }
-        requires step { AreInStep self.old (value_of (counted_of self.old)) }
+        requires step { AreInStep self.old (value_given (counted_of self.old)) }
         ensures built { AreBuilt self.new }
-        ensures step { AreInStep self.new (value_of (counted_of self.new)) }
+        ensures step { AreInStep self.new (value_given (counted_of self.new)) }
         ensures lits { self.new.lits ≡ self.old.lits }
         ensures used { self.new.used ≡ self.old.used }
         ensures variables { self.new.variables ≡ self.old.variables }
@@ -450,12 +450,12 @@ impl Counters {
     /// Moves what stands in a slot to a lower one, which is empty.
     fn move_to(&mut self, from: usize, to: usize)
         requires built { AreBuilt self.old }
-        requires step { AreInStep self.old (value_of (counted_of self.old)) }
+        requires step { AreInStep self.old (value_given (counted_of self.old)) }
         requires apart { to < from }
         requires here { from < length self.old.slots.items }
         requires free { slice_index_or self.old.slots.items to None ≡ None }
         ensures built { AreBuilt self.new }
-        ensures step { AreInStep self.new (value_of (counted_of self.new)) }
+        ensures step { AreInStep self.new (value_given (counted_of self.new)) }
         ensures lits { self.new.lits ≡ self.old.lits }
         ensures used { self.new.used ≡ self.old.used }
         ensures variables { self.new.variables ≡ self.old.variables }
@@ -475,11 +475,11 @@ impl Counters {
     /// Moves what stands in a slot where its id goes, or takes it out where that goes to none.
     fn remap_one(&mut self, slot: usize, moves: &Moves)
         requires built { AreBuilt self.old }
-        requires step { AreInStep self.old (value_of (counted_of self.old)) }
+        requires step { AreInStep self.old (value_given (counted_of self.old)) }
         requires here { slot < length self.old.slots.items }
         requires free { (d : ConId) → new_id moves.now (record { 0 = slot }) ≡ Some d → d ≢ record { 0 = slot } → slice_index_or (wholes self.old.slots.items) d.0 None ≡ None }
         ensures built { AreBuilt self.new }
-        ensures step { AreInStep self.new (value_of (counted_of self.new)) }
+        ensures step { AreInStep self.new (value_given (counted_of self.new)) }
         ensures lits { self.new.lits ≡ self.old.lits }
         ensures used { self.new.used ≡ self.old.used }
         ensures variables { self.new.variables ≡ self.old.variables }
@@ -499,9 +499,9 @@ impl Counters {
     /// Moves what stands in each slot where its id goes.
     pub fn remap(&mut self, moves: &Moves)
         requires built { AreBuilt self.old }
-        requires step { AreInStep self.old (value_of (counted_of self.old)) }
+        requires step { AreInStep self.old (value_given (counted_of self.old)) }
         ensures built { AreBuilt self.new }
-        ensures step { AreInStep self.new (value_of (counted_of self.new)) }
+        ensures step { AreInStep self.new (value_given (counted_of self.new)) }
         ensures lits { self.new.lits ≡ self.old.lits }
         ensures used { self.new.used ≡ self.old.used }
         ensures variables { self.new.variables ≡ self.old.variables }

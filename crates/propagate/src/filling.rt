@@ -1,6 +1,6 @@
 //! The occurrences of a whole constraint: put in, taken out and renamed. And lists that get longer.
 ghost use Rattle.std.specs.Prelude.{◌≡◌, ◌<◌, ◌≤◌, ◌⊎◌, ℕ, [], All, take, length, slice_index_or, unwrap_or, true, None, OnOk, OnErr};
-ghost use Rattle.propagate.specs.Counters.{number_of, weight_at, weight_of, occurrences_of, Added, Removed, Renamed, nothing, attached_from};
+ghost use Rattle.propagate.specs.Counters.{literal_number, weight_at, weight_of, occurrences_of, Added, Removed, Renamed, nothing, attached_from};
 ghost use Rattle.propagate.specs.Ranked.{part_in, part_of, IsRanked, wholes};
 
 use super::occurrences::{Occurrence, Occurrences};
@@ -10,7 +10,7 @@ use std::alloc::AllocError;
 
 /// Takes out the occurrences of a slot, which are among those of terms.
 pub fn remove_all(lists: &mut Occurrences, terms: &[Term], slot: usize)
-    requires in_range { All (λ t. number_of t.lit < length lists.old) terms.now }
+    requires in_range { All (λ t. literal_number t.lit < length lists.old) terms.now }
     requires few { (k : ℕ) → weight_at slot (occurrences_of lists.old k) ≤ weight_of k terms.now }
     ensures { Removed slot [] lists.old lists.new }
 {
@@ -21,7 +21,7 @@ pub fn remove_all(lists: &mut Occurrences, terms: &[Term], slot: usize)
 
 /// Takes out the occurrences of a slot, which are those of what is watched of what stood there.
 pub fn remove_watched(lists: &mut Occurrences, out: &Option<Ranked>, slot: usize)
-    requires in_range { All (λ t. number_of t.lit < length lists.old) (unwrap_or (part_in out.now) nothing).terms }
+    requires in_range { All (λ t. literal_number t.lit < length lists.old) (unwrap_or (part_in out.now) nothing).terms }
     requires few { (k : ℕ) → weight_at slot (occurrences_of lists.old k) ≤ weight_of k (unwrap_or (part_in out.now) nothing).terms }
     ensures { Removed slot [] lists.old lists.new }
 {
@@ -33,7 +33,7 @@ pub fn remove_watched(lists: &mut Occurrences, out: &Option<Ranked>, slot: usize
 
 /// Puts in the occurrences of terms for a slot, which has none. An `Err` leaves it none.
 pub fn add_all(lists: &mut Occurrences, terms: &[Term], slot: usize) -> Result<(), AllocError>
-    requires in_range { All (λ t. number_of t.lit < length lists.old) terms.now }
+    requires in_range { All (λ t. literal_number t.lit < length lists.old) terms.now }
     requires none { (k : ℕ) → weight_at slot (occurrences_of lists.old k) ≡ 0 }
     ensures ok { OnOk result (Added slot terms.now lists.old lists.new) }
     ensures err { OnErr result (Added slot [] lists.old lists.new) }
@@ -88,7 +88,7 @@ pub fn grow_literals(lits: &mut Vec<Lit>, count: usize) -> Result<(), AllocError
 
 /// Makes the occurrences of one slot, which are among those of terms, those of another, which has none.
 pub fn rename_all(lists: &mut Occurrences, terms: &[Term], from: usize, to: usize)
-    requires in_range { All (λ t. number_of t.lit < length lists.old) terms.now }
+    requires in_range { All (λ t. literal_number t.lit < length lists.old) terms.now }
     requires apart { to < from }
     requires few { (k : ℕ) → weight_at from (occurrences_of lists.old k) ≤ weight_of k terms.now }
     requires none { (k : ℕ) → weight_at to (occurrences_of lists.old k) ≡ 0 }
@@ -102,7 +102,7 @@ pub fn rename_all(lists: &mut Occurrences, terms: &[Term], from: usize, to: usiz
 /// Puts in the occurrences of what is watched of a constraint for a slot, which has none, and answers whether there was
 /// memory. Where there is none, none of its terms is watched any more.
 pub fn add_watched(lists: &mut Occurrences, c: &mut Ranked, slot: usize) -> bool
-    requires in_range { IsRanked c.old → All (λ t. number_of t.lit < length lists.old) (part_of c.old).terms }
+    requires in_range { IsRanked c.old → All (λ t. literal_number t.lit < length lists.old) (part_of c.old).terms }
     requires none { (k : ℕ) → weight_at slot (occurrences_of lists.old k) ≡ 0 }
     ensures added { Added slot (part_of c.new).terms lists.old lists.new }
     ensures whole { c.new.whole ≡ c.old.whole }

@@ -12,7 +12,7 @@ ghost use Rattle.pb_rules.specs.Partial.{open_weight, IsClosed};
 ghost use Rattle.trail_state.specs.Trail.{value_in};
 ghost use Rattle.propagate.specs.Ranked.{rest_in, wholes};
 ghost use Rattle.propagate.specs.Forced.{Appends, IsConflict, AllClosed};
-ghost use Rattle.propagate.specs.Counters.{IsQuiet, AreBuilt, AreInStep, AreInStepBut, AreSummed, counted_of, value_of, linear_at, parts_of, attached_in};
+ghost use Rattle.propagate.specs.Counters.{IsQuiet, AreBuilt, AreInStep, AreInStepBut, AreSummed, counted_of, value_given, linear_at, parts_of, attached_in};
 
 use super::counters::Counters;
 use super::scan::{none_free, push_forced, room_of};
@@ -238,7 +238,7 @@ impl Counters {
         requires counted { counted_of self.old ≡ take self.old.used (map (λ e. e.lit) trail.old.entries) }
         requires used { self.old.used ≤ length trail.old.entries }
         ensures built { AreBuilt self.new }
-        ensures step { AreInStep self.new (value_of (counted_of self.new)) }
+        ensures step { AreInStep self.new (value_given (counted_of self.new)) }
         ensures counted { counted_of self.new ≡ take self.new.used (map (λ e. e.lit) trail.new.entries) }
         ensures wholes { wholes self.new.slots.items ≡ wholes self.old.slots.items }
         ensures variables { self.new.variables ≡ self.old.variables }

@@ -2,7 +2,7 @@
 //!
 //! The lists stand by the literals' numbers, two for each variable.
 ghost use Rattle.std.specs.Prelude.{◌≡◌, ◌<◌, ◌≤◌, ℕ, ◌++◌, [], ◌∷◌, not, ◌==◌, filter, map, length, slice_set, vec_items, OnOk, OnErr};
-ghost use Rattle.propagate.specs.Counters.{number_of, occurrences_of, moved_to, is_filled};
+ghost use Rattle.propagate.specs.Counters.{literal_number, occurrences_of, moved_to, is_filled};
 ghost use Rattle.propagate.specs.Ranked.{parts};
 
 use super::ranked::{Ranked, is_filled};
@@ -34,7 +34,7 @@ impl Model for Occurrences {
 
 /// The number of a literal.
 fn number_of(lit: Lit) -> usize
-    ensures { result ≡ number_of lit }
+    ensures { result ≡ literal_number lit }
 {
     let twice = 2 * lit.var() as usize;
     if lit.is_yes() { twice + 1 } else { twice }
@@ -65,16 +65,16 @@ impl Occurrences {
 
     /// The occurrences of a literal.
     pub fn of(&self, lit: Lit) -> &[Occurrence]
-        requires { number_of lit < length self.now }
-        ensures { result.now ≡ occurrences_of self.now (number_of lit) }
+        requires { literal_number lit < length self.now }
+        ensures { result.now ≡ occurrences_of self.now (literal_number lit) }
     {
         self.lists[number_of(lit)].as_slice()
     }
 
     /// One more occurrence of a literal.
     pub fn push(&mut self, lit: Lit, one: Occurrence) -> Result<(), AllocError>
-        requires { number_of lit < length self.old }
-        ensures ok { OnOk result (self.new ≡ slice_set self.old (number_of lit) (occurrences_of self.old (number_of lit) ++ one ∷ [])) }
+        requires { literal_number lit < length self.old }
+        ensures ok { OnOk result (self.new ≡ slice_set self.old (literal_number lit) (occurrences_of self.old (literal_number lit) ++ one ∷ [])) }
         ensures err { OnErr result (self.new ≡ self.old) }
     {
         self.lists[number_of(lit)].push(one)?;
@@ -83,16 +83,16 @@ impl Occurrences {
 
     /// Takes out those of a slot.
     pub fn remove(&mut self, lit: Lit, slot: usize)
-        requires { number_of lit < length self.old }
-        ensures { self.new ≡ slice_set self.old (number_of lit) (filter (λ o. not (o.slot == slot)) (occurrences_of self.old (number_of lit))) }
+        requires { literal_number lit < length self.old }
+        ensures { self.new ≡ slice_set self.old (literal_number lit) (filter (λ o. not (o.slot == slot)) (occurrences_of self.old (literal_number lit))) }
     {
         self.lists[number_of(lit)].retain(|one| one.slot != slot);
     }
 
     /// Makes those of one slot those of another.
     pub fn rename(&mut self, lit: Lit, from: usize, to: usize)
-        requires { number_of lit < length self.old }
-        ensures { self.new ≡ slice_set self.old (number_of lit) (map (moved_to from to) (occurrences_of self.old (number_of lit))) }
+        requires { literal_number lit < length self.old }
+        ensures { self.new ≡ slice_set self.old (literal_number lit) (map (moved_to from to) (occurrences_of self.old (literal_number lit))) }
     {
         rename_in(&mut self.lists[number_of(lit)], from, to);
     }

@@ -2,12 +2,12 @@
 use Rattle.std.proofs.Common.{◌≡◌, ℕ, zero, suc, ◌+◌, ◌-◌, ◌<◌, ◌≤◌, Bool, true, false, ltb, List, [], ◌∷◌, ◌++◌, length, get_or, map, Option, Some, None, Ok, refl, sym, ap, subst, ◌∙◌, arith, inl, inr}
 use Rattle.std.specs.Prelude.{codes, decimal, slice_set, ◌||◌, is_some, is_none, if◌then◌else◌}
 use Rattle.std.specs.List.{list_any}
-use Rattle.std.proofs.lemmas.Bool.{cases_Bool, ltb-false}
+use Rattle.std.proofs.lemmas.Bool.{cases_Bool, ltb-false, or_parts}
 use Rattle.std.proofs.lemmas.List.{append-nil, length-map, get_or-set_same, get_or-set_other, length-set}
+use Rattle.std.proofs.lemmas.Slice.Eq.{bytes_eq-Decides}
 use Rattle.line_words.specs.Rules.{Words, Test, Statement, first_broken}
 use Rattle.line_words.specs.Run.{run}
 use Rattle.line_words.specs.declared.refusals.Why.TheVariants.{BadByte, BadStatement, NotInOrder, Unclosed}
-use Rattle.line_words.proofs.Whys.{neither}
 use Rattle.spec_model.specs.Spec.{SpecValue, Bits, bits_of, design_variables}
 use Rattle.spec_model.specs.WellFormed.{IsWellFormed}
 use Rattle.spec_model.proofs.Pieces.{flat-suc}
@@ -22,7 +22,7 @@ use Rattle.spelled_lines.proofs.Over.{IsKept, whole}
 use Rattle.result_text.proofs.Going.{tests_of, after, line_at, with_lines-push, length-nothing}
 use Rattle.result_text.proofs.Parsing.{AreSmall}
 use Rattle.result_text.proofs.Reread.{all_false}
-use Rattle.result_text.proofs.Rewriting.{same, cons_same, none_of, none_last, none_first, item_back, vector_back}
+use Rattle.result_text.proofs.Rewriting.{cons_same, none_of, none_last, none_first, item_back, vector_back}
 
 -- ---- the text of a design, once a variable more is true
 
@@ -100,11 +100,12 @@ is_none_of None e = refl
 is_none_of (Some v) e = absurd (let c : true ≡ false = e in cc)
 
 -- the words of a vector's line
-vector_line : (s : SpecValue) (ws : Words) → is_vector ws ≡ true → first_broken (vector_tests s (later_words ws)) ≡ None → (ws ≡ vector_words (vector_numbers ws)) × IsVectorIn s (Some (vector_numbers ws))
+vector_line : (s : SpecValue) (ws : Words) → is_vector ws ≡ true → first_broken (vector_tests s (later_words ws)) ≡ None → (ws ≡ vector_words (vector_numbers ws))
+    × IsVectorIn s (Some (vector_numbers ws))
 vector_line s [] t e = absurd (let c : false ≡ true = t in cc)
 vector_line s (k ∷ ws) t e =
     let b = vector_back s ws e in
-    (cons_same k (codes "vector") ws (map decimal (map number_in ws)) (same k (codes "vector") t) b.numerals.words, (length-map ws number_in ∙ b.one_each, b.numerals.small))
+    (cons_same k (codes "vector") ws (map decimal (map number_in ws)) ((bytes_eq-Decides k (codes "vector")).0 t) b.numerals.words, (length-map ws number_in ∙ b.one_each, b.numerals.small))
 
 -- a line more
 pub spelt_more : (s : SpecValue) → IsWellFormed s → (stated : Stated) (text piece : List ℕ) → IsSpelt s stated text → first_broken (tests_of s stated piece) ≡ None → piece ≡ spelled (words_of piece)
@@ -114,8 +115,9 @@ spelt_more s w stated text piece h fine spell =
     let words_fine = none_last (piece_tests piece) (words_tests s stated ws) fine in
     let rest : List Test = if is_vector ws then vector_tests s (later_words ws) else (item_tests s ws ++ (NotInOrder, ltb (item_variable s ws) stated.least) ∷ []) in
     let head = none_of (BadStatement, is_some stated.vector || list_any is_empty ws) rest words_fine in
-    let no_vector : stated.vector ≡ None = is_none_of stated.vector (neither (is_some stated.vector) (list_any is_empty ws) head.0).0 in
-    let now : text ≡ items_text s (bits_of stated.design) stated.least = h.is ∙ ap (λ (v : Option (List ℕ)). items_text s (bits_of stated.design) stated.least ++ vector_text v) no_vector ∙ append-nil (items_text s (bits_of stated.design) stated.least) in
+    let no_vector : stated.vector ≡ None = is_none_of stated.vector (or_parts (is_some stated.vector) (list_any is_empty ws) head.0).0 in
+    let now : text ≡ items_text s (bits_of stated.design) stated.least = h.is ∙ ap (λ (v : Option (List ℕ)). items_text s (bits_of stated.design) stated.least ++ vector_text v) no_vector
+    ∙ append-nil (items_text s (bits_of stated.design) stated.least) in
     elim (cases_Bool (is_vector ws)) [
       | inl t ↦
           let tests : rest ≡ vector_tests s (later_words ws) = rw t refl in
@@ -154,7 +156,8 @@ spelt_kept : (s : SpecValue) → IsWellFormed s → IsKept (result_rules s) (λ 
 spelt_kept s w = record {
   start = start s;
   more = λ done text piece number h fine ended.
-      subst (λ (x : Stated). IsSpelt s x (text ++ piece)) (sym (with_lines-push s (nothing s) done (line_at number piece))) (spelt_more s w (after s done) text piece h fine (ended_spelled piece ended));
+      subst (λ (x : Stated). IsSpelt s x (text ++ piece)) (sym (with_lines-push s (nothing s) done (line_at number piece)))
+      (spelt_more s w (after s done) text piece h fine (ended_spelled piece ended));
   ended = λ done piece lacks fine. absurd (let c : true ≡ false = sym lacks ∙ (fine_alone piece (words_tests s (after s done) (words_of piece)) fine).ended in cc);
 }
 

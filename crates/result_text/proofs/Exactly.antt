@@ -48,7 +48,8 @@ text_of_fine : (s : SpecValue) → IsWellFormed s → (bytes : List ℕ) → Has
 text_of_fine s w bytes fine =
     accepted (result_rules s) (pieces bytes) (λ st. IsTextOf s bytes (entry_of s st)) (in_order s) (λ all e. text_of_whole s all bytes (whole_text s w bytes all e)) fine
 
-pub printed : (s : SpecValue) → IsWellFormed s → (bytes : List ℕ) (found : Result Entry ReadFault) → Reads Front (result_rules s) as_seen (entry_of s) (pieces bytes) found → IfOk found (λ e. IsTextOf s bytes (as_seen e))
+pub printed : (s : SpecValue) → IsWellFormed s → (bytes : List ℕ) (found : Result Entry ReadFault) → Reads Front (result_rules s) as_seen (entry_of s) (pieces bytes) found
+    → IfOk found (λ e. IsTextOf s bytes (as_seen e))
 printed s w bytes (Ok e) r = subst (IsTextOf s bytes) (sym r.1) (text_of_fine s w bytes r.0)
 printed s w bytes (Err (faults.Refused fault)) r = tt
 printed s w bytes (Err faults.NoMemory) r = tt

@@ -3,13 +3,13 @@ use Rattle.std.proofs.Common.{◌≡◌, ℕ, ◌+◌, Bool, true, false, not, L
 use Rattle.std.specs.Prelude.{codes, decimal, ◌||◌, ◌==◌, is_some, is_none, Option, Some}
 use Rattle.std.specs.List.{list_any}
 use Rattle.std.specs.Str.{bytes_eq}
-use Rattle.std.proofs.lemmas.Bool.{cases_Bool, eqb-true}
+use Rattle.std.proofs.lemmas.Bool.{cases_Bool, eqb-true, or_parts, not-false}
 use Rattle.std.proofs.lemmas.List.{append-nil}
 use Rattle.std.proofs.lemmas.List.Elements.{All-push}
+use Rattle.std.proofs.lemmas.Slice.Eq.{bytes_eq-Decides}
 use Rattle.line_words.specs.Rules.{Words, Test, Statement, first_broken}
 use Rattle.line_words.specs.Run.{run}
 use Rattle.line_words.specs.declared.refusals.Why.TheVariants.{BadByte, NoHeader, BadStatement, BadNumber, UnknownName, Unclosed, TooBig, NotInOrder}
-use Rattle.line_words.proofs.Whys.{neither}
 use Rattle.spelled_lines.specs.Lines.{pieces, is_bad, lacks_lf, is_empty, body_of, words_of, spelled}
 use Rattle.spelled_lines.proofs.Ended.{ended_spelled}
 use Rattle.spelled_lines.proofs.Over.{IsKept, whole}
@@ -22,7 +22,7 @@ use Rattle.result_text.specs.Fronts.{IsShaped, IsFrontText, header_words, object
 use Rattle.result_text.specs.FrontLines.{FrontStated, front_nothing, is_loose, byte_tests, header_tests, objectives_tests, number_tests, between_tests, tests_in, next_number, after_words, after_between, next_in, is_closed, is_header, front_rules, front_in}
 use Rattle.result_text.specs.declared.places.Place.{Place}
 use Rattle.result_text.specs.declared.places.Place.TheVariants.{Header, Objectives, Between, Inside, Closed}
-use Rattle.result_text.proofs.Rewriting.{none_of, unnot, same, cons_same, misshapen_not, numerals}
+use Rattle.result_text.proofs.Rewriting.{none_of, cons_same, misshapen_not, numerals}
 use Rattle.result_text.proofs.Accepting.{IsSpelt, spelt_more, start}
 use Rattle.result_text.proofs.Exactly.{text_of_spelt}
 use Rattle.result_text.proofs.FrontGoing.{front_after, front_line_at, front_with_lines-push}
@@ -64,21 +64,21 @@ number_back next k w t e =
     let a = none_of (BadNumber, no_number w) ((TooBig, too_big w) ∷ (NotInOrder, not (number_in w == next)) ∷ []) e in
     let b = none_of (TooBig, too_big w) ((NotInOrder, not (number_in w == next)) ∷ []) a.1 in
     let d = none_of (NotInOrder, not (number_in w == next)) [] b.1 in
-    let number : number_in w ≡ next = eqb-true (number_in w) next (unnot _ d.0) in
+    let number : number_in w ≡ next = eqb-true (number_in w) next (not-false _ d.0) in
     let word = numerals (w ∷ []) (rw a.0 refl) (rw b.0 refl) in
     record {
       begins = t;
-      words = cons_same k (codes "entry") (w ∷ []) (decimal next ∷ []) (same k (codes "entry") t) (word.words ∙ ap (λ (n : ℕ). decimal n ∷ []) number);
+      words = cons_same k (codes "entry") (w ∷ []) (decimal next ∷ []) ((bytes_eq-Decides k (codes "entry")).0 t) (word.words ∙ ap (λ (n : ℕ). decimal n ∷ []) number);
     }
 
 end_back : (k : List ℕ) → not (bytes_eq k (codes "complete") || bytes_eq k (codes "open")) ≡ false → IsEndLine (k ∷ [])
 end_back k e =
     elim (cases_Bool (bytes_eq k (codes "complete"))) [
       | inl t ↦
-          let is = same k (codes "complete") t in
+          let is = (bytes_eq-Decides k (codes "complete")).0 t in
           record { ends = ap (λ (x : List ℕ). bytes_eq x (codes "entry")) is; words = rw t (ap (λ (x : List ℕ). x ∷ []) is) }
       | inr f ↦
-          let is = same k (codes "open") (sym (ap (λ (b : Bool). b || bytes_eq k (codes "open")) f) ∙ unnot _ e) in
+          let is = (bytes_eq-Decides k (codes "open")).0 (sym (ap (λ (b : Bool). b || bytes_eq k (codes "open")) f) ∙ not-false _ e) in
           record { ends = ap (λ (x : List ℕ). bytes_eq x (codes "entry")) is; words = rw f (ap (λ (x : List ℕ). x ∷ []) is) }
     ]
 
@@ -98,11 +98,12 @@ between_back next (k ∷ w ∷ x ∷ more) e = absurd (misshapen_not e)
 abbrev Adds : SpecValue → FrontStated → List ℕ → List ℕ → Place → Type 0
 Adds s stated text piece place = IsFrontSpelt s (next_in s stated (words_of piece) place) (text ++ piece)
 
-header_adds : (s : SpecValue) (stated : FrontStated) (text piece : List ℕ) → All (IsShaped s) stated.entries → TextIn s stated text Header → first_broken (header_tests piece) ≡ None → piece ≡ body_of piece ++ 10 ∷ []
+header_adds : (s : SpecValue) (stated : FrontStated) (text piece : List ℕ) → All (IsShaped s) stated.entries → TextIn s stated text Header → first_broken (header_tests piece) ≡ None
+    → piece ≡ body_of piece ++ 10 ∷ []
     → Adds s stated text piece Header
 header_adds s stated text piece shaped h e ended =
     let a = none_of (NoHeader, not (bytes_eq (body_of piece) (codes "front 1"))) ((BadStatement, lacks_lf piece) ∷ []) e in
-    let is = same (body_of piece) (codes "front 1") (unnot _ a.0) in
+    let is = (bytes_eq-Decides (body_of piece) (codes "front 1")).0 (not-false _ a.0) in
     let line : piece ≡ spelled header_words = ended ∙ ap (λ (t : List ℕ). t ++ 10 ∷ []) is in
     record { shaped = shaped; is = (ap (λ (t : List ℕ). t ++ piece) h.0 ∙ line, h.1, h.2) }
 
@@ -111,12 +112,13 @@ objectives_adds : (s : SpecValue) (stated : FrontStated) (text piece : List ℕ)
 objectives_adds s stated text piece shaped h e =
     let a = none_of (BadStatement, is_loose piece || not (starts_with (codes "objectives") (words_of piece))) ((UnknownName, not (bytes_eq piece (spelled (objectives_words s)))) ∷ []) e in
     let b = none_of (UnknownName, not (bytes_eq piece (spelled (objectives_words s)))) [] a.1 in
-    let line = same piece (spelled (objectives_words s)) (unnot _ b.0) in
+    let line = (bytes_eq-Decides piece (spelled (objectives_words s))).0 (not-false _ b.0) in
     let no_entries : entries_text s 1 stated.entries ≡ [] = ap (entries_text s 1) h.1 in
     let written : text ++ piece ≡ head_text s = ap (λ (t : List ℕ). t ++ piece) h.0 ∙ ap (λ (t : List ℕ). spelled header_words ++ t) line in
     record { shaped = shaped; is = (written ∙ sym (append-nil (head_text s)) ∙ ap (λ (t : List ℕ). head_text s ++ t) (sym no_entries), h.2) }
 
-between_adds : (s : SpecValue) (stated : FrontStated) (text piece : List ℕ) → All (IsShaped s) stated.entries → TextIn s stated text Between → first_broken (tests_in s stated piece Between) ≡ None → piece ≡ body_of piece ++ 10 ∷ []
+between_adds : (s : SpecValue) (stated : FrontStated) (text piece : List ℕ) → All (IsShaped s) stated.entries → TextIn s stated text Between → first_broken (tests_in s stated piece Between) ≡ None
+    → piece ≡ body_of piece ++ 10 ∷ []
     → Adds s stated text piece Between
 between_adds s stated text piece shaped h e ended =
     let ws = words_of piece in
@@ -191,12 +193,12 @@ not_ended s stated piece Header lacks e =
     let c : true ≡ false = sym lacks ∙ b.0 in cc
 not_ended s stated piece Objectives lacks e =
     let a = none_of (BadStatement, is_loose piece || not (starts_with (codes "objectives") (words_of piece))) ((UnknownName, not (bytes_eq piece (spelled (objectives_words s)))) ∷ []) e in
-    let b = neither (is_loose piece) (not (starts_with (codes "objectives") (words_of piece))) a.0 in
-    let d = neither (lacks_lf piece) (list_any is_empty (words_of piece)) b.0 in
+    let b = or_parts (is_loose piece) (not (starts_with (codes "objectives") (words_of piece))) a.0 in
+    let d = or_parts (lacks_lf piece) (list_any is_empty (words_of piece)) b.0 in
     let c : true ≡ false = sym lacks ∙ d.0 in cc
 not_ended s stated piece Between lacks e =
     let a = none_of (BadStatement, is_loose piece) (between_tests (next_number stated) (words_of piece)) e in
-    let d = neither (lacks_lf piece) (list_any is_empty (words_of piece)) a.0 in
+    let d = or_parts (lacks_lf piece) (list_any is_empty (words_of piece)) a.0 in
     let c : true ≡ false = sym lacks ∙ d.0 in cc
 not_ended s stated piece Inside lacks e =
     let a = none_of (BadStatement, lacks_lf piece) (words_tests s stated.current (words_of piece)) e in

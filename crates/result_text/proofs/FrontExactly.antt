@@ -26,7 +26,8 @@ use Rattle.result_text.proofs.FrontAccepting.{front_whole}
 text_of_fine : (s : SpecValue) → IsWellFormed s → (bytes : List ℕ) → HasNoFault (front_rules s) (pieces bytes) → IsFrontText s bytes (front_in s (statements (front_rules s) (pieces bytes)))
 text_of_fine s w bytes fine = accepted (front_rules s) (pieces bytes) (λ st. IsFrontText s bytes (front_in s st)) (front_in_order s) (front_whole s w bytes) fine
 
-pub front_printed : (s : SpecValue) → IsWellFormed s → (bytes : List ℕ) (found : Result Front ReadFault) → Reads files.Front (front_rules s) front_of (front_in s) (pieces bytes) found → IfOk found (λ front. IsFrontText s bytes (front_of front))
+pub front_printed : (s : SpecValue) → IsWellFormed s → (bytes : List ℕ) (found : Result Front ReadFault) → Reads files.Front (front_rules s) front_of (front_in s) (pieces bytes) found
+    → IfOk found (λ front. IsFrontText s bytes (front_of front))
 front_printed s w bytes (Ok front) r = subst (IsFrontText s bytes) (sym r.1) (text_of_fine s w bytes r.0)
 front_printed s w bytes (Err (faults.Refused fault)) r = tt
 front_printed s w bytes (Err faults.NoMemory) r = tt

@@ -48,7 +48,8 @@ length-after_words s stated now e =
       | inr f ↦ rw f e
     ]
 
-length-next : (s : SpecValue) (stated : FrontStated) (ws : Words) (place : Place) → length stated.current.design ≡ design_variables s → length (next_in s stated ws place).current.design ≡ design_variables s
+length-next : (s : SpecValue) (stated : FrontStated) (ws : Words) (place : Place) → length stated.current.design ≡ design_variables s
+    → length (next_in s stated ws place).current.design ≡ design_variables s
 length-next s stated ws Header e = e
 length-next s stated ws Objectives e = e
 length-next s stated ws Between e =
@@ -60,7 +61,8 @@ length-next s stated ws Inside e = length-after_words s stated (with_line s stat
 length-next s stated ws Closed e = e
 
 -- the design within an entry has a bit for each variable
-pub length-front : (s : SpecValue) (stated : FrontStated) (piece : List ℕ) → length stated.current.design ≡ design_variables s → length (front_with_line s stated piece).current.design ≡ design_variables s
+pub length-front : (s : SpecValue) (stated : FrontStated) (piece : List ℕ) → length stated.current.design ≡ design_variables s
+    → length (front_with_line s stated piece).current.design ≡ design_variables s
 length-front s stated piece e = length-next s stated (words_of piece) stated.place e
 
 -- ---- the order of the tests

@@ -27,7 +27,8 @@ entries-push s i (x ∷ es) e =
     ∙ sym (append_assoc (entry_text s i x) (entries_text s (i + 1) es) (entry_text s (i + length (x ∷ es)) e))
 
 -- one more entry is written
-pub entry_more : (s : SpecValue) (old now next : List ℕ) (entries : List Entry) (i : ℕ) (e : Entry) → now ≡ old ++ entries_text s 1 (map as_seen (take i entries)) → next ≡ now ++ entry_text s (i + 1) (as_seen e)
+pub entry_more : (s : SpecValue) (old now next : List ℕ) (entries : List Entry) (i : ℕ) (e : Entry) → now ≡ old ++ entries_text s 1 (map as_seen (take i entries))
+    → next ≡ now ++ entry_text s (i + 1) (as_seen e)
     → e ≡ get_or entries i e → i < length entries → next ≡ old ++ entries_text s 1 (map as_seen (take (i + 1) entries))
 entry_more s old now next entries i e so_far push is lt =
     let front = map as_seen (take i entries) in

@@ -2,15 +2,15 @@
 use Rattle.std.proofs.Common.{◌≡◌, ℕ, ◌+◌, ◌<◌, ◌≤◌, ◌^◌, Bool, true, false, ltb, List, [], ◌∷◌, ◌++◌, length, Option, Some, None, Ok, refl, sym, ap, subst, ◌∙◌, append_assoc, arith, inl, inr, All}
 use Rattle.std.specs.Prelude.{codes, decimal, ◌||◌, is_some, is_none, if◌then◌else◌}
 use Rattle.std.specs.List.{list_any, AllByRecursion, join_with_byte}
-use Rattle.std.proofs.lemmas.Bool.{cases_Bool}
+use Rattle.std.proofs.lemmas.Bool.{cases_Bool, or_parts, eq-eqb}
 use Rattle.std.proofs.lemmas.List.{append-nil, length-append}
 use Rattle.std.proofs.lemmas.List.Elements.{recursion_from_All}
+use Rattle.std.proofs.lemmas.Slice.Eq.{bytes_eq-Decides}
 use Rattle.line_words.specs.Rules.{Words, Test, Statement, first_broken}
 use Rattle.line_words.specs.Run.{Reading, run, unless_broken}
 use Rattle.line_words.specs.declared.refusals.Why.TheVariants.{BadStatement, Unclosed, NotInOrder}
 use Rattle.line_words.proofs.Least.{run-nil}
 use Rattle.line_words.proofs.Plain.{plain_whole_of-decimal}
-use Rattle.line_words.proofs.Whys.{neither}
 use Rattle.names.specs.Names.{IsName}
 use Rattle.spelled_lines.specs.Lines.{pieces, is_empty, words_of, spelled}
 use Rattle.spelled_lines.proofs.FirstPiece.{pieces-nil, pieces-append}
@@ -27,9 +27,8 @@ use Rattle.result_text.specs.Fronts.{FrontValue, IsShaped, IsFrontText, header_w
 use Rattle.result_text.specs.FrontLines.{FrontStated, front_nothing, front_tests, tests_in, after_words, next_in, front_with_line, end_tests_in, front_rules, front_in}
 use Rattle.result_text.specs.declared.places.Place.{Place}
 use Rattle.result_text.specs.declared.places.Place.TheVariants.{Objectives, Between, Inside, Closed}
-use Rattle.result_text.proofs.Numbering.{same_self}
 use Rattle.result_text.proofs.Going.{after, line_at, with_lines-push}
-use Rattle.result_text.proofs.Parsing.{decimal_word, word_of, eqb_self}
+use Rattle.result_text.proofs.Parsing.{decimal_word, word_of}
 use Rattle.result_text.proofs.Reread.{reread}
 use Rattle.result_text.proofs.Rewriting.{none_of}
 use Rattle.result_text.proofs.Accepting.{fine_alone}
@@ -65,7 +64,8 @@ line_more s text stated next ws r p fine is = record {
 -- ---- the lines of an entry
 
 -- nothing follows the line of a vector
-last_line : (s : SpecValue) (number : ℕ) (done all : List Statement) (ps : List (List ℕ)) → run (result_rules s) number done ps ≡ Ok all → is_some (after s done).vector ≡ true → (ps ≡ []) × (done ≡ all)
+last_line : (s : SpecValue) (number : ℕ) (done all : List Statement) (ps : List (List ℕ)) → run (result_rules s) number done ps ≡ Ok all → is_some (after s done).vector ≡ true → (ps ≡ [])
+    × (done ≡ all)
 last_line s number done all [] e t = (refl, (read_end (result_rules s) number done all e).1)
 last_line s number done all (p ∷ ps) e t =
     let ws = words_of p in
@@ -73,7 +73,7 @@ last_line s number done all (p ∷ ps) e t =
     let later = (fine_alone p (words_tests s (after s done) ws) step.0).later in
     let rest : List Test = if is_vector ws then vector_tests s (later_words ws) else (item_tests s ws ++ (NotInOrder, ltb (item_variable s ws) (after s done).least) ∷ []) in
     let first = none_of (BadStatement, is_some (after s done).vector || list_any is_empty ws) rest later in
-    absurd (let c : true ≡ false = sym t ∙ (neither (is_some (after s done).vector) (list_any is_empty ws) first.0).0 in cc)
+    absurd (let c : true ≡ false = sym t ∙ (or_parts (is_some (after s done).vector) (list_any is_empty ws) first.0).0 in cc)
 
 -- lines are read within a front, and the entry is done
 record IsRun (s : SpecValue) (number : ℕ) (done : List Statement) (ps : List (List ℕ)) (next : FrontStated) : Type 0 where
@@ -128,12 +128,14 @@ within s (p ∷ ps) n before all e none number done stated is here current =
       | inr f ↦
           let next : FrontStated = record stated { current = now } in
           let open_entry : after_words s stated now ≡ next = rw f refl in
-          let r = within s ps (n + 1) (before ++ line_at n p ∷ []) all step.1 (ap (λ (x : Stated). is_some x.vector) now_is ∙ f) (number + 1) (done ++ line ∷ []) next (state ∙ open_entry) here (sym now_is) in
+          let r = within s ps (n + 1) (before ++ line_at n p ∷ []) all step.1 (ap (λ (x : Stated). is_some x.vector) now_is ∙ f) (number + 1) (done ++ line ∷ []) next (state ∙ open_entry) here
+          (sym now_is) in
           record { last = r.last; all = r.all; reads = λ rest. goes rest ∙ r.reads rest; state = r.state }
     ]
 
 -- the pieces of an implementation, and of more
-pieces-implementation : (s : SpecValue) (e : EntryValue) (more : List ℕ) → pieces (implementation_text s (bits_of e.design) e.vector ++ more) ≡ pieces (implementation_text s (bits_of e.design) e.vector) ++ pieces more
+pieces-implementation : (s : SpecValue) (e : EntryValue) (more : List ℕ) → pieces (implementation_text s (bits_of e.design) e.vector ++ more)
+    ≡ pieces (implementation_text s (bits_of e.design) e.vector) ++ pieces more
 pieces-implementation s e more =
     let items = items_text s (bits_of e.design) (design_variables s) in
     let body = items ++ join_with_byte 32 (vector_words e.vector) in
@@ -141,7 +143,8 @@ pieces-implementation s e more =
     ap (λ (t : List ℕ). pieces (t ++ more)) text ∙ ap pieces (append_assoc body (10 ∷ []) more) ∙ pieces-append body more ∙ ap (λ (t : List ℕ). pieces t ++ pieces more) (sym text)
 
 -- an implementation more
-entry_more : (s : SpecValue) → IsWellFormed s → HasNames s → (text : List ℕ) (stated : FrontStated) (e : EntryValue) → IsReached s text stated → stated.place ≡ Inside → stated.current ≡ nothing s → IsShaped s e
+entry_more : (s : SpecValue) → IsWellFormed s → HasNames s → (text : List ℕ) (stated : FrontStated) (e : EntryValue) → IsReached s text stated → stated.place ≡ Inside → stated.current ≡ nothing s
+    → IsShaped s e
     → IsReached s (text ++ implementation_text s (bits_of e.design) e.vector) (with_entry s stated e)
 entry_more s w h text stated e r here current shaped =
     let own = implementation_text s (bits_of e.design) e.vector in
@@ -170,16 +173,18 @@ entry_word = (record { some = omega arith; bytes = refl }, tt)
 
 number_taken : (s : SpecValue) (es : List EntryValue) → length es + 1 < 2 ^ 63 → (p : IsSpelled (entry_words (length es + 1))) → list_any is_empty (entry_words (length es + 1)) ≡ false
     → first_broken (front_line_tests s (between s es) (spelled (entry_words (length es + 1)))) ≡ None
-number_taken s es lt p none = rw (p.good, p.ended, p.words, none, plain_whole_of-decimal (length es + 1) lt, eqb_self (length es + 1)) refl
+number_taken s es lt p none = rw (p.good, p.ended, p.words, none, plain_whole_of-decimal (length es + 1) lt, eq-eqb (length es + 1) (length es + 1) refl) refl
 
-number_read : (s : SpecValue) (text : List ℕ) (es : List EntryValue) → IsReached s text (between s es) → length es + 1 < 2 ^ 63 → IsReached s (text ++ spelled (entry_words (length es + 1))) (inside s es)
+number_read : (s : SpecValue) (text : List ℕ) (es : List EntryValue) → IsReached s text (between s es) → length es + 1 < 2 ^ 63
+    → IsReached s (text ++ spelled (entry_words (length es + 1))) (inside s es)
 number_read s text es r lt =
     let n = length es + 1 in
     let words : AreWords (entry_words n) = (entry_word.0, (decimal_word n lt, tt)) in
     let p = spelled_is (codes "entry") (decimal n ∷ []) words in
     line_more s text (between s es) (inside s es) (entry_words n) r p (number_taken s es lt p (none_empty (entry_words n) words)) refl
 
-entries_read : (s : SpecValue) → IsWellFormed s → HasNames s → (es before : List EntryValue) (text : List ℕ) → IsReached s text (between s before) → AllByRecursion (IsShaped s) es → length before + length es < 2 ^ 63
+entries_read : (s : SpecValue) → IsWellFormed s → HasNames s → (es before : List EntryValue) (text : List ℕ) → IsReached s text (between s before) → AllByRecursion (IsShaped s) es
+    → length before + length es < 2 ^ 63
     → IsReached s (text ++ entries_text s (length before + 1) es) (between s (before ++ es))
 entries_read s w h [] before text r shaped lt = reached_as s text (text ++ []) (between s before) (between s (before ++ [])) (sym (append-nil text)) (ap (between s) (sym (append-nil before))) r
 entries_read s w h (e ∷ es) before text r shaped lt =
@@ -210,14 +215,16 @@ head_read s names =
     let words : AreWords (objectives_words s) = (record { some = omega arith; bytes = refl }, names_are s.objectives (recursion_from_All IsName s.objectives names)) in
     let p = spelled_is (codes "objectives") s.objectives words in
     let empty = none_empty (objectives_words s) words in
-    let fine : first_broken (front_line_tests s second (spelled (objectives_words s))) ≡ None = rw (p.good, p.ended, p.words, empty, same_self (spelled (objectives_words s))) refl in
+    let fine : first_broken (front_line_tests s second (spelled (objectives_words s))) ≡ None =
+    rw (p.good, p.ended, p.words, empty, (bytes_eq-Decides (spelled (objectives_words s)) (spelled (objectives_words s))).1 refl) refl in
     line_more s (spelled header_words) second (between s []) (objectives_words s) header p fine refl
 
 -- a front is closed
 abbrev closed : SpecValue → FrontValue → FrontStated
 closed s front = record { place = Closed; entries = front.entries; current = nothing s; complete = front.complete }
 
-end_read : (s : SpecValue) (es : List EntryValue) (text : List ℕ) (complete : Bool) → IsReached s text (between s es) → IsReached s (text ++ spelled (end_words complete)) (closed s (record { entries = es; complete = complete }))
+end_read : (s : SpecValue) (es : List EntryValue) (text : List ℕ) (complete : Bool) → IsReached s text (between s es)
+    → IsReached s (text ++ spelled (end_words complete)) (closed s (record { entries = es; complete = complete }))
 end_read s es text true r =
     let words : AreWords (end_words true) = (record { some = omega arith; bytes = refl }, tt) in
     let p = spelled_is (codes "complete") [] words in
@@ -250,7 +257,8 @@ ok all = Ok all
 abbrev front_value : List EntryValue → Bool → FrontValue
 front_value entries complete = record { entries = entries; complete = complete }
 
-pub front_reread : (s : SpecValue) → IsWellFormed s → HasNames s → All IsName s.objectives → (bytes : List ℕ) (front : FrontValue) → length bytes < 2 ^ 63 → IsFrontText s bytes front → IsFrontRead s bytes front
+pub front_reread : (s : SpecValue) → IsWellFormed s → HasNames s → All IsName s.objectives → (bytes : List ℕ) (front : FrontValue) → length bytes < 2 ^ 63 → IsFrontText s bytes front
+    → IsFrontRead s bytes front
 front_reread s w h names bytes front small is =
     let head = spelled header_words ++ spelled (objectives_words s) in
     let entries = entries_text s 1 front.entries in
@@ -260,9 +268,11 @@ front_reread s w h names bytes front small is =
     let few : length front.entries < 2 ^ 63 = omega (arith, small, many s 1 front.entries, ap length whole_text, length-append (head ++ entries) last, length-append head entries) in
     let r = entries_read s w h front.entries [] head (head_read s names) (recursion_from_All (IsShaped s) front.entries is.entries) (omega (arith, few)) in
     let c = end_read s front.entries (head ++ entries) front.complete r in
-    let end : run (front_rules s) c.number c.done [] ≡ ok c.done = run-nil (front_rules s) c.number c.done ∙ ap (λ (x : FrontStated). unless_broken c.number (first_broken (end_tests_in x.place)) (ok c.done)) c.state in
+    let end : run (front_rules s) c.number c.done [] ≡ ok c.done = run-nil (front_rules s) c.number c.done
+    ∙ ap (λ (x : FrontStated). unless_broken c.number (first_broken (end_tests_in x.place)) (ok c.done)) c.state in
     record {
       all = c.done;
-      reads = ap (λ (t : List ℕ). run (front_rules s) 1 [] (pieces t)) (whole_text ∙ sym (append-nil ((head ++ entries) ++ last))) ∙ c.reads [] ∙ ap (run (front_rules s) c.number c.done) pieces-nil ∙ end;
+      reads =
+          ap (λ (t : List ℕ). run (front_rules s) 1 [] (pieces t)) (whole_text ∙ sym (append-nil ((head ++ entries) ++ last))) ∙ c.reads [] ∙ ap (run (front_rules s) c.number c.done) pieces-nil ∙ end;
       value = ap (λ (x : FrontStated). front_value x.entries x.complete) c.state;
     }

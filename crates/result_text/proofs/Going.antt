@@ -39,10 +39,6 @@ length-with_line s stated ws =
       | inr f ↦ rw f (length-set stated.design (item_variable s ws) true)
     ]
 
-pub length-with_lines : (s : SpecValue) (stated : Stated) (done : List Statement) → length (with_lines s stated done).design ≡ length stated.design
-length-with_lines s stated [] = refl
-length-with_lines s stated (line ∷ more) = length-with_lines s (with_line s stated line.words) more ∙ length-with_line s stated line.words
-
 pub length-nothing : (s : SpecValue) → length (nothing s).design ≡ design_variables s
 length-nothing s = length-replicate (design_variables s) false
 

@@ -114,7 +114,8 @@ alloc_at s v o u n r eo eu en er l k h = record { there = omega (arith, h, er); 
     place : v ≡ resource_var s ((v - o) - u * n)
     place = rw (← eo, ← eu, ← en) (omega arith)
 
-pub wire_at : (s : SpecValue) (v o u n r : ℕ) → o ≡ length s.options → u ≡ length s.messages → n ≡ length s.arcs → r ≡ length s.resources → o ≤ v → u * n ≤ v - o → r ≤ (v - o) - u * n → v < design_variables s
+pub wire_at : (s : SpecValue) (v o u n r : ℕ) → o ≡ length s.options → u ≡ length s.messages → n ≡ length s.arcs → r ≡ length s.resources → o ≤ v → u * n ≤ v - o → r ≤ (v - o) - u * n
+    → v < design_variables s
     → IsWire s v (((v - o) - u * n) - r)
 wire_at s v o u n r eo eu en er l k q h = record { there = omega (arith, below_all, l, k, q); is = place }
   where

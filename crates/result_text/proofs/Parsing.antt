@@ -1,18 +1,16 @@
 -- The written lines are read as what they were written for.
-use Rattle.std.proofs.Common.{◌≡◌, ℕ, ◌<◌, ◌^◌, true, false, List, [], ◌∷◌, length, map, Ok, None, refl, sym, ap, subst, ◌∙◌, arith, inl, inr, All}
-use Rattle.std.specs.Prelude.{decimal, ◌==◌}
+use Rattle.std.proofs.Common.{◌≡◌, ℕ, ◌<◌, ◌^◌, false, List, [], ◌∷◌, length, map, Ok, None, refl, sym, ap, subst, ◌∙◌, arith, inl, inr, All}
+use Rattle.std.specs.Prelude.{decimal}
 use Rattle.std.specs.List.{list_any, list_all, AllByRecursion}
 use Rattle.std.specs.Char.{is_ascii_digit}
-use Rattle.std.proofs.lemmas.Bool.{lt-leb, lt-ltb}
-use Rattle.std.proofs.lemmas.Bool.Decides.{nat_tests}
+use Rattle.std.proofs.lemmas.Bool.{lt-leb, lt-ltb, eq-eqb}
 use Rattle.std.proofs.lemmas.List.{length-map}
 use Rattle.std.proofs.lemmas.Fmt.{digits_decimal, decimal_nonempty}
 use Rattle.line_words.specs.Numbers.{plain_whole_of}
 use Rattle.line_words.specs.Rules.{Words, first_broken}
 use Rattle.line_words.proofs.Digits.{own}
 use Rattle.line_words.proofs.Plain.{plain_whole_of-decimal}
-use Rattle.line_words.proofs.Whys.{both}
-use Rattle.names.specs.Names.{IsName, number_of}
+use Rattle.names.specs.Names.{IsName, number_by_name}
 use Rattle.spec_model.specs.Spec.{SpecValue, Arc, Choice, Name, name_at, option_at, arc_at, arc_var, resource_var, link_var, design_variables, choice}
 use Rattle.spec_model.specs.WellFormed.{IsWellFormed, AreDistinct}
 use Rattle.result_text.specs.Spelling.{bind_words, use_words, alloc_words, wire_words, item_words, vector_words}
@@ -47,13 +45,24 @@ no_option = choice 0 0 0
 abbrev no_arc : Arc
 no_arc = record { link = 0; tail = 0; head = 0 }
 
-pub eqb_self : (n : ℕ) → (n == n) ≡ true
-eqb_self n = grind (arith, nat_tests)
-
-bind_fine : (s : SpecValue) (t r n : List ℕ) (task resource o : ℕ) → plain_whole_of n ≡ Ok o → number_of s.tasks t ≡ task → number_of s.resources r ≡ resource → task < length s.tasks → resource < length s.resources
+bind_fine : (s : SpecValue) (t r n : List ℕ) (task resource o : ℕ) → plain_whole_of n ≡ Ok o → number_by_name s.tasks t ≡ task → number_by_name s.resources r ≡ resource → task < length s.tasks
+    → resource < length s.resources
     → o < length s.options → (option_at s o).task ≡ task → (option_at s o).resource ≡ resource → (first_broken (bind_tests s t r n) ≡ None) × (number_in n ≡ o)
-bind_fine s t r n task resource o number et er lt lr lo ot or =
-    (rw (number, et, er, lt-ltb task (length s.tasks) lt, lt-ltb resource (length s.resources) lr, lt-leb (length s.options) o lo, ot, or, eqb_self task, eqb_self resource) refl, rw number refl)
+bind_fine s t r n task resource o number et er lt lr lo ot or = (
+  rw (
+    number,
+    et,
+    er,
+    lt-ltb task (length s.tasks) lt,
+    lt-ltb resource (length s.resources) lr,
+    lt-leb (length s.options) o lo,
+    ot,
+    or,
+    eq-eqb task task refl,
+    eq-eqb resource resource refl,
+  ) refl,
+  rw number refl,
+)
 
 bind_read : (s : SpecValue) → IsWellFormed s → HasNames s → (o : ℕ) → o < length s.options → IsReadAs s o (bind_words s o)
 bind_read s w h o lt =
@@ -71,11 +80,21 @@ bind_read s w h o lt =
       variable = fine.1;
     }
 
-use_fine : (s : SpecValue) (m l p q : List ℕ) (message a : ℕ) → number_of s.message_names m ≡ message → message < length s.message_names
-    → number_of s.links l < length s.links → number_of s.resources p < length s.resources → number_of s.resources q < length s.resources → arc_number s l p q ≡ a → a < length s.arcs
-    → (first_broken (use_tests s m l p q) ≡ None) × (arc_var s (number_of s.message_names m) (arc_number s l p q) ≡ arc_var s message a)
-use_fine s m l p q message a em lm ll lp lq ea la =
-    (rw (em, lt-ltb message (length s.message_names) lm, lt-ltb (number_of s.links l) (length s.links) ll, lt-ltb (number_of s.resources p) (length s.resources) lp, lt-ltb (number_of s.resources q) (length s.resources) lq, ea, lt-leb (length s.arcs) a la) refl, rw (em, ea) refl)
+use_fine : (s : SpecValue) (m l p q : List ℕ) (message a : ℕ) → number_by_name s.message_names m ≡ message → message < length s.message_names
+    → number_by_name s.links l < length s.links → number_by_name s.resources p < length s.resources → number_by_name s.resources q < length s.resources → arc_number s l p q ≡ a → a < length s.arcs
+    → (first_broken (use_tests s m l p q) ≡ None) × (arc_var s (number_by_name s.message_names m) (arc_number s l p q) ≡ arc_var s message a)
+use_fine s m l p q message a em lm ll lp lq ea la = (
+  rw (
+    em,
+    lt-ltb message (length s.message_names) lm,
+    lt-ltb (number_by_name s.links l) (length s.links) ll,
+    lt-ltb (number_by_name s.resources p) (length s.resources) lp,
+    lt-ltb (number_by_name s.resources q) (length s.resources) lq,
+    ea,
+    lt-leb (length s.arcs) a la,
+  ) refl,
+  rw (em, ea) refl,
+)
 
 use_read : (s : SpecValue) → IsWellFormed s → HasNames s → (m a : ℕ) → m < length s.messages → a < length s.arcs → IsReadAs s (arc_var s m a) (use_words s m a)
 use_read s w h m a lm la =
@@ -85,11 +104,18 @@ use_read s w h m a lm la =
     let link = number_of_name s.links arc.link w.plan.links_distinct is.link in
     let tail = number_of_name s.resources arc.tail w.plan.resources_distinct is.tail in
     let head = number_of_name s.resources arc.head w.plan.resources_distinct is.head in
-    let place : arc_number s (name_at s.links arc.link) (name_at s.resources arc.tail) (name_at s.resources arc.head) ≡ a = rw (link, tail, head) (place_of_arc s.arcs a no_arc w.plan.arcs_distinct la) in
+    let place : arc_number s (name_at s.links arc.link) (name_at s.resources arc.tail) (name_at s.resources arc.head) ≡ a =
+    rw (link, tail, head) (place_of_arc s.arcs a no_arc w.plan.arcs_distinct la) in
     let fine = use_fine s (name_at s.message_names m) (name_at s.links arc.link) (name_at s.resources arc.tail) (name_at s.resources arc.head) m a
     (number_of_name s.message_names m w.plan.messages_distinct named) named (omega (arith, link, is.link)) (omega (arith, tail, is.tail)) (omega (arith, head, is.head)) place la in
     record {
-      words = (record { some = omega arith; bytes = refl }, (name_in s.message_names m h.messages named, (name_in s.links arc.link h.links is.link, (name_in s.resources arc.tail h.resources is.tail, (name_in s.resources arc.head h.resources is.head, tt)))));
+      words = (
+        record { some = omega arith; bytes = refl },
+        (
+          name_in s.message_names m h.messages named,
+          (name_in s.links arc.link h.links is.link, (name_in s.resources arc.tail h.resources is.tail, (name_in s.resources arc.head h.resources is.head, tt))),
+        ),
+      );
       some_word = omega arith;
       item = refl;
       tests = fine.0;
@@ -127,7 +153,8 @@ pub item_read : (s : SpecValue) → IsWellFormed s → HasNames s → (v : ℕ) 
 item_read s w h v lt =
     elim (kind_of s v lt) [
       | inl o ↦ read_as s v v (item_words s v) (bind_words s v) refl (item_option s v o) (bind_read s w h v o)
-      | inr (inl u) ↦ read_as s v (arc_var s u.message u.arc) (item_words s v) (use_words s u.message u.arc) u.is.is (use_is s v u.message u.arc u.is) (use_read s w h u.message u.arc u.is.message u.is.arc)
+      | inr (inl u) ↦ read_as s v (arc_var s u.message u.arc) (item_words s v) (use_words s u.message u.arc) u.is.is (use_is s v u.message u.arc u.is)
+          (use_read s w h u.message u.arc u.is.message u.is.arc)
       | inr (inr (inl r)) ↦ read_as s v (resource_var s r.resource) (item_words s v) (alloc_words s r.resource) r.is.is (alloc_is s v r.resource r.is) (alloc_read s w h r.resource r.is.there)
       | inr (inr (inr l)) ↦ read_as s v (link_var s l.link) (item_words s v) (wire_words s l.link) l.is.is (wire_is s v l.link l.is) (wire_read s w h l.link l.is.there)
     ]
@@ -164,6 +191,6 @@ vector_read s numbers len small =
     let count : length (map decimal numbers) ≡ length s.objectives = length-map numbers decimal ∙ len in
     record {
       words = (record { some = omega arith; bytes = refl }, decimals_named numbers small);
-      tests = rw (count, eqb_self (length s.objectives), are_numbers numbers small, none_big numbers small) refl;
+      tests = rw (count, eq-eqb (length s.objectives) (length s.objectives) refl, are_numbers numbers small, none_big numbers small) refl;
       back = numbers_back numbers small;
     }

@@ -101,7 +101,8 @@ skipped s f v r is text =
     }
 
 -- the line of one that is true is taken
-taken : (s : SpecValue) (f : Bits) (v : ℕ) → Reached s f v → f v ≡ true → v < design_variables s → items_text s f (suc v) ≡ items_text s f v ++ item_text s f v → IsReadAs s v (item_words s v) → Reached s f (suc v)
+taken : (s : SpecValue) (f : Bits) (v : ℕ) → Reached s f v → f v ≡ true → v < design_variables s → items_text s f (suc v) ≡ items_text s f v ++ item_text s f v → IsReadAs s v (item_words s v)
+    → Reached s f (suc v)
 taken s f v r is lt text h =
     let ws = item_words s v in
     let p = spelled_of ws h.some_word h.words in
@@ -173,9 +174,12 @@ reread s w h design numbers bits one_each small =
     let closed : (after s all).vector ≡ Some numbers = ap (λ (x : Stated). x.vector) state in
     let end : run (result_rules s) (r.number + 1) all [] ≡ ok all = run-nil (result_rules s) (r.number + 1) all ∙ rw closed refl in
     let step = goes_on s r.number r.done stated (spelled vw) (pieces []) (pieces (spelled vw ++ [])) _ refl (p.first []) refl fine in
-    let same : stated.design ≡ design = same_lists stated.design design (r.len ∙ sym bits) (λ k d lt. get_or_default stated.design k d false lt ∙ r.same k (omega (arith, lt, r.len)) ∙ sym (get_or_default design k d false (omega (arith, lt, r.len, bits)))) in
+    let same : stated.design ≡ design = same_lists stated.design design (r.len ∙ sym bits) (λ k d lt. get_or_default stated.design k d false lt ∙ r.same k (omega (arith, lt, r.len))
+    ∙ sym (get_or_default design k d false (omega (arith, lt, r.len, bits)))) in
     record {
       all = all;
-      reads = r.reads (spelled vw) ∙ ap (λ (t : List ℕ). run (result_rules s) r.number r.done (pieces t)) (sym (append-nil (spelled vw))) ∙ sym step ∙ ap (run (result_rules s) (r.number + 1) all) pieces-nil ∙ end;
+      reads =
+          r.reads (spelled vw) ∙ ap (λ (t : List ℕ). run (result_rules s) r.number r.done (pieces t)) (sym (append-nil (spelled vw))) ∙ sym step
+          ∙ ap (run (result_rules s) (r.number + 1) all) pieces-nil ∙ end;
       value = ap (λ (x : Stated). entry x.design (numbers_or_none x.vector)) state ∙ ap (λ (d : List Bool). entry d numbers) same;
     }

@@ -2,7 +2,7 @@
 use Rattle.std.specs.Prelude.{◌≡◌, ℕ, ◌<◌, List, length, true, Some, None, Result, Ok, Err}
 use Rattle.line_words.specs.Rules.{Test, first_broken}
 use Rattle.line_words.specs.declared.refusals.Why.{Why}
-use Rattle.names.specs.Names.{number_of}
+use Rattle.names.specs.Names.{number_by_name}
 use Rattle.spec_model.specs.Spec.{SpecValue, Name, design_variables}
 use Rattle.result_text.specs.Stating.{is_name}
 
@@ -10,7 +10,7 @@ use Rattle.result_text.specs.Stating.{is_name}
 pub record Named (names : List Name) (word : List ℕ) (n : ℕ) : Type 0 where
   pub known : is_name names word ≡ true
   pub within : n < length names
-  pub is : n ≡ number_of names word
+  pub is : n ≡ number_by_name names word
 
 -- the tests pass and the variable is found, which is one of the design, or the first that is broken is named
 abbrev pub Claims : SpecValue → List Test → ℕ → Result ℕ Why → Type 0

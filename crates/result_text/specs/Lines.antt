@@ -10,5 +10,5 @@ abbrev pub piece_tests : List ℕ → List Test
 piece_tests piece = (BadByte, list_any is_bad piece) ∷ (BadStatement, lacks_lf piece) ∷ []
 
 -- each piece states its words
-abbrev pub stated : List ℕ → Option Words
-stated piece = Some (words_of piece)
+abbrev pub piece_stated : List ℕ → Option Words
+piece_stated piece = Some (words_of piece)

@@ -5,7 +5,7 @@ use Rattle.line_words.specs.Rules.{Words, Rules, Statement, Test}
 use Rattle.line_words.specs.declared.refusals.Why.TheVariants.{BadStatement, Unclosed, NotInOrder}
 use Rattle.spelled_lines.specs.Lines.{is_empty}
 use Rattle.spec_model.specs.Spec.{SpecValue, design_variables}
-use Rattle.result_text.specs.Lines.{piece_tests, stated}
+use Rattle.result_text.specs.Lines.{piece_tests, piece_stated}
 use Rattle.result_text.specs.Stating.{item_tests, item_variable, vector_tests, is_vector, later_words, vector_numbers}
 
 -- What some lines state: the design so far, the least variable whose line may follow, and the vector once its line was
@@ -39,8 +39,8 @@ words_tests s stated ws =
     ∷ (if is_vector ws then vector_tests s (later_words ws) else (item_tests s ws ++ (NotInOrder, nat_lt (item_variable s ws) stated.least) ∷ []))
 
 -- the same after some lines
-abbrev pub statement_tests : SpecValue → List Statement → Words → List Test
-statement_tests s before ws = words_tests s (with_lines s (nothing s) before) ws
+abbrev pub later_tests : SpecValue → List Statement → Words → List Test
+later_tests s before ws = words_tests s (with_lines s (nothing s) before) ws
 
 -- the text ends with its vector's line
 abbrev pub end_tests : SpecValue → List Statement → List Test
@@ -48,4 +48,4 @@ end_tests s before = (Unclosed, is_none (with_lines s (nothing s) before).vector
 
 -- the rules of an implementation text
 abbrev pub result_rules : SpecValue → Rules
-result_rules s = record { line = piece_tests; stated = stated; statement = statement_tests s; end = end_tests s }
+result_rules s = record { line = piece_tests; stated = piece_stated; statement = later_tests s; end = end_tests s }

@@ -7,7 +7,7 @@ use Rattle.line_words.specs.Rules.{Words, Test}
 use Rattle.line_words.specs.declared.numbers.NumberFault.{NumberFault}
 use Rattle.line_words.specs.declared.numbers.NumberFault.TheVariants as numbers
 use Rattle.line_words.specs.declared.refusals.Why.TheVariants.{BadStatement, BadNumber, UnknownName, TooBig, WrongBinding}
-use Rattle.names.specs.Names.{number_of}
+use Rattle.names.specs.Names.{number_by_name}
 use Rattle.spec_model.specs.Spec.{SpecValue, Name, Arc, option_at, arc_var, resource_var, link_var}
 
 -- a word is no number
@@ -28,13 +28,13 @@ is_past count (Ok n) = nat_le count n
 is_past count (Err e) = false
 
 -- the number that a word gave
-abbrev pub value_of : Result ℕ NumberFault → ℕ
-value_of (Ok n) = n
-value_of (Err e) = 0
+abbrev pub number_given : Result ℕ NumberFault → ℕ
+number_given (Ok n) = n
+number_given (Err e) = 0
 
 -- a word is one of the names
 abbrev pub is_name : List Name → List ℕ → Bool
-is_name names word = nat_lt (number_of names word) (length names)
+is_name names word = nat_lt (number_by_name names word) (length names)
 
 -- the option's task and resource are these
 abbrev pub is_option_of : SpecValue → ℕ → ℕ → ℕ → Bool
@@ -46,7 +46,7 @@ is_arc_of l p q arc = (arc.link == l) && (arc.tail == p) && (arc.head == q)
 
 -- the number of the arc of a link from one resource to another, by their names; the number of arcs where there is none
 abbrev pub arc_number : SpecValue → List ℕ → List ℕ → List ℕ → ℕ
-arc_number s l p q = position_or_len (is_arc_of (number_of s.links l) (number_of s.resources p) (number_of s.resources q)) s.arcs
+arc_number s l p q = position_or_len (is_arc_of (number_by_name s.links l) (number_by_name s.resources p) (number_by_name s.resources q)) s.arcs
 
 -- what `bind TASK RESOURCE OPTION` is tried by
 abbrev pub bind_tests : SpecValue → List ℕ → List ℕ → List ℕ → List Test
@@ -54,7 +54,7 @@ bind_tests s t r n =
     (BadNumber, is_no_number (plain_whole_of n))
     ∷ (UnknownName, not (is_name s.tasks t) || not (is_name s.resources r) || is_past (length s.options) (plain_whole_of n))
     ∷ (TooBig, is_too_big (plain_whole_of n))
-    ∷ (WrongBinding, not (is_option_of s (number_of s.tasks t) (number_of s.resources r) (value_of (plain_whole_of n))))
+    ∷ (WrongBinding, not (is_option_of s (number_by_name s.tasks t) (number_by_name s.resources r) (number_given (plain_whole_of n))))
     ∷ []
 
 -- what `use MESSAGE LINK TAIL HEAD` is tried by
@@ -88,10 +88,10 @@ abbrev pub item_variable : SpecValue → Words → ℕ
 item_variable s [] = 0
 item_variable s (k ∷ []) = 0
 item_variable s (k ∷ a ∷ []) =
-    if bytes_eq k (codes "alloc") then resource_var s (number_of s.resources a) else link_var s (number_of s.links a)
+    if bytes_eq k (codes "alloc") then resource_var s (number_by_name s.resources a) else link_var s (number_by_name s.links a)
 item_variable s (k ∷ a ∷ b ∷ []) = 0
-item_variable s (k ∷ a ∷ b ∷ c ∷ []) = value_of (plain_whole_of c)
-item_variable s (k ∷ a ∷ b ∷ c ∷ d ∷ []) = arc_var s (number_of s.message_names a) (arc_number s b c d)
+item_variable s (k ∷ a ∷ b ∷ c ∷ []) = number_given (plain_whole_of c)
+item_variable s (k ∷ a ∷ b ∷ c ∷ d ∷ []) = arc_var s (number_by_name s.message_names a) (arc_number s b c d)
 item_variable s (k ∷ a ∷ b ∷ c ∷ d ∷ e ∷ more) = 0
 
 -- words that are no number, or too big a one
@@ -103,7 +103,7 @@ too_big word = is_too_big (plain_whole_of word)
 
 -- the number that a word writes
 abbrev pub number_in : List ℕ → ℕ
-number_in word = value_of (plain_whole_of word)
+number_in word = number_given (plain_whole_of word)
 
 -- what the words after `vector` are tried by
 abbrev pub vector_tests : SpecValue → Words → List Test

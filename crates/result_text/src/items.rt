@@ -2,7 +2,7 @@
 
 ghost use Rattle.std.specs.Prelude.{◌≡◌, ◌<◌, ◌∷◌, [], false, length, map, MatchOption};
 ghost use Rattle.std.specs.List.{position_or_len};
-ghost use Rattle.names.specs.Names.{number_of};
+ghost use Rattle.names.specs.Names.{number_by_name};
 ghost use Rattle.spec_model.specs.Spec.{arc_at, arc_var, resource_var, link_var};
 ghost use Rattle.result_text.specs.Stating.{is_no_number, is_name, is_option_of, is_arc_of, arc_number, bind_tests, use_tests, name_tests, item_tests, item_variable, number_in};
 ghost use Rattle.result_text.specs.Claims.{Named, Claims};
@@ -107,7 +107,7 @@ fn find_arc(spec: &Spec, link: LinkNo, tail: ResNo, head: ResNo) -> Option<ArcNo
 
 /// What `use MESSAGE LINK TAIL HEAD` says.
 fn used(spec: &Spec, message: &str, link: &str, tail: &str, head: &str) -> Result<u64, Why>
-    ensures { Claims spec.now (use_tests spec.now message.now link.now tail.now head.now) (arc_var spec.now (number_of spec.now.message_names message.now) (arc_number spec.now link.now tail.now head.now)) result }
+    ensures { Claims spec.now (use_tests spec.now message.now link.now tail.now head.now) (arc_var spec.now (number_by_name spec.now.message_names message.now) (arc_number spec.now link.now tail.now head.now)) result }
 {
     let Some(message) = find_message(spec, message) else {
         return Err(Why::UnknownName);
@@ -130,7 +130,7 @@ fn used(spec: &Spec, message: &str, link: &str, tail: &str, head: &str) -> Resul
 
 /// What `alloc RESOURCE` says.
 fn allocated(spec: &Spec, resource: &str) -> Result<u64, Why>
-    ensures { Claims spec.now (name_tests spec.now.resources resource.now) (resource_var spec.now (number_of spec.now.resources resource.now)) result }
+    ensures { Claims spec.now (name_tests spec.now.resources resource.now) (resource_var spec.now (number_by_name spec.now.resources resource.now)) result }
 {
     match find_resource(spec, resource) {
         Some(resource) => Ok(spec.resource_variable(resource)),
@@ -140,7 +140,7 @@ fn allocated(spec: &Spec, resource: &str) -> Result<u64, Why>
 
 /// What `wire LINK` says.
 fn wired(spec: &Spec, link: &str) -> Result<u64, Why>
-    ensures { Claims spec.now (name_tests spec.now.links link.now) (link_var spec.now (number_of spec.now.links link.now)) result }
+    ensures { Claims spec.now (name_tests spec.now.links link.now) (link_var spec.now (number_by_name spec.now.links link.now)) result }
 {
     match find_link(spec, link) {
         Some(link) => Ok(spec.link_variable(link)),

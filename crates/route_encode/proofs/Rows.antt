@@ -5,13 +5,14 @@ use Rattle.std.specs.List.{list_any, filter}
 use Rattle.std.proofs.lemmas.List.{take_more, take_all, map-append, get_or_past}
 use Rattle.std.proofs.lemmas.Bool.{cases_lt}
 use Rattle.std.proofs.lemmas.List.FromFn.{get_or-map-range_with_len, length-map-range_with_len}
+use Rattle.std.proofs.Math.Bool.{and_comm}
 use Rattle.spec_model.specs.Spec.{SpecValue, Choice, below, those, message_at, choice}
 use Rattle.spec_model.specs.WellFormed.{IsWellFormed}
 use Rattle.spec_model.proofs.InRange.{option_in, message_in}
 use Rattle.spec_graph.specs.declared.numbers.TaskNo.{TaskNo}
 use Rattle.spec_graph.specs.Lists.{task_number}
 use Rattle.spec_model.specs.Rules.{of_task, of_task_on, goes_into, leaves, of_link, options_of, arcs_into, arcs_from, arcs_of}
-use Rattle.spec_model.proofs.Those.{those-more, map-below_more}
+use Rattle.spec_model.proofs.Those.{those_more, map-below_more}
 use Rattle.spec_model.proofs.Joined.{All-those}
 use Rattle.encode_model.specs.Encoding.{on_resource, options_on, option_on, is_number, for_receiver, receiver_options, leads_to, neighbours}
 use Rattle.route_encode.specs.Keys.{has_key, with_key, has_arc, joined_to, neighbours_by, is_among, is_receiver, is_for, task_of, resource_of, head_of, tail_of, link_of}
@@ -39,13 +40,15 @@ pub those_agree : (p q : ℕ → Bool) (n : ℕ) → ((i : ℕ) → i < n → p 
 those_agree p q zero h = refl
 those_agree p q (suc n) h =
     subst (λ (k : ℕ). those p k ≡ those q k) (add-one n)
-    (those-more p n ∙ (ap (λ (b : Bool). those p n ++ cond b (n ∷ []) []) (h n (omega arith)) ∙ (ap (λ (xs : List ℕ). xs ++ cond (q n) (n ∷ []) []) (those_agree p q n (λ i l. h i (omega arith))) ∙ sym (those-more q n))))
+    (those_more p n ∙ (ap (λ (b : Bool). those p n ++ cond b (n ∷ []) []) (h n (omega arith)) ∙ (ap (λ (xs : List ℕ). xs ++ cond (q n) (n ∷ []) []) (those_agree p q n (λ i l. h i (omega arith)))
+    ∙ sym (those_more q n))))
 
 maps_agree : (f g : ℕ → List ℕ) (n : ℕ) → ((i : ℕ) → i < n → f i ≡ g i) → map f (below n) ≡ map g (below n)
 maps_agree f g zero h = refl
 maps_agree f g (suc n) h =
     subst (λ (k : ℕ). map f (below k) ≡ map g (below k)) (add-one n)
-    (map-below_more f n ∙ (ap (λ (x : List ℕ). map f (below n) ++ x ∷ []) (h n (omega arith)) ∙ (ap (λ (xs : List (List ℕ)). xs ++ g n ∷ []) (maps_agree f g n (λ i l. h i (omega arith))) ∙ sym (map-below_more g n))))
+    (map-below_more f n ∙ (ap (λ (x : List ℕ). map f (below n) ++ x ∷ []) (h n (omega arith)) ∙ (ap (λ (xs : List (List ℕ)). xs ++ g n ∷ []) (maps_agree f g n (λ i l. h i (omega arith)))
+    ∙ sym (map-below_more g n))))
 
 -- a key among the values of a function
 key_at : (g : ℕ → ℕ) (n k i : ℕ) → i < n → has_key (map g (below n)) k i ≡ nat_eq (g i) k
@@ -60,23 +63,28 @@ rows_by : (g : ℕ → ℕ) (n m : ℕ) (keys : List ℕ) (rows : List (List ℕ
 rows_by g n m keys rows e h =
     h ∙ (ap (λ (ks : List ℕ). map (with_key ks) (below m)) e ∙ maps_agree (with_key (map g (below n))) (λ k. those (λ i. nat_eq (g i) k) n) m (λ k l. with_key_is g n k))
 
-pub rows_by_task : (s : SpecValue) (keys : List ℕ) (rows : List (List ℕ)) → keys ≡ map (task_of s) (below (length s.options)) → rows ≡ map (with_key keys) (below (length s.tasks)) → rows ≡ map (options_of s) (below (length s.tasks))
+pub rows_by_task : (s : SpecValue) (keys : List ℕ) (rows : List (List ℕ)) → keys ≡ map (task_of s) (below (length s.options)) → rows ≡ map (with_key keys) (below (length s.tasks))
+    → rows ≡ map (options_of s) (below (length s.tasks))
 unfolding of_task
 rows_by_task s keys rows e h = rows_by (task_of s) (length s.options) (length s.tasks) keys rows e h
 
-pub rows_by_resource : (s : SpecValue) (keys : List ℕ) (rows : List (List ℕ)) → keys ≡ map (resource_of s) (below (length s.options)) → rows ≡ map (with_key keys) (below (length s.resources)) → rows ≡ map (options_on s) (below (length s.resources))
+pub rows_by_resource : (s : SpecValue) (keys : List ℕ) (rows : List (List ℕ)) → keys ≡ map (resource_of s) (below (length s.options)) → rows ≡ map (with_key keys) (below (length s.resources))
+    → rows ≡ map (options_on s) (below (length s.resources))
 unfolding on_resource
 rows_by_resource s keys rows e h = rows_by (resource_of s) (length s.options) (length s.resources) keys rows e h
 
-pub rows_by_head : (s : SpecValue) (keys : List ℕ) (rows : List (List ℕ)) → keys ≡ map (head_of s) (below (length s.arcs)) → rows ≡ map (with_key keys) (below (length s.resources)) → rows ≡ map (arcs_into s) (below (length s.resources))
+pub rows_by_head : (s : SpecValue) (keys : List ℕ) (rows : List (List ℕ)) → keys ≡ map (head_of s) (below (length s.arcs)) → rows ≡ map (with_key keys) (below (length s.resources))
+    → rows ≡ map (arcs_into s) (below (length s.resources))
 unfolding goes_into
 rows_by_head s keys rows e h = rows_by (head_of s) (length s.arcs) (length s.resources) keys rows e h
 
-pub rows_by_tail : (s : SpecValue) (keys : List ℕ) (rows : List (List ℕ)) → keys ≡ map (tail_of s) (below (length s.arcs)) → rows ≡ map (with_key keys) (below (length s.resources)) → rows ≡ map (arcs_from s) (below (length s.resources))
+pub rows_by_tail : (s : SpecValue) (keys : List ℕ) (rows : List (List ℕ)) → keys ≡ map (tail_of s) (below (length s.arcs)) → rows ≡ map (with_key keys) (below (length s.resources))
+    → rows ≡ map (arcs_from s) (below (length s.resources))
 unfolding leaves
 rows_by_tail s keys rows e h = rows_by (tail_of s) (length s.arcs) (length s.resources) keys rows e h
 
-pub rows_by_link : (s : SpecValue) (keys : List ℕ) (rows : List (List ℕ)) → keys ≡ map (link_of s) (below (length s.arcs)) → rows ≡ map (with_key keys) (below (length s.links)) → rows ≡ map (arcs_of s) (below (length s.links))
+pub rows_by_link : (s : SpecValue) (keys : List ℕ) (rows : List (List ℕ)) → keys ≡ map (link_of s) (below (length s.arcs)) → rows ≡ map (with_key keys) (below (length s.links))
+    → rows ≡ map (arcs_of s) (below (length s.links))
 unfolding of_link
 rows_by_link s keys rows e h = rows_by (link_of s) (length s.arcs) (length s.links) keys rows e h
 
@@ -91,13 +99,16 @@ unfolding leads_to leaves goes_into
 neighbours_are s q =
     ap (λ (arcs : List ℕ). joined_to (map (tail_of s) (below (length s.arcs))) arcs (length s.resources)) (with_key_is (head_of s) (length s.arcs) q)
     ∙ those_agree (has_arc (map (tail_of s) (below (length s.arcs))) (arcs_into s q)) (leads_to s q) (length s.resources)
-    (λ p l. any_agree (has_key (map (tail_of s) (below (length s.arcs))) p) (leaves s p) (length s.arcs) (arcs_into s q) (All-those (λ a. a < length s.arcs) (goes_into s q) (length s.arcs) (λ i k e. k)) (λ a k. key_at (tail_of s) (length s.arcs) p a k))
+    (λ p l. any_agree (has_key (map (tail_of s) (below (length s.arcs))) p) (leaves s p) (length s.arcs) (arcs_into s q)
+    (All-those (λ a. a < length s.arcs) (goes_into s q) (length s.arcs) (λ i k e. k)) (λ a k. key_at (tail_of s) (length s.arcs) p a k))
 
-pub rows_of_neighbours : (s : SpecValue) (tails heads : List ℕ) (rows : List (List ℕ)) → tails ≡ map (tail_of s) (below (length s.arcs)) → heads ≡ map (head_of s) (below (length s.arcs)) → rows ≡ map (neighbours_by tails heads (length s.resources)) (below (length s.resources)) → rows ≡ map (neighbours s) (below (length s.resources))
+pub rows_of_neighbours : (s : SpecValue) (tails heads : List ℕ) (rows : List (List ℕ)) → tails ≡ map (tail_of s) (below (length s.arcs)) → heads ≡ map (head_of s) (below (length s.arcs))
+    → rows ≡ map (neighbours_by tails heads (length s.resources)) (below (length s.resources)) → rows ≡ map (neighbours s) (below (length s.resources))
 rows_of_neighbours s tails heads rows e g h =
     h ∙ (ap (λ (ts : List ℕ). map (neighbours_by ts heads (length s.resources)) (below (length s.resources))) e
     ∙ (ap (λ (hs : List ℕ). map (neighbours_by (map (tail_of s) (below (length s.arcs))) hs (length s.resources)) (below (length s.resources))) g
-    ∙ maps_agree (neighbours_by (map (tail_of s) (below (length s.arcs))) (map (head_of s) (below (length s.arcs))) (length s.resources)) (neighbours s) (length s.resources) (λ q l. neighbours_are s q)))
+    ∙ maps_agree (neighbours_by (map (tail_of s) (below (length s.arcs))) (map (head_of s) (below (length s.arcs))) (length s.resources)) (neighbours s) (length s.resources)
+    (λ q l. neighbours_are s q)))
 
 pub ruleset key_steps = (rows_by_task, rows_by_resource, rows_by_head, rows_by_tail, rows_by_link, rows_of_neighbours)
 
@@ -118,7 +129,8 @@ filter_twice : (p q : ℕ → Bool) (xs : List ℕ) → filter q (filter p xs) �
 filter_twice p q [] = refl
 filter_twice p q (x ∷ xs) = at (p x) (filter_twice p q xs)
   where
-    at : (b : Bool) → filter q (filter p xs) ≡ filter (λ y. p y && q y) xs → filter q (cond b (x ∷ filter p xs) (filter p xs)) ≡ cond (b && q x) (x ∷ filter (λ y. p y && q y) xs) (filter (λ y. p y && q y) xs)
+    at : (b : Bool) → filter q (filter p xs) ≡ filter (λ y. p y && q y) xs → filter q (cond b (x ∷ filter p xs) (filter p xs))
+        ≡ cond (b && q x) (x ∷ filter (λ y. p y && q y) xs) (filter (λ y. p y && q y) xs)
     at true e = ap (λ (ys : List ℕ). cond (q x) (x ∷ ys) ys) e
     at false e = e
 
@@ -126,16 +138,11 @@ pub option_on_is : (s : SpecValue) (t r : ℕ) (xs ys : List ℕ) → ys ≡ fil
 unfolding of_task of_task_on on_resource
 option_on_is s t r xs ys h e = h ∙ (ap (filter (on_resource s r)) e ∙ filter_twice (of_task s t) (on_resource s r) (below (length s.options)))
 
-swap : (a b : Bool) → (a && b) ≡ (b && a)
-swap true true = refl
-swap true false = refl
-swap false true = refl
-swap false false = refl
-
 pub receiver_options_are : (s : SpecValue) (m r : ℕ) (xs ys : List ℕ) → ys ≡ filter (is_for s m) xs → xs ≡ options_on s r → ys ≡ receiver_options s m r
 unfolding for_receiver on_resource is_for
 receiver_options_are s m r xs ys h e =
-    h ∙ (ap (filter (is_for s m)) e ∙ (filter_twice (on_resource s r) (is_for s m) (below (length s.options)) ∙ those_agree (λ o. on_resource s r o && is_for s m o) (for_receiver s m r) (length s.options) (λ o l. swap (on_resource s r o) (is_for s m o))))
+    h ∙ (ap (filter (is_for s m)) e ∙ (filter_twice (on_resource s r) (is_for s m) (below (length s.options))
+    ∙ those_agree (λ o. on_resource s r o && is_for s m o) (for_receiver s m r) (length s.options) (λ o l. and_comm (on_resource s r o) (is_for s m o))))
 
 -- a value of a function that is 0 past n
 value_at : (g : ℕ → ℕ) (n o : ℕ) → (n ≤ o → g o ≡ 0) → get_or (map g (below n)) o 0 ≡ g o
@@ -149,7 +156,8 @@ value_at g n o past =
 pub is_on_is : (s : SpecValue) (r o : ℕ) (keys : List ℕ) (b : Bool) → b ≡ has_key keys r o → keys ≡ map (resource_of s) (below (length s.options)) → b ≡ on_resource s r o
 unfolding on_resource
 is_on_is s r o keys b h e =
-    h ∙ (ap (λ (ks : List ℕ). has_key ks r o) e ∙ ap (λ (x : ℕ). nat_eq x r) (value_at (resource_of s) (length s.options) o (λ l. ap (λ (c : Choice). c.resource) (get_or_past s.options o (choice 0 0 0) l))))
+    h ∙ (ap (λ (ks : List ℕ). has_key ks r o) e ∙ ap (λ (x : ℕ). nat_eq x r) (value_at (resource_of s) (length s.options) o
+    (λ l. ap (λ (c : Choice). c.resource) (get_or_past s.options o (choice 0 0 0) l))))
 
 among_numbers : (ws : List TaskNo) (t : ℕ) → is_among ws t ≡ list_any (is_number t) (map task_number ws)
 among_numbers [] t = refl
@@ -159,18 +167,23 @@ tests_agree : (f g : ℕ → Bool) (n : ℕ) → ((i : ℕ) → i < n → f i �
 tests_agree f g zero h = refl
 tests_agree f g (suc n) h =
     subst (λ (k : ℕ). map f (below k) ≡ map g (below k)) (add-one n)
-    (map-below_more f n ∙ (ap (λ (x : Bool). map f (below n) ++ x ∷ []) (h n (omega arith)) ∙ (ap (λ (xs : List Bool). xs ++ g n ∷ []) (tests_agree f g n (λ i l. h i (omega arith))) ∙ sym (map-below_more g n))))
+    (map-below_more f n ∙ (ap (λ (x : Bool). map f (below n) ++ x ∷ []) (h n (omega arith)) ∙ (ap (λ (xs : List Bool). xs ++ g n ∷ []) (tests_agree f g n (λ i l. h i (omega arith)))
+    ∙ sym (map-below_more g n))))
 
-pub receivers_are : (s : SpecValue) (m n : ℕ) (ws : List TaskNo) (v : List Bool) → v ≡ map (is_among ws) (below n) → map task_number ws ≡ (message_at s m).receivers → v ≡ map (is_receiver s m) (below n)
+pub receivers_are : (s : SpecValue) (m n : ℕ) (ws : List TaskNo) (v : List Bool) → v ≡ map (is_among ws) (below n) → map task_number ws ≡ (message_at s m).receivers
+    → v ≡ map (is_receiver s m) (below n)
 unfolding is_receiver
 receivers_are s m n ws v h e =
     h ∙ tests_agree (is_among ws) (is_receiver s m) n (λ t l. among_numbers ws t ∙ ap (λ (rs : List ℕ). list_any (is_number t) rs) e)
 
-pub is_for_is : (s : SpecValue) (m o task : ℕ) (keys : List ℕ) (flags : List Bool) (b : Bool) → IsWellFormed s → m < length s.messages → keys ≡ map (task_of s) (below (length s.options)) → flags ≡ map (is_receiver s m) (below (length s.tasks)) → task ≡ get_or keys o 0 → b ≡ get_or flags task false → b ≡ is_for s m o
+pub is_for_is : (s : SpecValue) (m o task : ℕ) (keys : List ℕ) (flags : List Bool) (b : Bool) → IsWellFormed s → m < length s.messages → keys ≡ map (task_of s) (below (length s.options))
+    → flags ≡ map (is_receiver s m) (below (length s.tasks)) → task ≡ get_or keys o 0 → b ≡ get_or flags task false → b ≡ is_for s m o
 unfolding is_for is_receiver
 is_for_is s m o task keys flags b wf hm ek ef et eb =
-    let at : task ≡ task_of s o = et ∙ (ap (λ (ks : List ℕ). get_or ks o 0) ek ∙ value_at (task_of s) (length s.options) o (λ l. ap (λ (c : Choice). c.task) (get_or_past s.options o (choice 0 0 0) l))) in
-    eb ∙ (ap (λ (fs : List Bool). get_or fs task false) ef ∙ (ap (λ (t : ℕ). get_or (map (is_receiver s m) (below (length s.tasks))) t false) at ∙ get_or-map-range_with_len (is_receiver s m) 0 (length s.tasks) (task_of s o) (task_of s o) false (there (cases_lt o (length s.options))) (omega arith)))
+    let at : task ≡ task_of s o = et ∙ (ap (λ (ks : List ℕ). get_or ks o 0) ek ∙ value_at (task_of s) (length s.options) o
+    (λ l. ap (λ (c : Choice). c.task) (get_or_past s.options o (choice 0 0 0) l))) in
+    eb ∙ (ap (λ (fs : List Bool). get_or fs task false) ef ∙ (ap (λ (t : ℕ). get_or (map (is_receiver s m) (below (length s.tasks))) t false) at
+    ∙ get_or-map-range_with_len (is_receiver s m) 0 (length s.tasks) (task_of s o) (task_of s o) false (there (cases_lt o (length s.options))) (omega arith)))
   where
     there : ((o < length s.options) ⊎ (length s.options ≤ o)) → task_of s o < length s.tasks
     there (inl l) = (option_in s o wf l).task
@@ -183,7 +196,8 @@ pub ruleset test_steps = (is_on_is, receivers_are, is_for_is)
 pub ruleset filter_steps = (map_taken, map_taken_all, option_on_is, receiver_options_are)
 
 -- a receiver of a message is one of the tasks
-pub receiver_there : (s t : SpecValue) (m : ℕ) (ws : List TaskNo) (i : ℕ) (d : TaskNo) → t ≡ s → IsWellFormed t → m < length s.messages → map task_number ws ≡ (message_at t m).receivers → i < length ws → (get_or ws i d).0 < length s.tasks
+pub receiver_there : (s t : SpecValue) (m : ℕ) (ws : List TaskNo) (i : ℕ) (d : TaskNo) → t ≡ s → IsWellFormed t → m < length s.messages → map task_number ws ≡ (message_at t m).receivers
+    → i < length ws → (get_or ws i d).0 < length s.tasks
 receiver_there s t m ws i d e wf hm em l =
     let em' : map task_number ws ≡ (message_at s m).receivers = em ∙ ap (λ (x : SpecValue). (message_at x m).receivers) e in
     there ws (subst (λ (xs : List ℕ). All (λ w. w < length s.tasks) xs) (sym em') (message_in s m (subst IsWellFormed e wf) hm).receivers) i l

@@ -12,7 +12,7 @@ use Rattle.spec_model.specs.WellFormed.{IsWellFormed}
 use Rattle.spec_model.proofs.InRange.{limit_in}
 use Rattle.encode_model.specs.Encoding.{put, at_least}
 use Rattle.encode_model.specs.Rising.{TermsWithin, IsRising}
-use Rattle.encode_model.proofs.Rising.{at_least-within, normal_of_rising, below_within}
+use Rattle.encode_model.proofs.Rising.{at_least_within, normal_of_rising, below_within}
 use Rattle.route_encode.specs.Adding.{Adds, goes_first}
 
 within_small : (a b : ℕ) (ts : List Term) → TermsWithin (2 ^ 40) a b ts → b ≤ 2 ^ 20 → All (λ t. t.lit.var < 2 ^ 62) ts
@@ -27,9 +27,10 @@ normal_terms n m ts us e h few small = subst (λ (ws : List Term). IsNormal ws m
 pub below_terms : (n m : ℕ) (ts us : List Term) (c : Linear) → c ≡ record { terms = us; degree = m } → us ≡ ts → IsRising n ts → IsBelow n c
 below_terms n m ts us c ec e h = subst (λ (d : Linear). IsBelow n d) (sym ec) (subst (λ (ws : List Term). VarsBelow n ws) (sym e) (below_within (2 ^ 40) 0 n ts h.rises))
 
-pub added : (a b : SetValue) (n m : ℕ) (ts us : List Term) (c : Linear) → b ≡ record a { constraints = a.constraints ++ c ∷ [] } → c ≡ record { terms = us; degree = m } → us ≡ ts → IsRising n ts → Adds a b (at_least m ts ∷ [])
+pub added : (a b : SetValue) (n m : ℕ) (ts us : List Term) (c : Linear) → b ≡ record a { constraints = a.constraints ++ c ∷ [] } → c ≡ record { terms = us; degree = m } → us ≡ ts → IsRising n ts
+    → Adds a b (at_least m ts ∷ [])
 added a b n m ts us c eb ec e h =
-    let same : c ≡ at_least m ts = ec ∙ (ap (λ (ws : List Term). make ws) e ∙ sym (at_least-within (2 ^ 40) 0 n m ts h.rises)) in
+    let same : c ≡ at_least m ts = ec ∙ (ap (λ (ws : List Term). make ws) e ∙ sym (at_least_within (2 ^ 40) 0 n m ts h.rises)) in
     record {
       constraints = ap (λ (x : SetValue). x.constraints) eb ∙ ap (λ (d : Linear). a.constraints ++ d ∷ []) same;
       variables = ap (λ (x : SetValue). x.variables) eb;
@@ -43,7 +44,8 @@ put_at : (t : Term) (ts : List Term) → insert ts (length (take_while (goes_fir
 put_at t [] = refl
 put_at t (u ∷ us) = ap (λ (ws : List Term). insert (u ∷ us) (length ws) t) (take_while-cons (goes_first t) u us) ∙ at (nat_le u.lit.var t.lit.var) (nat_lt t.lit.var u.lit.var) refl refl (put_at t us)
   where
-    at : (b c : Bool) → nat_le u.lit.var t.lit.var ≡ b → nat_lt t.lit.var u.lit.var ≡ c → insert us (length (take_while (goes_first t) us)) t ≡ put t us → insert (u ∷ us) (length (cond b (u ∷ take_while (goes_first t) us) [])) t ≡ cond c (t ∷ (u ∷ us)) (u ∷ put t us)
+    at : (b c : Bool) → nat_le u.lit.var t.lit.var ≡ b → nat_lt t.lit.var u.lit.var ≡ c → insert us (length (take_while (goes_first t) us)) t ≡ put t us
+        → insert (u ∷ us) (length (cond b (u ∷ take_while (goes_first t) us) [])) t ≡ cond c (t ∷ (u ∷ us)) (u ∷ put t us)
     at true false eb ec ih = ap (λ (ws : List Term). u ∷ ws) ih
     at false true eb ec ih = refl
     at true true eb ec ih = absurd (omega (arith, leb-true u.lit.var t.lit.var eb, ltb-true t.lit.var u.lit.var ec))

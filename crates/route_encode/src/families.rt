@@ -1,8 +1,9 @@
 //! The families of one message, each for all its resources, arcs or receivers.
 
-ghost use Rattle.std.specs.Prelude.{◌≡◌, ℕ, ◌+◌, ◌-◌, ◌<◌, ◌≤◌, ◌^◌, [], ◌∷◌, length, map, All, IfOk, OnOk};
+ghost use Rattle.std.specs.Prelude.{◌≡◌, ℕ, ◌+◌, ◌-◌, ◌<◌, ◌≤◌, [], ◌∷◌, length, map, All, IfOk, OnOk};
 ghost use Rattle.std.specs.List.{flat_map, filter};
 ghost use Rattle.spec_model.specs.Spec.{below, message_at, arc_at, arc_var, all_variables};
+ghost use Rattle.spec_model.specs.Limits.{most_resources};
 ghost use Rattle.encode_model.specs.Encoding.{option_on, on_resource, steps_from, arc_vars, step_at, neighbours, receiver_options, sender_start, option_covers, receiver_covered, receivers_covered, covered_once, one_arc_in, carries, arc_carries, has_cause, steps_have_cause, no_dangling, message_part, resources_of};
 ghost use Rattle.route_encode.specs.Keys.{is_receiver, is_for};
 ghost use Rattle.route_encode.specs.Adding.{Adds};
@@ -17,7 +18,7 @@ use std::alloc::{AllocError, Global};
 fn limit_of(index: &Index, m: u64) -> u64
     requires { m < length index.now.messages }
     ensures value { result ≡ (message_at index.now m).limit }
-    ensures small { result < 256 }
+    ensures small { result < most_resources }
 {
     let spec = index.spec();
     spec.facts();

@@ -2,6 +2,7 @@
 
 ghost use Rattle.std.specs.Prelude.{◌≡◌, ◌<◌, ◌≤◌, ◌^◌, [], ◌∷◌, length, All, IfOk, OnOk};
 ghost use Rattle.std.specs.List.{take_while};
+ghost use Rattle.spec_model.specs.Limits.{most_variables};
 ghost use Rattle.encode_model.specs.Encoding.{positive, negative, positives, negatives, put, at_least};
 ghost use Rattle.encode_model.specs.Rising.{IsRising};
 ghost use Rattle.route_encode.specs.Adding.{Adds, goes_first};
@@ -99,7 +100,7 @@ fn terms(alloc: Global, literals: &[Signed]) -> Result<Vec<Term>, AllocError>
 #[tactic(auto, using(crate::proofs::Writing::term_steps))]
 pub fn add(alloc: Global, out: &mut Set, degree: u64, literals: &[Signed]) -> Result<(), AllocError>
     requires rising { IsRising out.old.variables literals.now }
-    requires few { out.old.variables ≤ 2 ^ 20 }
+    requires few { out.old.variables ≤ most_variables }
     requires small { degree < 2 ^ 63 }
     ensures { OnOk result (Adds out.old out.new (at_least degree literals.now ∷ [])) }
 {
@@ -111,7 +112,7 @@ pub fn add(alloc: Global, out: &mut Set, degree: u64, literals: &[Signed]) -> Re
 /// Adds the clause of two literals.
 pub fn add_two(alloc: Global, out: &mut Set, a: Signed, b: Signed) -> Result<(), AllocError>
     requires rising { IsRising out.old.variables (a ∷ (b ∷ [])) }
-    requires few { out.old.variables ≤ 2 ^ 20 }
+    requires few { out.old.variables ≤ most_variables }
     ensures { OnOk result (Adds out.old out.new (at_least 1 (a ∷ (b ∷ [])) ∷ [])) }
 {
     let mut literals = Vec::new(alloc);

@@ -1,2 +1,3 @@
+pub mod ArchFiles
 pub mod ShortFiles
 pub mod Worlds

@@ -22,7 +22,8 @@ some_content_if_named None = (None, tt)
 some_content_if_named (Some loaded) = let found = some_content loaded in (Some found.0, found.1)
 
 -- what was loaded of each file was loaded of one world, which is that of the files where these are told
-pub loaded_from : (files : Option Files) (names : NamesValue) (inputs : Inputs) → IfSome files (λ all. IsLoadedIfNamed inputs.tgff (content_if_named all names.tgff)) → IfSome files (λ all. IsLoaded inputs.arch (content all names.arch)) → IfSome files (λ all. IsLoadedIfNamed inputs.third (content_if_named all names.third)) → AreLoadedFrom files names inputs
+pub loaded_from : (files : Option Files) (names : NamesValue) (inputs : Inputs) → IfSome files (λ all. IsLoadedIfNamed inputs.tgff (content_if_named all names.tgff))
+    → IfSome files (λ all. IsLoaded inputs.arch (content all names.arch)) → IfSome files (λ all. IsLoadedIfNamed inputs.third (content_if_named all names.third)) → AreLoadedFrom files names inputs
 loaded_from None names inputs t a g =
     let tgff = some_content_if_named inputs.tgff in
     let arch = some_content inputs.arch in

@@ -13,8 +13,8 @@ use Rattle.line_words.specs.declared.refusals.Refusal.{Refusal}
 use Rattle.line_words.specs.declared.refusals.ReadFault.{ReadFault}
 use Rattle.line_words.specs.declared.refusals.ReadFault.TheVariants as faults
 use Rattle.tgff_reader.specs.Facts.{TgffValue}
-use Rattle.tgff_reader.specs.Tgff.{tgff_rules, stated as graphs_stated}
-use Rattle.arch_reader.specs.Arch.{ArchValue, arch_rules, stated}
+use Rattle.tgff_reader.specs.Tgff.{tgff_rules, graphs_stated}
+use Rattle.arch_reader.specs.Arch.{ArchValue, arch_rules, arch_stated}
 use Rattle.genotype.specs.Statements.{genotype_rules, genes_of}
 use Rattle.spec_join.specs.Reading.{JoinReads}
 use Rattle.line_words.specs.Limits.{most_file_bytes}
@@ -72,7 +72,7 @@ ReadsTgff named reading = ReadsIfNamed Tgff tgff_rules graphs_stated no_graphs n
 
 -- what the lines of an architecture file state, where they break no rule
 abbrev pub file_of : List ℕ → ArchValue
-file_of bytes = record { lines = stated (statements arch_rules (lines bytes)); end_line = 1 + length (lines bytes) }
+file_of bytes = record { lines = arch_stated (statements arch_rules (lines bytes)); end_line = 1 + length (lines bytes) }
 
 -- with the graphs and tables, the bytes are those of a specification
 pub record IsRead (tgff : TgffValue) (bytes : List ℕ) (spec : SpecValue) : Type 0 where

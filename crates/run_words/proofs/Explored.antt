@@ -1,7 +1,7 @@
 -- A request of `explore` has few rounds, and places of tools.
 use Rattle.std.proofs.Common.{◌≡◌, ◌≤◌, ℕ, Bool, true, false, List, Option, Some, None, IfSome, refl, subst, arith, cond, nat_le, codes, length, option_and_then, option_map}
 use Rattle.std.proofs.lemmas.Bool.Decides.{nat_tests}
-use Rattle.form_words.specs.Line.{Text, Use, line, value_of}
+use Rattle.form_words.specs.Line.{Text, Use, line, value_under}
 use Rattle.form_words.specs.Table.{form_of}
 use Rattle.run_words.specs.Numbers.{number_from, number_up_to}
 use Rattle.run_words.specs.Tools.{chosen_if_given}
@@ -10,7 +10,7 @@ use Rattle.run_words.specs.Fit.{HasFitTools}
 use Rattle.run_words.proofs.Places.{AreFitPlaces, fit_given}
 
 -- a number that is read is at most the greatest one
-few_up_to : (most : ℕ) (t : Text) → IfSome (number_up_to most t) (λ n. n ≤ most)
+pub few_up_to : (most : ℕ) (t : Text) → IfSome (number_up_to most t) (λ n. n ≤ most)
 few_up_to most t = go (number_from 0 t)
   where
     at : (n : ℕ) (b : Bool) → nat_le n most ≡ b → IfSome (cond b (Some n) None) (λ m. m ≤ most)
@@ -37,7 +37,8 @@ fit_made tools t a p r s c v few h e =
     let q : explored t a p r s c ≡ v = cc in
     subst (HasFitTools tools) q (record { few = few; within = h.within; rising = h.rising })
 
-fit_named : (tools : ℕ) (t a : Text) (p : Option Text) (n : Option (ℕ × ℕ)) (c : Option (List ℕ)) (v : ExploringValue) → IfSome n (λ k. k.0 ≤ most_rounds) → ((x : List ℕ) → c ≡ Some x → AreFitPlaces tools x) → explore_named t a p n c ≡ Some v → HasFitTools tools v
+fit_named : (tools : ℕ) (t a : Text) (p : Option Text) (n : Option (ℕ × ℕ)) (c : Option (List ℕ)) (v : ExploringValue) → IfSome n (λ k. k.0 ≤ most_rounds)
+    → ((x : List ℕ) → c ≡ Some x → AreFitPlaces tools x) → explore_named t a p n c ≡ Some v → HasFitTools tools v
 fit_named tools t a p None c v few h e = absurd (cc)
 fit_named tools t a p (Some (r, s)) None v few h e = absurd (cc)
 fit_named tools t a p (Some (r, s)) (Some c) v few h e = go (are_explored t a p) e
@@ -60,4 +61,6 @@ fit_explore tags words v e = go (line (form_of explore_table) words) e
   where
     go : (us : Option (List Use)) → option_and_then (explore_of tags) us ≡ Some v → HasFitTools (length tags) v
     go None e = absurd (cc)
-    go (Some us) e = fit_with tags (value_of (codes "tgff") us) (value_of (codes "arch") us) (value_of (codes "rounds") us) (value_of (codes "seed") us) (value_of (codes "measure") us) (value_of (codes "proof") us) v e
+    go (Some us) e =
+        fit_with tags (value_under (codes "tgff") us) (value_under (codes "arch") us) (value_under (codes "rounds") us) (value_under (codes "seed") us) (value_under (codes "measure") us)
+        (value_under (codes "proof") us) v e

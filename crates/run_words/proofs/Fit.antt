@@ -4,18 +4,19 @@ use Rattle.std.specs.Str.{bytes_eq}
 use Rattle.std.specs.Str.Parse.{digits_value}
 use Rattle.std.proofs.lemmas.Bool.Decides.{nat_tests}
 use Rattle.std.proofs.lemmas.Slice.Eq.{bytes_eq-Decides}
-use Rattle.form_words.specs.Line.{Text, Use, line, value_of}
+use Rattle.form_words.specs.Line.{Text, Use, line, value_under}
 use Rattle.form_words.specs.Table.{form_of}
 use Rattle.run_words.specs.Names.{is_file, is_apart}
-use Rattle.run_words.specs.Numbers.{is_whole, number_from, number_if_given}
+use Rattle.run_words.specs.Numbers.{is_whole, number_from, number_if_given, number_up_to}
 use Rattle.run_words.specs.Decoding.{DecodeValue, are_taken, is_written, budget_with, decode_named, decode_with, decode_of, decode_request, decode_table}
-use Rattle.run_words.specs.Exploring.{explore_request}
+use Rattle.run_words.specs.Exploring.{explore_request, most_rounds}
 use Rattle.run_words.specs.Fronting.{FrontingValue, are_read, are_written, front_named, front_with, front_of, front_request, front_table}
 use Rattle.run_words.specs.Checking.{check_request}
-use Rattle.run_words.specs.Values.{RequestValue, decode, explore, front, check}
+use Rattle.run_words.specs.Making.{MakingValue, rounds_if_given, make_numbered, make_with, make_of, make_request, make_table}
+use Rattle.run_words.specs.Values.{RequestValue, decode, explore, front, check, make}
 use Rattle.run_words.specs.Requests.{request}
-use Rattle.run_words.specs.Fit.{HasFitBudget, HasFitFiles, IsFit}
-use Rattle.run_words.proofs.Explored.{fit_explore}
+use Rattle.run_words.specs.Fit.{HasFitBudget, HasFitFiles, HasFitRounds, IsFit}
+use Rattle.run_words.proofs.Explored.{few_up_to, fit_explore}
 
 -- a number that is read is at least the least one
 number_above : (least : ℕ) (t : Text) → IfSome (number_from least t) (λ n. least ≤ n)
@@ -71,7 +72,7 @@ fit_decode words d e = go (line (form_of decode_table) words) e
   where
     go : (us : Option (List Use)) → option_and_then decode_of us ≡ Some d → HasFitBudget d
     go None e = absurd (cc)
-    go (Some us) e = fit_with (value_of (codes "tgff") us) (value_of (codes "arch") us) (value_of (codes "geno") us) (value_of (codes "budget") us) (value_of (codes "proof") us) d e
+    go (Some us) e = fit_with (value_under (codes "tgff") us) (value_under (codes "arch") us) (value_under (codes "geno") us) (value_under (codes "budget") us) (value_under (codes "proof") us) d e
 
 -- ---- the files of a front
 
@@ -83,11 +84,8 @@ fit_number (Some t) = go (number_from 1 t) (number_above 1 t)
     go None h = tt
     go (Some k) h = h
 
-same_text : (t : Text) → bytes_eq t t ≡ true
-same_text t = (bytes_eq-Decides t t).1 refl
-
 last_apart : (t a f p : Text) → is_apart (Some p) (t ∷ a ∷ f ∷ []) ≡ true → f ≢ p
-last_apart t a f p h e = go (bytes_eq t p) (bytes_eq a p) (bytes_eq f p) (subst (λ (x : Text). bytes_eq f x ≡ true) e (same_text f)) h
+last_apart t a f p h e = go (bytes_eq t p) (bytes_eq a p) (bytes_eq f p) (subst (λ (x : Text). bytes_eq f x ≡ true) e ((bytes_eq-Decides f f).1 refl)) h
   where
     go : (x y z : Bool) → z ≡ true → not (x || (y || (z || false))) ≡ true → ⊥
     go true y z q h = absurd (cc)
@@ -100,7 +98,8 @@ right_of true y e = e
 right_of false y e = absurd (cc)
 
 written_apart : (t a f p : Text) → are_written t a f p ≡ true → f ≢ p
-written_apart t a f p h = last_apart t a f p (right_of (is_file p) (is_apart (Some p) (t ∷ a ∷ f ∷ [])) (right_of (is_file f && is_apart (Some f) (t ∷ a ∷ [])) (is_file p && is_apart (Some p) (t ∷ a ∷ f ∷ [])) h))
+written_apart t a f p h =
+    last_apart t a f p (right_of (is_file p) (is_apart (Some p) (t ∷ a ∷ f ∷ [])) (right_of (is_file f && is_apart (Some f) (t ∷ a ∷ [])) (is_file p && is_apart (Some p) (t ∷ a ∷ f ∷ [])) h))
 
 abbrev fronted : Text → Text → Text → Text → Option ℕ → FrontingValue
 fronted t a f p n = record { tgff = t; arch = a; front = f; proof = p; budget = n }
@@ -130,7 +129,43 @@ fit_front words v e = go (line (form_of front_table) words) e
   where
     go : (us : Option (List Use)) → option_and_then front_of us ≡ Some v → HasFitFiles v
     go None e = absurd (cc)
-    go (Some us) e = fit_front_with (value_of (codes "tgff") us) (value_of (codes "arch") us) (value_of (codes "front") us) (value_of (codes "proof") us) (value_of (codes "budget") us) v e
+    go (Some us) e =
+        fit_front_with (value_under (codes "tgff") us) (value_under (codes "arch") us) (value_under (codes "front") us) (value_under (codes "proof") us) (value_under (codes "budget") us) v e
+
+-- ---- the rounds of a made specification
+
+few_given : (t : Option Text) → IfSome (rounds_if_given t) (λ n. IfSome n (λ k. k ≤ most_rounds))
+few_given None = tt
+few_given (Some t) = go (number_up_to most_rounds t) (few_up_to most_rounds t)
+  where
+    go : (n : Option ℕ) → IfSome n (λ k. k ≤ most_rounds) → IfSome (option_map (λ k. Some k) n) (λ m. IfSome m (λ k. k ≤ most_rounds))
+    go None h = tt
+    go (Some k) h = h
+
+abbrev numbered : Text → ℕ → Option ℕ → MakingValue
+numbered a n r = record { number = n; arch = a; rounds = r }
+
+fit_numbered : (a : Text) (n : Option ℕ) (r : Option (Option ℕ)) (v : MakingValue) → IfSome r (λ m. IfSome m (λ k. k ≤ most_rounds)) → make_numbered a n r ≡ Some v → HasFitRounds v
+fit_numbered a None r v h e = absurd (cc)
+fit_numbered a (Some n) None v h e = absurd (cc)
+fit_numbered a (Some n) (Some r) v h e = go (is_file a) e
+  where
+    go : (b : Bool) → cond b (Some (numbered a n r)) None ≡ Some v → HasFitRounds v
+    go true e = let q : numbered a n r ≡ v = cc in subst HasFitRounds q h
+    go false e = absurd (cc)
+
+fit_make_with : (n a r : Option Text) (v : MakingValue) → make_with n a r ≡ Some v → HasFitRounds v
+fit_make_with None a r v e = absurd (cc)
+fit_make_with (Some n) None r v e = absurd (cc)
+fit_make_with (Some n) (Some a) r v e = fit_numbered a (number_from 0 n) (rounds_if_given r) v (few_given r) e
+
+fit_make : (words : List Text) (v : MakingValue) → make_request words ≡ Some v → HasFitRounds v
+unfolding make_request
+fit_make words v e = go (line (form_of make_table) words) e
+  where
+    go : (us : Option (List Use)) → option_and_then make_of us ≡ Some v → HasFitRounds v
+    go None e = absurd (cc)
+    go (Some us) e = fit_make_with (value_under (codes "number") us) (value_under (codes "arch") us) (value_under (codes "rounds") us) v e
 
 -- ---- each request
 
@@ -140,14 +175,17 @@ fit_of tools made (Some x) asked h e = let q : made x ≡ asked = cc in subst (I
 
 pub requests_fit : (tags words : List Text) (asked : RequestValue) → request tags words ≡ Some asked → IsFit (length tags) asked
 requests_fit tags [] asked e = absurd (cc)
-requests_fit tags (name ∷ words) asked e = go (bytes_eq name (codes "decode")) (bytes_eq name (codes "explore")) (bytes_eq name (codes "front")) (bytes_eq name (codes "check")) e
+requests_fit tags (name ∷ words) asked e =
+    go (bytes_eq name (codes "decode")) (bytes_eq name (codes "explore")) (bytes_eq name (codes "front")) (bytes_eq name (codes "check")) (bytes_eq name (codes "make")) e
   where
     n : ℕ
     n = length tags
 
-    go : (d x f c : Bool) → cond d (option_map decode (decode_request words)) (cond x (option_map explore (explore_request tags words)) (cond f (option_map front (front_request words)) (cond c (option_map check (check_request words)) None))) ≡ Some asked → IsFit n asked
-    go true x f c e = fit_of n decode (decode_request words) asked (fit_decode words) e
-    go false true f c e = fit_of n explore (explore_request tags words) asked (fit_explore tags words) e
-    go false false true c e = fit_of n front (front_request words) asked (fit_front words) e
-    go false false false true e = fit_of n check (check_request words) asked (λ x q. tt) e
-    go false false false false e = absurd (cc)
+    go : (d x f c m : Bool) → cond d (option_map decode (decode_request words)) (cond x (option_map explore (explore_request tags words))
+        (cond f (option_map front (front_request words)) (cond c (option_map check (check_request words)) (cond m (option_map make (make_request words)) None)))) ≡ Some asked → IsFit n asked
+    go true x f c m e = fit_of n decode (decode_request words) asked (fit_decode words) e
+    go false true f c m e = fit_of n explore (explore_request tags words) asked (fit_explore tags words) e
+    go false false true c m e = fit_of n front (front_request words) asked (fit_front words) e
+    go false false false true m e = fit_of n check (check_request words) asked (λ x q. tt) e
+    go false false false false true e = fit_of n make (make_request words) asked (fit_make words) e
+    go false false false false false e = absurd (cc)

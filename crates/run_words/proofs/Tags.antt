@@ -19,10 +19,12 @@ cut_at {X} f xs i d lt = rw add-one (go xs i lt)
 pub place_added : (i : ℕ) (parts before ts : List (List ℕ)) (t : List ℕ) (done after : List ℕ) (takes : Bool) → takes ≡ is_named parts before t
     → after ≡ (cond takes (done ++ i ∷ []) done) → after ++ places_from (i + 1) parts (before ++ t ∷ []) ts ≡ done ++ places_from i parts before (t ∷ ts)
 unfolding places_from
-place_added i parts before ts t done after true is e = rw e (append_assoc done (i ∷ []) _ ∙ ap (λ b. done ++ cond b (i ∷ places_from (i + 1) parts (before ++ t ∷ []) ts) (places_from (i + 1) parts (before ++ t ∷ []) ts)) is)
+place_added i parts before ts t done after true is e =
+    rw e (append_assoc done (i ∷ []) _ ∙ ap (λ b. done ++ cond b (i ∷ places_from (i + 1) parts (before ++ t ∷ []) ts) (places_from (i + 1) parts (before ++ t ∷ []) ts)) is)
 place_added i parts before ts t done after false is e = rw e (ap (λ b. done ++ cond b (i ∷ places_from (i + 1) parts (before ++ t ∷ []) ts) (places_from (i + 1) parts (before ++ t ∷ []) ts)) is)
 
-pub place_step : {X : Type 0} (f : X → List ℕ) (xs : List X) (i : ℕ) (d : X) (parts : List (List ℕ)) (t : List ℕ) (done after total : List ℕ) (takes : Bool) → i < length xs → t ≡ f (slice_index_or xs i d)
+pub place_step : {X : Type 0} (f : X → List ℕ) (xs : List X) (i : ℕ) (d : X) (parts : List (List ℕ)) (t : List ℕ) (done after total : List ℕ) (takes : Bool) → i < length xs
+    → t ≡ f (slice_index_or xs i d)
     → takes ≡ is_named parts (map f (take i xs)) t → after ≡ cond takes (done ++ i ∷ []) done
     → done ++ places_from i parts (map f (take i xs)) (map f (drop i xs)) ≡ total
     → after ++ places_from (i + 1) parts (map f (take (i + 1) xs)) (map f (drop (i + 1) xs)) ≡ total

@@ -1,6 +1,6 @@
 -- The request of the words after `check`.
 use Rattle.std.specs.Prelude.{◌∷◌, ◌&&◌, [], Bool, List, Option, Some, None, codes, if◌then◌else◌, option_and_then}
-use Rattle.form_words.specs.Line.{Text, Use, line, value_of}
+use Rattle.form_words.specs.Line.{Text, Use, line, value_under}
 use Rattle.form_words.specs.Table.{Table, form_of}
 use Rattle.run_words.specs.Names.{is_name, is_file}
 
@@ -30,7 +30,7 @@ check_with _ _ _ _ = None
 
 -- the request of the values of a line
 abbrev pub check_of : List Use → Option CheckValue
-check_of us = check_with (value_of (codes "tgff") us) (value_of (codes "arch") us) (value_of (codes "front") us) (value_of (codes "proof") us)
+check_of us = check_with (value_under (codes "tgff") us) (value_under (codes "arch") us) (value_under (codes "front") us) (value_under (codes "proof") us)
 
 -- the request of the words
 unfoldable pub check_request : List Text → Option CheckValue

@@ -1,6 +1,6 @@
 -- The request of the words after `decode`.
 use Rattle.std.specs.Prelude.{◌∷◌, ◌&&◌, [], ℕ, Bool, false, List, Option, Some, None, codes, if◌then◌else◌, is_some, option_and_then, option_map}
-use Rattle.form_words.specs.Line.{Text, Use, line, value_of}
+use Rattle.form_words.specs.Line.{Text, Use, line, value_under}
 use Rattle.form_words.specs.Table.{Table, form_of}
 use Rattle.run_words.specs.Names.{is_name, is_file, is_file_if_named, is_apart}
 use Rattle.run_words.specs.Numbers.{number_if_given}
@@ -13,7 +13,8 @@ decode_table = record { places = codes "tgff" ∷ codes "arch" ∷ codes "geno" 
 abbrev pub decode_usage : Text
 decode_usage = codes "usage: dse decode TGFF ARCH GENO [--budget N] [--proof FILE]\n"
 
--- the names of the file of task graphs and tables, of the architecture file and of the genotype file; how many derived lines the proof may have at most, and the name of the file that it is written to, where these are given
+-- the names of the file of task graphs and tables, of the architecture file and of the genotype file;
+-- how many derived lines the proof may have at most, and the name of the file that it is written to, where these are given
 pub record DecodeValue : Type 0 where
   pub tgff : Text
   pub arch : Text
@@ -47,7 +48,7 @@ decode_with _ _ _ budget proof = None
 
 -- the request of the values of a line
 abbrev pub decode_of : List Use → Option DecodeValue
-decode_of us = decode_with (value_of (codes "tgff") us) (value_of (codes "arch") us) (value_of (codes "geno") us) (value_of (codes "budget") us) (value_of (codes "proof") us)
+decode_of us = decode_with (value_under (codes "tgff") us) (value_under (codes "arch") us) (value_under (codes "geno") us) (value_under (codes "budget") us) (value_under (codes "proof") us)
 
 -- the request of the words
 unfoldable pub decode_request : List Text → Option DecodeValue

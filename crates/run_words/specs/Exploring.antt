@@ -1,6 +1,6 @@
 -- The request of the words after `explore`.
 use Rattle.std.specs.Prelude.{◌∷◌, ◌&&◌, [], ℕ, Bool, true, false, List, Option, Some, None, codes, if◌then◌else◌, option_and_then, option_map}
-use Rattle.form_words.specs.Line.{Text, Use, line, value_of}
+use Rattle.form_words.specs.Line.{Text, Use, line, value_under}
 use Rattle.form_words.specs.Table.{Table, form_of}
 use Rattle.run_words.specs.Names.{is_name, is_file, is_file_if_named, is_apart}
 use Rattle.run_words.specs.Numbers.{number_from, number_up_to}
@@ -18,7 +18,8 @@ explore_usage = codes "usage: dse explore TGFF ARCH --rounds N --seed S [--measu
 abbrev pub most_rounds : ℕ
 most_rounds = 65536
 
--- the names of the file of task graphs and tables and of the architecture file; how many rounds there are, from which number the words are drawn, and the places of the tools that measure; and the name of the file that the proof is written to, where it is given
+-- the names of the file of task graphs and tables and of the architecture file; how many rounds there are, from which number the words are drawn,
+-- and the places of the tools that measure; and the name of the file that the proof is written to, where it is given
 pub record ExploringValue : Type 0 where
   pub tgff : Text
   pub arch : Text
@@ -50,7 +51,9 @@ explore_with tags _ _ _ _ measure proof = None
 
 -- the request of the values of a line
 abbrev pub explore_of : List Text → List Use → Option ExploringValue
-explore_of tags us = explore_with tags (value_of (codes "tgff") us) (value_of (codes "arch") us) (value_of (codes "rounds") us) (value_of (codes "seed") us) (value_of (codes "measure") us) (value_of (codes "proof") us)
+explore_of tags us =
+    explore_with tags (value_under (codes "tgff") us) (value_under (codes "arch") us) (value_under (codes "rounds") us) (value_under (codes "seed") us) (value_under (codes "measure") us)
+    (value_under (codes "proof") us)
 
 -- the request of the words, of tools with these tags
 unfoldable pub explore_request : List Text → List Text → Option ExploringValue

@@ -4,7 +4,8 @@ use Rattle.form_words.specs.Line.{Text}
 use Rattle.run_words.specs.Decoding.{DecodeValue}
 use Rattle.run_words.specs.Exploring.{ExploringValue, most_rounds}
 use Rattle.run_words.specs.Fronting.{FrontingValue}
-use Rattle.run_words.specs.Values.{RequestValue, decode, explore, front, check}
+use Rattle.run_words.specs.Making.{MakingValue}
+use Rattle.run_words.specs.Values.{RequestValue, decode, explore, front, check, make}
 use Rattle.run_words.specs.Requests.{request}
 
 -- a budget is at least 1, and doesn't stand without a proof
@@ -27,12 +28,17 @@ pub record HasFitTools (tools : ℕ) (e : ExploringValue) : Type 0 where
   pub within : All (λ p. p < tools) e.chosen
   pub rising : AreRising e.chosen
 
+-- there are no more rounds than an exploration has at most
+abbrev pub HasFitRounds : MakingValue → Type 0
+HasFitRounds m = IfSome m.rounds (λ n. n ≤ most_rounds)
+
 -- a request, where there are so many tools
 abbrev pub IsFit : ℕ → RequestValue → Type 0
 IsFit tools (decode d) = HasFitBudget d
 IsFit tools (explore e) = HasFitTools tools e
 IsFit tools (front f) = HasFitFiles f
 IsFit tools (check c) = Unit {0}
+IsFit tools (make m) = HasFitRounds m
 
 -- so it is of each request of words
 abbrev pub RequestsAreFit : Type 0

@@ -1,6 +1,6 @@
 -- The request of the words after `front`.
 use Rattle.std.specs.Prelude.{◌∷◌, ◌&&◌, [], ℕ, Bool, true, false, List, Option, Some, None, codes, if◌then◌else◌, option_and_then, option_map}
-use Rattle.form_words.specs.Line.{Text, Use, line, value_of}
+use Rattle.form_words.specs.Line.{Text, Use, line, value_under}
 use Rattle.form_words.specs.Table.{Table, form_of}
 use Rattle.run_words.specs.Names.{is_name, is_file, is_apart}
 use Rattle.run_words.specs.Numbers.{number_if_given}
@@ -13,7 +13,8 @@ front_table = record { places = codes "tgff" ∷ codes "arch" ∷ []; options = 
 abbrev pub front_usage : Text
 front_usage = codes "usage: dse front TGFF ARCH --front FILE --proof FILE [--budget N]\n"
 
--- the names of the file of task graphs and tables and of the architecture file; the names of the files that the front and its proof are written to; and how many derived lines the proof may have at most, where it is given
+-- the names of the file of task graphs and tables and of the architecture file; the names of the files that the front and its proof are written to;
+-- and how many derived lines the proof may have at most, where it is given
 pub record FrontingValue : Type 0 where
   pub tgff : Text
   pub arch : Text
@@ -42,7 +43,7 @@ front_with _ _ _ _ budget = None
 
 -- the request of the values of a line
 abbrev pub front_of : List Use → Option FrontingValue
-front_of us = front_with (value_of (codes "tgff") us) (value_of (codes "arch") us) (value_of (codes "front") us) (value_of (codes "proof") us) (value_of (codes "budget") us)
+front_of us = front_with (value_under (codes "tgff") us) (value_under (codes "arch") us) (value_under (codes "front") us) (value_under (codes "proof") us) (value_under (codes "budget") us)
 
 -- the request of the words
 unfoldable pub front_request : List Text → Option FrontingValue

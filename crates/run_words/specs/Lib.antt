@@ -5,6 +5,7 @@ pub mod Tools
 pub mod Exploring
 pub mod Fronting
 pub mod Checking
+pub mod Making
 pub mod Values
 pub mod Requests
 pub mod Fit

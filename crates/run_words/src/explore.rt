@@ -7,15 +7,12 @@ ghost use Rattle.run_words.specs.Exploring.{are_explored, explore_named, explore
 ghost use Rattle.run_words.specs.Values.{explore, request_value};
 
 use crate::names::{is_apart, is_file, is_file_if_named, is_name, owned};
-use crate::numbers::{number_from, number_up_to};
+use crate::numbers::{MOST_ROUNDS, number_from, number_up_to};
 use crate::request::Request;
 use crate::tools::chosen_if_given;
 use clap::ArgMatches;
 use form_words::read_line;
 use std::alloc::{AllocError, Global};
-
-/// An exploration has at most so many rounds.
-const MOST_ROUNDS: u64 = 65_536;
 
 /// Whether these are names of what is read, and the proof, where it is given, has a file of its own.
 fn are_explored(tgff: &str, arch: &str, proof: Option<&str>) -> bool

@@ -10,6 +10,7 @@ mod decode;
 mod explore;
 mod front;
 pub mod laws;
+mod make;
 mod names;
 mod numbers;
 mod request;

@@ -3,6 +3,9 @@
 ghost use Rattle.std.specs.Prelude.{◌≡◌, option_map};
 ghost use Rattle.run_words.specs.Numbers.{number_from, number_if_given, number_up_to};
 
+/// An exploration has at most so many rounds.
+pub(crate) const MOST_ROUNDS: u64 = 65_536;
+
 /// The number that a word writes, from a least one on: decimal digits without leading zeros.
 pub(crate) fn number_from(least: u64, text: &str) -> Option<u64>
     ensures { result ≡ number_from least text.now }

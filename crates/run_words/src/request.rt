@@ -1,6 +1,6 @@
 //! The request of a line, by its first word.
 
-ghost use Rattle.std.specs.Prelude.{◌≡◌, ◌∷◌, ◌++◌, IfOk, OnOk, map, option_map, string_bytes};
+ghost use Rattle.std.specs.Prelude.{◌≡◌, ◌∷◌, ◌++◌, IfOk, OnOk, OnErr, map, option_map, string_bytes};
 ghost use Rattle.run_words.specs.Requests.{request, usage_text};
 ghost use Rattle.run_words.specs.Values.{request_value};
 
@@ -8,6 +8,7 @@ use crate::check::{put_check_usage, read_check};
 use crate::decode::{put_decode_usage, read_decode};
 use crate::explore::{put_explore_usage, read_explore};
 use crate::front::{put_front_usage, read_front};
+use crate::make::{put_make_usage, read_make};
 use std::alloc::{AllocError, Global};
 
 /// What a command line asks for.
@@ -27,8 +28,8 @@ pub enum Request {
         /// The file that the proof is written to, where one is given: none of the others.
         proof_file: Option<String>,
     },
-    /// `explore TGFF ARCH --rounds N --seed S [--measure LIST] [--proof FILE]`: an exploration of the specification of a
-    /// file of task graphs and tables and an architecture file.
+    /// `explore TGFF ARCH --rounds N --seed S [--measure LIST] [--proof FILE]`: an exploration of the specification of
+    /// a file of task graphs and tables and an architecture file.
     Explore {
         /// The file of task graphs and tables, or `-` for no graphs and no tables.
         tgff: String,
@@ -43,8 +44,8 @@ pub enum Request {
         /// The file that the proof of all decodings is written to, where one is given: none of the others.
         proof_file: Option<String>,
     },
-    /// `front TGFF ARCH --front FILE --proof FILE [--budget N]`: the front of the specification of a file of task graphs and
-    /// tables and an architecture file, written to a file, with its proof in another.
+    /// `front TGFF ARCH --front FILE --proof FILE [--budget N]`: the front of the specification of a file of task graphs
+    /// and tables and an architecture file, written to a file, with its proof in another.
     Front {
         /// The file of task graphs and tables, or `-` for no graphs and no tables.
         tgff: String,
@@ -57,8 +58,8 @@ pub enum Request {
         /// How many lines the search may derive, at least 1, where it is given.
         budget: Option<u64>,
     },
-    /// `check TGFF ARCH FRONT PROOF`: whether a front file is accepted with a proof file for the specification of a file
-    /// of task graphs and tables and an architecture file.
+    /// `check TGFF ARCH FRONT PROOF`: whether a front file is accepted with a proof file for the specification of a
+    /// file of task graphs and tables and an architecture file.
     Check {
         /// The file of task graphs and tables, or `-` for no graphs and no tables.
         tgff: String,
@@ -68,6 +69,16 @@ pub enum Request {
         front_file: String,
         /// The proof file.
         proof_file: String,
+    },
+    /// `make N --arch FILE [--rounds K]`: the specification that is made from a number, written to a file, and explored
+    /// where rounds are given.
+    Make {
+        /// The number.
+        number: u64,
+        /// The file that the text of the specification is written to.
+        arch: String,
+        /// How many rounds it is explored, at most 65,536, where that is given.
+        rounds: Option<u64>,
     },
 }
 
@@ -92,6 +103,9 @@ fn read_named(
     if name == "check" {
         return read_check(alloc, words);
     }
+    if name == "make" {
+        return read_make(alloc, words);
+    }
     Ok(None)
 }
 
@@ -110,12 +124,26 @@ pub fn read_words(
     }
 }
 
-/// Appends the lines of usage of all commands.
-pub fn put_usage(out: &mut Vec<u8>) -> Result<(), AllocError>
-    ensures { OnOk result (out.new.items ≡ out.old.items ++ usage_text) }
+/// The lines of usage of all commands.
+fn usage_of(alloc: Global) -> Result<Vec<u8>, AllocError>
+    ensures { IfOk result (λ text. text.items ≡ usage_text) }
 {
-    put_decode_usage(out)?;
-    put_explore_usage(out)?;
-    put_front_usage(out)?;
-    put_check_usage(out)
+    let mut text = Vec::new(alloc);
+    put_decode_usage(&mut text)?;
+    put_explore_usage(&mut text)?;
+    put_front_usage(&mut text)?;
+    put_check_usage(&mut text)?;
+    put_make_usage(&mut text)?;
+    Ok(text)
+}
+
+/// Appends the lines of usage of all commands.
+///
+/// Where memory runs out, `out` is as before.
+pub fn put_usage(alloc: Global, out: &mut Vec<u8>) -> Result<(), AllocError>
+    ensures ok { OnOk result (out.new.items ≡ out.old.items ++ usage_text) }
+    ensures err { OnErr result (out.new.items ≡ out.old.items) }
+{
+    let text = usage_of(alloc)?;
+    out.extend_from_slice(&text)
 }

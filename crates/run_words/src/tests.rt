@@ -63,6 +63,13 @@ fn asked(alloc: Global, line: &str) -> Result<String, Fail> {
                 proof_file,
             },
         ) => Ok(format!(in alloc; "{tgff} {arch} {front_file} {proof_file}")?),
+        Some(
+            Request::Make {
+                number,
+                arch,
+                rounds,
+            },
+        ) => Ok(format!(in alloc; "{number} {arch} {rounds:?}")?),
         None => Ok(String::from_str(alloc, "none")?),
     }
 }
@@ -155,6 +162,24 @@ fn asks_what_each_line_says(rt: HostRuntime) -> Result<(), Fail> {
         ("check - A F P Q", "none"),
         ("check - A F P --budget 1", "none"),
         ("check -- - A F F", "- A F F"),
+        ("make 0 --arch A", "0 A None"),
+        ("make --rounds=50 --arch=A 3", "3 A Some(50)"),
+        (
+            "make 18446744073709551615 --arch A --rounds 65536",
+            "18446744073709551615 A Some(65536)",
+        ),
+        ("make 18446744073709551616 --arch A", "none"),
+        ("make 07 --arch A", "none"),
+        ("make 7", "none"),
+        ("make --arch A", "none"),
+        ("make 7 8 --arch A", "none"),
+        ("make 7 --arch -", "none"),
+        ("make 7 --arch=", "none"),
+        ("make 7 --arch A --arch B", "none"),
+        ("make 7 --arch A --rounds 65537", "none"),
+        ("make 7 --arch A --rounds", "none"),
+        ("make 7 --arch A --seed 1", "none"),
+        ("make -- 7 --arch A", "none"),
     ] {
         assert!(rt; asked(alloc, line)?.as_str() == expected);
     }

@@ -14,7 +14,7 @@ use Rattle.encode_laws.proofs.Laws.{valid_are_models}
 use Rattle.genotype.specs.Order.{IsOrderOf}
 use Rattle.genotype.proofs.Firsts.{first_along}
 use Rattle.ordered_solver.specs.Answers.{IsFirst}
-use Rattle.ordered_solver.proofs.Orders.{order-covers}
+use Rattle.ordered_solver.proofs.Orders.{order_covers}
 use Rattle.sat_decoder.specs.Decoding.{IsFirstDesign, ShowsFirstDesign}
 use Rattle.sat_decoder.specs.Models.{IsPartOf}
 
@@ -33,7 +33,8 @@ before_along genes f g x y fx gy b = record {
 }
 
 -- the design part of the first model is the first valid design
-pub first_valid : (s : SpecValue) (genes : List GeneValue) (order : List Literal) (values design : List Bool) → IsWellFormed s → length genes ≡ design_variables s → IsOrderOf genes (all_variables s) order → IsFirst (encoding s) order values → IsPartOf s values design → IsFirstDesign s genes design
+pub first_valid : (s : SpecValue) (genes : List GeneValue) (order : List Literal) (values design : List Bool) → IsWellFormed s → length genes ≡ design_variables s
+    → IsOrderOf genes (all_variables s) order → IsFirst (encoding s) order values → IsPartOf s values design → IsFirstDesign s genes design
 first_valid s genes order values design wf few o first part = record {
   one_each = part.one_each;
   first = record {
@@ -62,7 +63,8 @@ false_there false true n = refl
 false_there false false n = absurd (n refl)
 
 -- a variable with a gene has its place among the first
-own_place : (genes : List GeneValue) (variables : ℕ) (order : List Literal) (i v : ℕ) → IsOrderOf genes variables order → i < length order → ((d : Literal) → (get_or order i d).var ≡ v) → v < length genes → i < length genes
+own_place : (genes : List GeneValue) (variables : ℕ) (order : List Literal) (i v : ℕ) → IsOrderOf genes variables order → i < length order → ((d : Literal) → (get_or order i d).var ≡ v)
+    → v < length genes → i < length genes
 own_place genes variables order i v o within is lt =
     elim (cases_lt i (length genes)) [
       | inl low ↦ low
@@ -74,11 +76,12 @@ own_place genes variables order i v o within is lt =
     ]
 
 -- what is shown of the model is shown of its design part
-pub shows_design : (s : SpecValue) (genes : List GeneValue) (order : List Literal) (values design : List Bool) (cs : List Linear) → length genes ≡ design_variables s → IsOrderOf genes (all_variables s) order → IsPartOf s values design → ShowsFirst cs order (bits_of values) → ShowsFirstDesign cs genes (bits_of design)
+pub shows_design : (s : SpecValue) (genes : List GeneValue) (order : List Literal) (values design : List Bool) (cs : List Linear) → length genes ≡ design_variables s
+    → IsOrderOf genes (all_variables s) order → IsPartOf s values design → ShowsFirst cs order (bits_of values) → ShowsFirstDesign cs genes (bits_of design)
 shows_design s genes order values design cs few o part shows v lt other p closed before =
     let d : Literal = record { var = 0; yes = false } in
     let at : (w : ℕ) → w < length genes → bits_of values w ≡ bits_of design w = λ w l. part_reads s values design w part (omega (arith, l, few)) in
-    let place = order-covers order (all_variables s) o.each_once o.len v (omega (arith, lt, few, design_variables-le s)) in
+    let place = order_covers order (all_variables s) o.each_once o.len v (omega (arith, lt, few, design_variables-le s)) in
     let i : ℕ = place.0 in
     let own : i < length genes = own_place genes (all_variables s) order i v o place.1 place.2 lt in
     let l : Literal = get_or order i d in

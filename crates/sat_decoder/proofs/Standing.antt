@@ -1,5 +1,5 @@
 -- What the solver's answer says, said of the decoder's answer that stands for it.
-use Rattle.std.proofs.Common.{◌≡◌, ℕ, ◌+◌, ◌<◌, ◌^◌, Bool, true, false, Some, List, [], ◌∷◌, ◌++◌, length, refl, sym, ap, ◌∙◌, subst, arith}
+use Rattle.std.proofs.Common.{◌≡◌, ℕ, ◌+◌, ◌<◌, ◌^◌, Bool, true, false, Some, List, [], ◌++◌, length, refl, sym, ap, ◌∙◌, subst, arith}
 use Rattle.std.specs.Prelude.{All}
 use Rattle.std.proofs.lemmas.List.Elements.{All-append}
 use Rattle.pb_rules.specs.Literal.{Literal}
@@ -16,7 +16,8 @@ use Rattle.ordered_solver.specs.declared.answer.Answer.{Answer}
 use Rattle.ordered_solver.specs.declared.answer.Answer.TheVariants as answers
 use Rattle.ordered_solver.specs.Answers.{IsFirst, AnswerSays, AnswersInFrames, CountSays, GoesOnDerived, LinesSay, new_lines}
 use Rattle.ordered_solver.specs.Solver.{SolverValue, Agrees, constraints_of, numbered}
-use Rattle.ordered_solver.proofs.Agreeing.{agrees-new}
+use Rattle.ordered_solver.proofs.Agreeing.{agrees_new}
+use Rattle.ordered_solver.proofs.Numbered.{numbered_back}
 use Rattle.sat_decoder.specs.declared.decoded.Decoded.{Decoded}
 use Rattle.sat_decoder.specs.declared.decoded.Decoded.TheVariants.{First, Nothing, Budget}
 use Rattle.sat_decoder.specs.Decoder.{IsFrameOf, IsLogOf, IsSolverOf}
@@ -24,24 +25,21 @@ use Rattle.sat_decoder.specs.Decoding.{DecodedSays, LineCountSays, NewLinesSay, 
 use Rattle.sat_decoder.specs.Models.{MayHaveModel, StandsFor}
 use Rattle.sat_decoder.proofs.Firsts.{first_valid, no_valid, shows_design}
 
--- constraints that were numbered, without their numbers
-numbered_back : (id : ℕ) (cs : List Linear) → constraints_of (numbered id cs) ≡ cs
-numbered_back id [] = refl
-numbered_back id (c ∷ cs) = ap (λ (ds : List Linear). c ∷ ds) (numbered_back (id + 1) cs)
-
 -- the given constraints of a solver of a specification
 encoding_given : (s : SpecValue) (solver : SolverValue) → IsSolverOf s solver → constraints_of solver.given ≡ encoding s
 encoding_given s solver h = ap constraints_of h.given_are ∙ numbered_back 1 (encoding s)
 
 -- a solver's model is one of the encoding
-pub may_have_model : (s : SpecValue) (solver : SolverValue) (order : List Literal) (answer : Answer) → IsSolverOf s solver → length order ≡ all_variables s → AnswerSays (constraints_of solver.given) order answer → MayHaveModel s answer
+pub may_have_model : (s : SpecValue) (solver : SolverValue) (order : List Literal) (answer : Answer) → IsSolverOf s solver → length order ≡ all_variables s
+    → AnswerSays (constraints_of solver.given) order answer → MayHaveModel s answer
 may_have_model s solver order (answers.Model values) tie len h =
     let k : IsFirst (encoding s) order values.items = subst (λ (cs : List Linear). IsFirst cs order values.items) (encoding_given s solver tie) h in
     record { one_each = k.one_each ∙ len; model = k.first.model }
 may_have_model s solver order answers.Nothing tie len h = tt
 may_have_model s solver order answers.Budget tie len h = tt
 
-says_of : (s : SpecValue) (genes : List GeneValue) (order : List Literal) (answer : Answer) (decoded : Decoded) → IsWellFormed s → length genes ≡ design_variables s → IsOrderOf genes (all_variables s) order → AnswerSays (encoding s) order answer → StandsFor s answer decoded → DecodedSays s genes decoded
+says_of : (s : SpecValue) (genes : List GeneValue) (order : List Literal) (answer : Answer) (decoded : Decoded) → IsWellFormed s → length genes ≡ design_variables s
+    → IsOrderOf genes (all_variables s) order → AnswerSays (encoding s) order answer → StandsFor s answer decoded → DecodedSays s genes decoded
 says_of s genes order (answers.Model values) (First design) wf few o h x = first_valid s genes order values.items design wf few o h x
 says_of s genes order (answers.Model values) Nothing wf few o h x = absurd x
 says_of s genes order (answers.Model values) Budget wf few o h x = absurd x
@@ -53,7 +51,8 @@ says_of s genes order answers.Budget Nothing wf few o h x = absurd x
 says_of s genes order answers.Budget Budget wf few o h x = tt
 
 -- what is said of the designs
-pub says : (s : SpecValue) (genes : List GeneValue) (solver : SolverValue) (order : List Literal) (answer : Answer) (decoded : Decoded) → IsSolverOf s solver → IsWellFormed s → length genes ≡ design_variables s → IsOrderOf genes (all_variables s) order → AnswerSays (constraints_of solver.given) order answer → StandsFor s answer decoded → DecodedSays s genes decoded
+pub says : (s : SpecValue) (genes : List GeneValue) (solver : SolverValue) (order : List Literal) (answer : Answer) (decoded : Decoded) → IsSolverOf s solver → IsWellFormed s
+    → length genes ≡ design_variables s → IsOrderOf genes (all_variables s) order → AnswerSays (constraints_of solver.given) order answer → StandsFor s answer decoded → DecodedSays s genes decoded
 says s genes solver order answer decoded tie wf few o h x =
     says_of s genes order answer decoded wf few o (subst (λ (cs : List Linear). AnswerSays cs order answer) (encoding_given s solver tie) h) x
 
@@ -69,12 +68,16 @@ counts_of s budget n answers.Budget Nothing h x = absurd x
 counts_of s budget n answers.Budget Budget h x = h
 
 -- what is said of how many lines there are
-pub counts : (s : SpecValue) (solver : SolverValue) (budget n : ℕ) (answer : Answer) (decoded : Decoded) → IsSolverOf s solver → CountSays solver.variables budget n answer → StandsFor s answer decoded → LineCountSays s budget n decoded
+pub counts : (s : SpecValue) (solver : SolverValue) (budget n : ℕ) (answer : Answer) (decoded : Decoded) → IsSolverOf s solver → CountSays solver.variables budget n answer
+    → StandsFor s answer decoded → LineCountSays s budget n decoded
 counts s solver budget n answer decoded tie h x =
     counts_of s budget n answer decoded (subst (λ (k : ℕ). CountSays k budget n answer) tie.variables_are h) x
 
-lines_of : (f : Frame) (before : Given) (s : SpecValue) (genes : List GeneValue) (order : List Literal) (ls whole : List Line) (answer : Answer) (decoded : Decoded) → length genes ≡ design_variables s → IsOrderOf genes (all_variables s) order → LinesSay f before (encoding s) order ls whole answer → StandsFor s answer decoded → NewLinesSay f before s genes ls whole decoded
-lines_of f before s genes order ls whole (answers.Model values) (First design) few o h x = record { honest = h.honest; shows = shows_design s genes order values.items design (encoding s ++ derived_by f whole) few o x h.shows }
+lines_of : (f : Frame) (before : Given) (s : SpecValue) (genes : List GeneValue) (order : List Literal) (ls whole : List Line) (answer : Answer) (decoded : Decoded)
+    → length genes ≡ design_variables s → IsOrderOf genes (all_variables s) order → LinesSay f before (encoding s) order ls whole answer → StandsFor s answer decoded
+    → NewLinesSay f before s genes ls whole decoded
+lines_of f before s genes order ls whole (answers.Model values) (First design) few o h x =
+    record { honest = h.honest; shows = shows_design s genes order values.items design (encoding s ++ derived_by f whole) few o x h.shows }
 lines_of f before s genes order ls whole (answers.Model values) Nothing few o h x = absurd x
 lines_of f before s genes order ls whole (answers.Model values) Budget few o h x = absurd x
 lines_of f before s genes order ls whole answers.Nothing (First design) few o h x = absurd x
@@ -85,7 +88,8 @@ lines_of f before s genes order ls whole answers.Budget Nothing few o h x = absu
 lines_of f before s genes order ls whole answers.Budget Budget few o h x = h
 
 -- what is said of the lines
-pub shown : (s : SpecValue) (genes : List GeneValue) (old new : SolverValue) (order : List Literal) (answer : Answer) (decoded : Decoded) → IsSolverOf s old → length genes ≡ design_variables s → IsOrderOf genes (all_variables s) order → AnswersInFrames old new order answer → StandsFor s answer decoded → IsShown s genes old.log new.log decoded
+pub shown : (s : SpecValue) (genes : List GeneValue) (old new : SolverValue) (order : List Literal) (answer : Answer) (decoded : Decoded) → IsSolverOf s old → length genes ≡ design_variables s
+    → IsOrderOf genes (all_variables s) order → AnswersInFrames old new order answer → StandsFor s answer decoded → IsShown s genes old.log new.log decoded
 shown s genes old new order answer decoded tie few o h x f frame =
     let a = h f (tie.agrees f frame) in
     let ls : List Line = new_lines old.log new.log in
@@ -102,7 +106,8 @@ abbrev IsDerived : Line → Type 0
 IsDerived l = is_derived l ≡ true
 
 -- a log of the specification goes on by legal derived lines
-log_later : (s : SpecValue) (old new : SolverValue) (order : List Literal) (answer : Answer) → IsSolverOf s old → GoesOnDerived old.log new.log → AnswersInFrames old new order answer → IsLogOf s new.log
+log_later : (s : SpecValue) (old new : SolverValue) (order : List Literal) (answer : Answer) → IsSolverOf s old → GoesOnDerived old.log new.log → AnswersInFrames old new order answer
+    → IsLogOf s new.log
 log_later s old new order answer tie goes h = record {
   first_after = ap (λ (v : LogValue). v.first) goes.kept ∙ tie.log_of.first_after;
   derived_each = subst (All IsDerived) (sym (ap (λ (v : LogValue). v.lines) goes.kept)) (All-append IsDerived old.log.lines (new_lines old.log new.log) tie.log_of.derived_each goes.derived_each);
@@ -110,7 +115,8 @@ log_later s old new order answer tie goes h = record {
 }
 
 -- a solver of the specification stays one
-pub solver_later : (s : SpecValue) (old new : SolverValue) (order : List Literal) (answer : Answer) → IsSolverOf s old → new ≡ record old { kept = new.kept; log = new.log } → GoesOnDerived old.log new.log → AnswersInFrames old new order answer → IsSolverOf s new
+pub solver_later : (s : SpecValue) (old new : SolverValue) (order : List Literal) (answer : Answer) → IsSolverOf s old → new ≡ record old { kept = new.kept; log = new.log }
+    → GoesOnDerived old.log new.log → AnswersInFrames old new order answer → IsSolverOf s new
 solver_later s old new order answer tie same goes h = record {
   variables_are = ap (λ (v : SolverValue). v.variables) same ∙ tie.variables_are;
   given_are = ap (λ (v : SolverValue). v.given) same ∙ tie.given_are;
@@ -126,7 +132,7 @@ solver_over variables cs = record { variables = variables; given = numbered 1 cs
 agrees_first : (s : SpecValue) (f : Frame) → IsFrameOf s f → length (encoding s) + 1 < 2 ^ 62 → Agrees f (solver_over (all_variables s) (encoding s))
 agrees_first s f h few =
     let short : length f.base + 1 < 2 ^ 62 = subst (λ (cs : List Linear). length cs + 1 < 2 ^ 62) (sym h.base_is) few in
-    subst (λ (cs : List Linear). Agrees f (solver_over (all_variables s) cs)) h.base_is (agrees-new f (all_variables s) false h.frame short)
+    subst (λ (cs : List Linear). Agrees f (solver_over (all_variables s) cs)) h.base_is (agrees_new f (all_variables s) false h.frame short)
 
 solver_first : (s : SpecValue) → length (encoding s) + 1 < 2 ^ 62 → IsSolverOf s (solver_over (all_variables s) (encoding s))
 solver_first s few = record {
@@ -142,7 +148,8 @@ solver_first s few = record {
 }
 
 -- a solver that was made of the encoding is a solver of the specification
-pub solver_new : (s : SpecValue) (set : SetValue) (solver : SolverValue) → set.variables ≡ all_variables s → set.constraints ≡ encoding s → length set.constraints + 1 < 2 ^ 62 → solver ≡ record { variables = set.variables; given = numbered 1 set.constraints; kept = []; log = record { first = length set.constraints + 1; lines = [] }; spent = false } → IsSolverOf s solver
+pub solver_new : (s : SpecValue) (set : SetValue) (solver : SolverValue) → set.variables ≡ all_variables s → set.constraints ≡ encoding s → length set.constraints + 1 < 2 ^ 62
+    → solver ≡ record { variables = set.variables; given = numbered 1 set.constraints; kept = []; log = record { first = length set.constraints + 1; lines = [] }; spent = false } → IsSolverOf s solver
 solver_new s set solver ev ec few e =
     let is : solver ≡ solver_over (all_variables s) (encoding s) = e ∙ (ap (λ (n : ℕ). solver_over n set.constraints) ev ∙ ap (solver_over (all_variables s)) ec) in
     subst (IsSolverOf s) (sym is) (solver_first s (subst (λ (cs : List Linear). length cs + 1 < 2 ^ 62) ec few))

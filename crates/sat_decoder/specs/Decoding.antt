@@ -29,9 +29,11 @@ LineCountSays s budget n (First design) = (n < budget) × (n < 2 ^ all_variables
 LineCountSays s budget n Nothing = (1 ≤ n) × ((n ≤ budget) × (n ≤ 2 ^ all_variables s))
 LineCountSays s budget n Budget = (n ≡ budget) × (n < 2 ^ all_variables s)
 
--- constraints show a design to be the first: where a variable hasn't its gene's phase, each closed partial assignment that agrees with the design at the variables before it takes the design's value there too
+-- constraints show a design to be the first: where a variable hasn't its gene's phase,
+-- each closed partial assignment that agrees with the design at the variables before it takes the design's value there too
 abbrev pub ShowsFirstDesign : List Linear → List GeneValue → Bits → Type 0
-ShowsFirstDesign cs genes x = (v : ℕ) → v < length genes → x v ≢ (gene_at genes v).phase → (p : ℕ → Option Bool) → IsClosedFor cs p → ((w : ℕ) → w < length genes → StandsBefore genes w v → p w ≡ Some (x w)) → p v ≡ Some (x v)
+ShowsFirstDesign cs genes x =
+    (v : ℕ) → v < length genes → x v ≢ (gene_at genes v).phase → (p : ℕ → Option Bool) → IsClosedFor cs p → ((w : ℕ) → w < length genes → StandsBefore genes w v → p w ≡ Some (x w)) → p v ≡ Some (x v)
 
 -- honest lines, after which the encoding and all derived lines show that the design is the first one
 pub record ShowsDesign (f : Frame) (before : Given) (s : SpecValue) (genes : List GeneValue) (design : List Bool) (ls whole : List Line) : Type 0 where

@@ -13,7 +13,7 @@ ghost use Rattle.sat_decoder.specs.Decoder.{IsLogOf, IsSolverOf};
 ghost use Rattle.sat_decoder.specs.Decoding.{DecodedSays, LineCountSays, IsShown};
 
 use crate::decoded::{Decoded, decoded_from};
-use genotype::{Genotype, Order};
+use genotype::Genotype;
 use ordered_solver::Solver;
 use proof_log::Log;
 use route_encode::encode;
@@ -58,7 +58,7 @@ fn decode_by(
     ensures solver_of { OnOk result (IsSolverOf spec.now solver.new) }
 {
     spec.facts();
-    let order = Order::of(alloc, g, spec.all_variables())?;
+    let order = g.order_of(alloc, spec.all_variables())?;
     let answer = solver.solve(alloc, &order, budget)?;
     let decoded = decoded_from(alloc, spec, answer)?;
     Ok(decoded)

@@ -2,18 +2,19 @@
 
 ghost use Rattle.std.specs.Prelude.{◌≡◌, ◌<◌, IfOk, length};
 
-use genotype::{Genotype, Order};
+use genotype::Genotype;
 use ordered_solver::{Answer, Solver};
 use pb_constraints::{Constraint, Lit, NormalFault, Part, Set, normalise};
 use std::alloc::{AllocError, Global};
 use std::test::Fail;
+use variable_order::Order;
 
 /// The natural order: by number, false first.
 fn natural(alloc: Global, variables: u64) -> Result<Order, AllocError>
     ensures { IfOk result (λ o. length o ≡ variables) }
 {
     let genotype = Genotype::natural(alloc, 0)?;
-    Order::of(alloc, &genotype, variables)
+    genotype.order_of(alloc, variables)
 }
 
 /// A clause of two literals.

@@ -1,19 +1,17 @@
 -- A plan with an objective, a link or a message more is a plan.
-use Rattle.std.proofs.Common.{◌≡◌, ℕ, ◌-◌, ◌<◌, ◌≤◌, ◌^◌, Bool, true, false, List, [], ◌∷◌, ◌++◌, length, get_or, map, refl, sym, ap, ◌∙◌, subst, arith, All, Contains, ◌⊎◌, inl, inr, length-append}
+use Rattle.std.proofs.Common.{◌≡◌, ℕ, ◌-◌, ◌<◌, ◌≤◌, ◌^◌, Bool, true, false, List, [], ◌∷◌, ◌++◌, length, get_or, refl, sym, ap, ◌∙◌, subst, arith, All, Contains, ◌⊎◌, inl, inr, length-append}
 use Rattle.std.proofs.lemmas.List.{get_or_append_left, get_or-append_right, get_or_default}
 use Rattle.std.proofs.lemmas.List.Elements.{All-push, All-append, All-cons, All-nil}
 use Rattle.std.proofs.lemmas.Bool.{cases_lt}
 use Rattle.spec_model.specs.Spec.{Name, SpecValue, Message, Arc}
 use Rattle.spec_model.specs.WellFormed.{AreDistinct, IsArcIn, AreRows, Leads, IsPlan, IsMessageIn}
 use Rattle.spec_model.proofs.Chains.{still_none}
+use Rattle.spec_model.proofs.Distinct.{distinct_push}
 use Rattle.spec_graph.specs.Plan.{arcs_of_link, with_link, with_message}
 use Rattle.task_order.specs.Order.{IsOrderOf, IsLed, comes_after, is_joined}
 use Rattle.task_order.proofs.Orders.{order_more}
-use Rattle.spec_graph.specs.Lists.{message_of, arc_value}
-use Rattle.spec_graph.specs.declared.numbers.Arc.{Arc as HeldArc}
-use Rattle.spec_graph.specs.declared.numbers.TaskNo.{TaskNo}
 use Rattle.spec_graph.specs.Refusals.{IsBig, HasBig, HasTwice, HasBigMessage}
-use Rattle.spec_graph.proofs.Growing.{apart_push, distinct_push, Grows, arcs_grow, options_grow, messages_grow, deadlines_grow, rows_push}
+use Rattle.spec_graph.proofs.Growing.{apart_push, Grows, arcs_grow, options_grow, messages_grow, deadlines_grow, rows_push}
 
 -- ---- objectives
 
@@ -21,7 +19,8 @@ use Rattle.spec_graph.proofs.Growing.{apart_push, distinct_push, Grows, arcs_gro
 rows_none : (k n m : ℕ) (rows : List (List ℕ)) → AreRows k n rows → n ≡ 0 → AreRows m n rows
 rows_none k n m rows h e = record { one_each = h.one_each; each = λ i d l. absurd (omega (arith, l, h.one_each, e)) }
 
-pub plan_objective : (s : SpecValue) (name : Name) → IsPlan s → ¬ Contains s.objectives name → length s.resources ≡ 0 → length s.links ≡ 0 → length s.options ≡ 0 → length s.objectives < 8 → IsPlan (record s { objectives = s.objectives ++ name ∷ [] })
+pub plan_objective : (s : SpecValue) (name : Name) → IsPlan s → ¬ Contains s.objectives name → length s.resources ≡ 0 → length s.links ≡ 0 → length s.options ≡ 0 → length s.objectives < 8
+    → IsPlan (record s { objectives = s.objectives ++ name ∷ [] })
 plan_objective s name p new er el eo room =
     let t : SpecValue = record s { objectives = s.objectives ++ name ∷ [] } in
     let k = length s.objectives in
@@ -84,7 +83,8 @@ both_ways s l a b p e ne = apart_push Clash (s.arcs ++ forth l a b ∷ []) (fort
             absurd (omega (arith, link, (p.arcs_in i d y).link, e))
         go (inr y) =
             let place : i - length s.arcs ≡ 0 = omega (arith, y, lt, length-append s.arcs (forth l a b ∷ [])) in
-            let same : get_or (s.arcs ++ forth l a b ∷ []) i d ≡ forth l a b = get_or-append_right s.arcs (forth l a b ∷ []) (length s.arcs) i d refl y ∙ ap (λ (k : ℕ). get_or (forth l a b ∷ []) k d) place in
+            let same : get_or (s.arcs ++ forth l a b ∷ []) i d ≡ forth l a b = get_or-append_right s.arcs (forth l a b ∷ []) (length s.arcs) i d refl y
+            ∙ ap (λ (k : ℕ). get_or (forth l a b ∷ []) k d) place in
             ne (ap (λ (z : Arc). z.tail) (sym same) ∙ x.1)
 
 -- the arcs of a link, one way or two
@@ -101,10 +101,13 @@ few_new l a b true = omega arith
 few_new l a b false = omega arith
 
 new_in : (t : SpecValue) (l a b : ℕ) (two_way : Bool) → l < length t.links → a < length t.resources → b < length t.resources → ¬ (a ≡ b) → All (IsArcIn t) (arcs_of_link l a b two_way)
-new_in t l a b true hl ha hb ne = All-cons (IsArcIn t) (forth l a b) (forth l b a ∷ []) (record { link = hl; tail = ha; head = hb; apart = ne }) (All-cons (IsArcIn t) (forth l b a) [] (record { link = hl; tail = hb; head = ha; apart = λ e. ne (sym e) }) (All-nil (IsArcIn t)))
+new_in t l a b true hl ha hb ne = All-cons (IsArcIn t) (forth l a b) (forth l b a ∷ []) (record { link = hl; tail = ha; head = hb; apart = ne })
+    (All-cons (IsArcIn t) (forth l b a) [] (record { link = hl; tail = hb; head = ha; apart = λ e. ne (sym e) }) (All-nil (IsArcIn t)))
 new_in t l a b false hl ha hb ne = All-cons (IsArcIn t) (forth l a b) [] (record { link = hl; tail = ha; head = hb; apart = ne }) (All-nil (IsArcIn t))
 
-pub plan_link : (s : SpecValue) (name : Name) (a b : ℕ) (two_way : Bool) (weights traffic : List ℕ) → IsPlan s → ¬ Contains s.links name → a < length s.resources → b < length s.resources → ¬ (a ≡ b) → length weights ≡ length s.objectives → ¬ HasBig weights → length traffic ≡ length s.objectives → ¬ HasBig traffic → length s.links < 1024 → IsPlan (with_link s name a b two_way weights traffic)
+pub plan_link : (s : SpecValue) (name : Name) (a b : ℕ) (two_way : Bool) (weights traffic : List ℕ) → IsPlan s → ¬ Contains s.links name → a < length s.resources → b < length s.resources
+    → ¬ (a ≡ b) → length weights ≡ length s.objectives → ¬ HasBig weights → length traffic ≡ length s.objectives → ¬ HasBig traffic → length s.links < 1024
+    → IsPlan (with_link s name a b two_way weights traffic)
 plan_link s name a b two_way weights traffic p new ha hb ne one small one' small' room =
     let t : SpecValue = with_link s name a b two_way weights traffic in
     let long = length-append s.links (name ∷ []) in
@@ -149,7 +152,8 @@ distinct_from xs none i j d l h e = none (record {
   same = get_or_default xs i 0 d (omega (arith, l, h)) ∙ (e ∙ get_or_default xs j d 0 h);
 })
 
-pub plan_message : (s : SpecValue) (name : Name) (m : Message) → IsPlan s → ¬ Contains s.message_names name → m.sender < length s.tasks → All (λ w. w < length s.tasks) m.receivers → 0 < length m.receivers → ¬ HasTwice m.receivers → ¬ HasBigMessage m → ¬ Leads s.messages m.receivers m.sender → length s.messages < 2048 → IsPlan (with_message s name m)
+pub plan_message : (s : SpecValue) (name : Name) (m : Message) → IsPlan s → ¬ Contains s.message_names name → m.sender < length s.tasks → All (λ w. w < length s.tasks) m.receivers
+    → 0 < length m.receivers → ¬ HasTwice m.receivers → ¬ HasBigMessage m → ¬ Leads s.messages m.receivers m.sender → length s.messages < 2048 → IsPlan (with_message s name m)
 plan_message s name m p new sender receivers some once small free room =
     let t : SpecValue = with_message s name m in
     let long = length-append s.messages (m ∷ []) in
@@ -192,12 +196,6 @@ plan_message s name m p new sender receivers some once small free room =
     no_more n small' (inl b) = absurd (small' b)
     no_more n small' (inr b) = b
 
--- the messages with one more, whose receivers are a copy
-pub added_message : (old kept new : List Message) (sender : TaskNo) (receivers copy : List TaskNo) (hops delay quantity : ℕ) → kept ≡ old → copy ≡ receivers → new ≡ kept ++ message_of sender copy hops delay quantity ∷ [] → new ≡ old ++ message_of sender receivers hops delay quantity ∷ []
-added_message old kept new sender receivers copy hops delay quantity e ec en = rw (en, e, ec)
-
-pub order_of_added : (rows next : List (List Bool)) (after : List Bool) (ms new : List Message) (m : Message) → IsOrderOf rows ms → IsLed after ms m.receivers → ((a b : ℕ) → comes_after next a b ≡ is_joined rows m.sender after a b) → new ≡ ms ++ m ∷ [] → IsOrderOf next new
+pub order_of_added : (rows next : List (List Bool)) (after : List Bool) (ms new : List Message) (m : Message) → IsOrderOf rows ms → IsLed after ms m.receivers
+    → ((a b : ℕ) → comes_after next a b ≡ is_joined rows m.sender after a b) → new ≡ ms ++ m ∷ [] → IsOrderOf next new
 order_of_added rows next after ms new m o led joined e = subst (IsOrderOf next) (sym e) (order_more rows next after ms m o led joined)
-
-pub added_arcs : (old kept : List HeldArc) (new : List Arc) (n l a b : ℕ) (two_way : Bool) → kept ≡ old → n ≡ l → new ≡ map arc_value kept ++ arcs_of_link n a b two_way → new ≡ map arc_value old ++ arcs_of_link l a b two_way
-added_arcs old kept new n l a b two_way e el en = rw (en, e, el)

@@ -16,7 +16,9 @@ use Rattle.spec_graph.specs.declared.messages.Change.TheVariants.{Hops, AtMost, 
 use Rattle.spec_graph.proofs.Growing.{Grows, arcs_grow, options_grow, messages_grow, deadlines_grow}
 
 -- a plan with other messages, and as many names
-pub plan_messages : (s : SpecValue) (names : List (List ℕ)) (ms : List Message) → IsPlan s → length ms ≤ 2048 → length names ≡ length ms → ((i j : ℕ) (d : List ℕ) → i < j → j < length names → get_or names i d ≡ get_or names j d → ⊥) → All (IsMessageIn s) ms → ¬ HasCycle ms → IsPlan (record s { message_names = names; messages = ms })
+pub plan_messages : (s : SpecValue) (names : List (List ℕ)) (ms : List Message) → IsPlan s → length ms ≤ 2048 → length names ≡ length ms
+    → ((i j : ℕ) (d : List ℕ) → i < j → j < length names → get_or names i d ≡ get_or names j d → ⊥) → All (IsMessageIn s) ms → ¬ HasCycle ms
+    → IsPlan (record s { message_names = names; messages = ms })
 plan_messages s names ms p few named distinct inside none =
     let t : SpecValue = record s { message_names = names; messages = ms } in
     let g : Grows s t = record { tasks = omega arith; resources = omega arith; links = omega arith } in
@@ -129,7 +131,8 @@ changed_ways ms m change lm = record {
         go (inl y) = away (λ e. absurd (omega (arith, y, e)))
         go (inr y) = not_less (cases_lt m i) y
 
-pub plan_one_changed : (s : SpecValue) (change : Change) (m : ℕ) (ms : List Message) → ms ≡ with_changed s.messages m change → m < length s.messages → IsSmallChange change → IsPlan s → IsPlan (record s { messages = ms })
+pub plan_one_changed : (s : SpecValue) (change : Change) (m : ℕ) (ms : List Message) → ms ≡ with_changed s.messages m change → m < length s.messages → IsSmallChange change → IsPlan s
+    → IsPlan (record s { messages = ms })
 plan_one_changed s change m ms e lm small p =
     subst (λ (ks : List Message). IsPlan (record s { messages = ks })) (sym e)
     (plan_messages s s.message_names (with_changed s.messages m change) p (omega (arith, p.few_messages, ways.long)) (p.named ∙ sym ways.long) p.messages_distinct
@@ -142,8 +145,10 @@ plan_one_changed s change m ms e lm small p =
 pub order_one_changed : (rows : List (List Bool)) (change : Change) (m : ℕ) (old ms : List Message) → ms ≡ with_changed old m change → m < length old → IsOrderOf rows old → IsOrderOf rows ms
 order_one_changed rows change m old ms e lm o =
     let ways = changed_ways old m change lm in
-    subst (IsOrderOf rows) (sym e) (order_within rows old (with_changed old m change) (sends_same old (with_changed old m change) (same_back (with_changed old m change) old ways)) (sends_same (with_changed old m change) old ways) o)
+    subst (IsOrderOf rows) (sym e) (order_within rows old (with_changed old m change) (sends_same old (with_changed old m change) (same_back (with_changed old m change) old ways))
+    (sends_same (with_changed old m change) old ways) o)
 
 -- the change of the message that is read at its place
-pub changed_at : (ms : List Message) (m : ℕ) (change : Change) (before after : Message) → m < length ms → before ≡ get_or ms m before → after ≡ changed change before → set ms m after ≡ with_changed ms m change
+pub changed_at : (ms : List Message) (m : ℕ) (change : Change) (before after : Message) → m < length ms → before ≡ get_or ms m before → after ≡ changed change before
+    → set ms m after ≡ with_changed ms m change
 changed_at ms m change before after l eb ea = ap (set ms m) (ea ∙ ap (changed change) (eb ∙ get_or_default ms m before _ l))

@@ -4,7 +4,8 @@ use Rattle.std.proofs.lemmas.List.{get_or_append_left, get_or-append_right, get_
 use Rattle.std.proofs.lemmas.List.Elements.{All-push, All-weaker}
 use Rattle.std.proofs.lemmas.Bool.{cases_lt}
 use Rattle.spec_model.specs.Spec.{Name, SpecValue, Message, Arc, Choice, Deadline}
-use Rattle.spec_model.specs.WellFormed.{AreDistinct, IsArcIn, IsOptionIn, IsDeadlineIn, IsRow, AreRows, IsPlan, IsMessageIn}
+use Rattle.spec_model.specs.WellFormed.{IsArcIn, IsOptionIn, IsDeadlineIn, IsRow, AreRows, IsPlan, IsMessageIn}
+use Rattle.spec_model.proofs.Distinct.{distinct_push}
 use Rattle.spec_graph.specs.Refusals.{HasBig, IsMapped}
 
 -- what stands at the end of a list with one element more
@@ -30,9 +31,6 @@ apart_push {A = A} R xs x old new i j d l h r = go (cases_lt j (length xs))
         let ei = get_or_append_left xs (x ∷ []) d i li in
         new i d li (subst (λ (y : A). R (get_or xs i d) y) (at_end xs x j d lj h) (subst (λ (y : A). R y (get_or (xs ++ x ∷ []) j d)) ei r))
 
-pub distinct_push : {A : Type 0} (xs : List A) (x : A) → AreDistinct xs → ¬ Contains xs x → AreDistinct (xs ++ x ∷ [])
-distinct_push {A = A} xs x old new = apart_push (λ (a b : A). a ≡ b) xs x old (λ i d l e. new (i, l, get_or_default xs i x d l ∙ e))
-
 -- the same counts or more
 pub record Grows (s t : SpecValue) : Type 0 where
   pub tasks : length s.tasks ≤ length t.tasks
@@ -40,7 +38,14 @@ pub record Grows (s t : SpecValue) : Type 0 where
   pub links : length s.links ≤ length t.links
 
 pub arcs_grow : (s t : SpecValue) (xs : List Arc) → Grows s t → All (IsArcIn s) xs → All (IsArcIn t) xs
-arcs_grow s t xs g = All-weaker (IsArcIn s) (IsArcIn t) (λ a h. record { link = omega (arith, h.link, g.links); tail = omega (arith, h.tail, g.resources); head = omega (arith, h.head, g.resources); apart = h.apart }) xs
+arcs_grow s t xs g =
+    All-weaker (IsArcIn s) (IsArcIn t) (λ a h. record {
+      link = omega (arith, h.link, g.links);
+      tail = omega (arith, h.tail, g.resources);
+      head = omega (arith, h.head, g.resources);
+      apart =
+          h.apart;
+    }) xs
 
 pub options_grow : (s t : SpecValue) (xs : List Choice) → Grows s t → All (IsOptionIn s) xs → All (IsOptionIn t) xs
 options_grow s t xs g = All-weaker (IsOptionIn s) (IsOptionIn t) (λ o h. record { task = omega (arith, h.task, g.tasks); resource = omega (arith, h.resource, g.resources); time = h.time }) xs
@@ -105,7 +110,8 @@ plan_task s name p new room =
       no_cycle = p.no_cycle;
     }
 
-pub plan_resource : (s : SpecValue) (name : Name) (weights : List ℕ) → IsPlan s → ¬ Contains s.resources name → length weights ≡ length s.objectives → ¬ HasBig weights → length s.resources < 256 → IsPlan (record s { resources = s.resources ++ name ∷ []; resource_weights = s.resource_weights ++ weights ∷ [] })
+pub plan_resource : (s : SpecValue) (name : Name) (weights : List ℕ) → IsPlan s → ¬ Contains s.resources name → length weights ≡ length s.objectives → ¬ HasBig weights → length s.resources < 256
+    → IsPlan (record s { resources = s.resources ++ name ∷ []; resource_weights = s.resource_weights ++ weights ∷ [] })
 plan_resource s name weights p new one small room =
     let t : SpecValue = record s { resources = s.resources ++ name ∷ []; resource_weights = s.resource_weights ++ weights ∷ [] } in
     let long = length-append s.resources (name ∷ []) in
@@ -137,7 +143,8 @@ plan_resource s name weights p new one small room =
       no_cycle = p.no_cycle;
     }
 
-pub plan_option : (s : SpecValue) (o : Choice) (weights : List ℕ) → IsPlan s → IsOptionIn s o → ¬ IsMapped s o.task o.resource → length weights ≡ length s.objectives → ¬ HasBig weights → length s.options < 16384 → IsPlan (record s { options = s.options ++ o ∷ []; option_weights = s.option_weights ++ weights ∷ [] })
+pub plan_option : (s : SpecValue) (o : Choice) (weights : List ℕ) → IsPlan s → IsOptionIn s o → ¬ IsMapped s o.task o.resource → length weights ≡ length s.objectives → ¬ HasBig weights
+    → length s.options < 16384 → IsPlan (record s { options = s.options ++ o ∷ []; option_weights = s.option_weights ++ weights ∷ [] })
 plan_option s o weights p inside new one small room =
     let t : SpecValue = record s { options = s.options ++ o ∷ []; option_weights = s.option_weights ++ weights ∷ [] } in
     let long = length-append s.options (o ∷ []) in
@@ -156,7 +163,8 @@ plan_option s o weights p inside new one small room =
       resources_distinct = p.resources_distinct;
       links_distinct = p.links_distinct;
       objectives_distinct = p.objectives_distinct;
-      pairs_distinct = λ i j d l h e f. apart_push (λ (a b : Choice). (a.task ≡ b.task) × (a.resource ≡ b.resource)) s.options o (λ i j d l h x. p.pairs_distinct i j d l h x.0 x.1) (λ i d l x. new (i, get_or s.options i d, l, get_or_default s.options i (get_or s.options i d) d l, x)) i j d l h (e, f);
+      pairs_distinct = λ i j d l h e f. apart_push (λ (a b : Choice). (a.task ≡ b.task) × (a.resource ≡ b.resource)) s.options o (λ i j d l h x. p.pairs_distinct i j d l h x.0 x.1)
+          (λ i d l x. new (i, get_or s.options i d, l, get_or_default s.options i (get_or s.options i d) d l, x)) i j d l h (e, f);
       arcs_distinct = p.arcs_distinct;
       arcs_in = arcs_grow s t s.arcs g p.arcs_in;
       options_in = options_grow s t (s.options ++ o ∷ []) g (All-push (IsOptionIn s) s.options o p.options_in inside);
@@ -170,12 +178,14 @@ plan_option s o weights p inside new one small room =
     }
 
 -- the same, where the lists are known by equations
-pub plan_resource_at : (s : SpecValue) (name : Name) (weights : List ℕ) (names : List Name) (rows : List (List ℕ)) → names ≡ s.resources ++ name ∷ [] → rows ≡ s.resource_weights ++ weights ∷ [] → IsPlan s → ¬ Contains s.resources name → length weights ≡ length s.objectives → ¬ HasBig weights → length s.resources < 256 → IsPlan (record s { resources = names; resource_weights = rows })
+pub plan_resource_at : (s : SpecValue) (name : Name) (weights : List ℕ) (names : List Name) (rows : List (List ℕ)) → names ≡ s.resources ++ name ∷ [] → rows ≡ s.resource_weights ++ weights ∷ []
+    → IsPlan s → ¬ Contains s.resources name → length weights ≡ length s.objectives → ¬ HasBig weights → length s.resources < 256 → IsPlan (record s { resources = names; resource_weights = rows })
 plan_resource_at s name weights names rows en er p new one small room =
     subst (λ (ns : List Name). IsPlan (record s { resources = ns; resource_weights = rows })) (sym en)
     (subst (λ (rs : List (List ℕ)). IsPlan (record s { resources = s.resources ++ name ∷ []; resource_weights = rs })) (sym er) (plan_resource s name weights p new one small room))
 
-pub plan_option_at : (s : SpecValue) (o : Choice) (weights : List ℕ) (os : List Choice) (rows : List (List ℕ)) → os ≡ s.options ++ o ∷ [] → rows ≡ s.option_weights ++ weights ∷ [] → IsPlan s → IsOptionIn s o → ¬ IsMapped s o.task o.resource → length weights ≡ length s.objectives → ¬ HasBig weights → length s.options < 16384 → IsPlan (record s { options = os; option_weights = rows })
+pub plan_option_at : (s : SpecValue) (o : Choice) (weights : List ℕ) (os : List Choice) (rows : List (List ℕ)) → os ≡ s.options ++ o ∷ [] → rows ≡ s.option_weights ++ weights ∷ [] → IsPlan s
+    → IsOptionIn s o → ¬ IsMapped s o.task o.resource → length weights ≡ length s.objectives → ¬ HasBig weights → length s.options < 16384 → IsPlan (record s { options = os; option_weights = rows })
 plan_option_at s o weights os rows eo er p inside new one small room =
     subst (λ (xs : List Choice). IsPlan (record s { options = xs; option_weights = rows })) (sym eo)
     (subst (λ (rs : List (List ℕ)). IsPlan (record s { options = s.options ++ o ∷ []; option_weights = rs })) (sym er) (plan_option s o weights p inside new one small room))

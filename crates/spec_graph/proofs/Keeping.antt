@@ -1,21 +1,21 @@
 -- A loop that moves the messages that pass to the front, and the names that pass.
-use Rattle.std.proofs.Common.{◌≡◌, ℕ, ◌+◌, ◌<◌, ◌≤◌, Bool, true, false, cond, List, [], ◌∷◌, ◌++◌, length, get_or, set, map, take, refl, sym, ap, ◌∙◌, subst, arith, Contains, ◌⊎◌, inl, inr}
+use Rattle.std.proofs.Common.{◌≡◌, ℕ, ◌+◌, ◌<◌, ◌≤◌, Bool, true, false, cond, List, [], ◌∷◌, ◌++◌, length, get_or, set, map, take, sym, ap, ◌∙◌, subst, arith, Contains, ◌⊎◌, inl, inr}
 use Rattle.std.specs.List.{SwappedAt}
 use Rattle.std.proofs.lemmas.Bool.{cases_lt}
 use Rattle.std.proofs.lemmas.List.{get_or-map, length-map, map-append, append-nil, take-set-le, take_more_set, length-set}
 use Rattle.spec_model.specs.Spec.{Message, Name, name_at, those}
 use Rattle.spec_model.specs.WellFormed.{AreDistinct}
-use Rattle.spec_model.proofs.Those.{those-more}
+use Rattle.spec_model.proofs.Those.{those_more}
 use Rattle.spec_model.proofs.Joined.{All-those}
 use Rattle.spec_graph.specs.Lists.{message_in}
 use Rattle.spec_graph.specs.Merged.{is_unlisted, unlisted, messages_at, IsNameOfOther}
 
 -- those below n + 1, where n passes or doesn't
 pub those_yes : (p : ℕ → Bool) (n : ℕ) → p n ≡ true → those p (n + 1) ≡ those p n ++ n ∷ []
-those_yes p n e = those-more p n ∙ ap (λ (b : Bool). those p n ++ cond b (n ∷ []) []) e
+those_yes p n e = those_more p n ∙ ap (λ (b : Bool). those p n ++ cond b (n ∷ []) []) e
 
 pub those_no : (p : ℕ → Bool) (n : ℕ) → p n ≡ false → those p (n + 1) ≡ those p n
-those_no p n e = those-more p n ∙ (ap (λ (b : Bool). those p n ++ cond b (n ∷ []) []) e ∙ append-nil (those p n))
+those_no p n e = those_more p n ∙ (ap (λ (b : Bool). those p n ++ cond b (n ∷ []) []) e ∙ append-nil (those p n))
 
 -- the messages before m that pass stand at the front, and those from m on where they were
 pub record Keeping (p : ℕ → Bool) (old now : List Message) (kept m : ℕ) : Type 0 where
@@ -23,9 +23,6 @@ pub record Keeping (p : ℕ → Bool) (old now : List Message) (kept m : ℕ) : 
   pub few : kept ≤ m
   pub done : take kept now ≡ messages_at old (those p m)
   pub rest : (k : ℕ) (d : Message) → m ≤ k → get_or now k d ≡ get_or old k d
-
-pub keeping_start : (p : ℕ → Bool) (old : List Message) → Keeping p old old 0 0
-keeping_start p old = record { long = refl; few = omega arith; done = refl; rest = λ k d l. refl }
 
 pub keeping_no : (p : ℕ → Bool) (old now : List Message) (kept m : ℕ) → p m ≡ false → Keeping p old now kept m → Keeping p old now kept (m + 1)
 keeping_no p old now kept m e h = record {
@@ -39,7 +36,8 @@ pub keeping_yes : (p : ℕ → Bool) (old now next : List Message) (kept m : ℕ
 keeping_yes p old now next kept m e l s h = record {
   long = ap length now_set ∙ (length-set (set now kept x) m y ∙ (length-set now kept x ∙ h.long));
   few = omega (arith, h.few);
-  done = front ∙ (ap (λ (xs : List Message). xs ++ x ∷ []) h.done ∙ (ap (λ (z : Message). messages_at old (those p m) ++ z ∷ []) moved ∙ (sym (map-append (message_in old) (those p m) (m ∷ [])) ∙ ap (messages_at old) (sym (those_yes p m e)))));
+  done = front ∙ (ap (λ (xs : List Message). xs ++ x ∷ []) h.done ∙ (ap (λ (z : Message). messages_at old (those p m) ++ z ∷ []) moved
+      ∙ (sym (map-append (message_in old) (those p m) (m ∷ [])) ∙ ap (messages_at old) (sym (those_yes p m e)))));
   rest = λ k d lk. s.2 k d (λ t. absurd (omega (arith, t, lk, h.few))) (λ t. absurd (omega (arith, t, lk))) ∙ h.rest k d (omega (arith, lk));
 }
   where
@@ -100,7 +98,8 @@ name_free names name listed free h =
     })
 
 -- the names that pass, with one more, and without
-pub names_yes : (names : List Name) (p : ℕ → Bool) (m : ℕ) (after next : List Name) (x : Name) → p m ≡ true → x ≡ name_at names m → after ≡ map (name_at names) (those p m) → next ≡ after ++ x ∷ [] → next ≡ map (name_at names) (those p (m + 1))
+pub names_yes : (names : List Name) (p : ℕ → Bool) (m : ℕ) (after next : List Name) (x : Name) → p m ≡ true → x ≡ name_at names m → after ≡ map (name_at names) (those p m) → next ≡ after ++ x ∷ []
+    → next ≡ map (name_at names) (those p (m + 1))
 names_yes names p m after next x e ex en h =
     h ∙ (ap (λ (xs : List Name). xs ++ x ∷ []) en
     ∙ (ap (λ (y : Name). map (name_at names) (those p m) ++ y ∷ []) ex

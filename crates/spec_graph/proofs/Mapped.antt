@@ -19,7 +19,8 @@ pub all_of_map : {A B : Type 0} (f : A → B) (P : B → Type 0) (xs : List A) �
 all_of_map f P xs h = λ k d l. subst P (get_or-map f xs k d (f d) l) (h k (f d) (omega (arith, l, length-map xs f)))
 
 -- a loop that looks for something, and what it knows at its end
-pub none_more : {A : Type 0} (P : A → Type 0) (xs : List A) (i : ℕ) (x : A) → i < length xs → x ≡ get_or xs i x → ((k : ℕ) (d : A) → k < i → P (get_or xs k d) → ⊥) → (P x → ⊥) → (k : ℕ) (d : A) → k < i + 1 → P (get_or xs k d) → ⊥
+pub none_more : {A : Type 0} (P : A → Type 0) (xs : List A) (i : ℕ) (x : A) → i < length xs → x ≡ get_or xs i x → ((k : ℕ) (d : A) → k < i → P (get_or xs k d) → ⊥) → (P x → ⊥) → (k : ℕ) (d : A)
+    → k < i + 1 → P (get_or xs k d) → ⊥
 none_more {A = A} P xs i x l e before here k d h p = go (cases_lt k i)
   where
     go : (k < i) ⊎ (i ≤ k) → ⊥

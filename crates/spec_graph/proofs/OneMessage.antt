@@ -10,25 +10,17 @@ use Rattle.spec_model.specs.WellFormed.{AreDistinct, Sends, IsPlan, IsMessageIn}
 use Rattle.spec_model.proofs.Chains.{none_within}
 use Rattle.spec_model.proofs.Joined.{All-those}
 use Rattle.spec_model.proofs.Tests.{Contains-those}
-use Rattle.spec_model.proofs.Those.{cases_suc}
+use Rattle.spec_model.proofs.Those.{cases_suc, few_those}
+use Rattle.spec_model.proofs.Distinct.{distinct_push}
 use Rattle.task_order.specs.Order.{IsOrderOf}
 use Rattle.task_order.proofs.Orders.{order_within}
 use Rattle.spec_graph.specs.Lists.{message_in}
 use Rattle.spec_graph.specs.Merged.{is_number, is_unlisted, unlisted, with_once, with_all_once, with_receivers, messages_at, all_receivers, first_sender, merged, merged_message, merged_messages, merged_names, AreOfOneSender, IsNameOfOther}
 use Rattle.spec_graph.proofs.Changing.{plan_messages}
-use Rattle.spec_graph.proofs.Growing.{distinct_push}
 use Rattle.spec_graph.proofs.Keeping.{those_yes, those_no, name_new, name_free}
 use Rattle.spec_graph.proofs.Parts.{found, finds}
 
 -- ---- those that aren't listed
-
-few_those : (p : ℕ → Bool) (n : ℕ) → length (those p n) ≤ n
-few_those p zero = omega arith
-few_those p (suc n) = subst (λ (k : ℕ). length (those p k) ≤ k) (add-one n) (go (few_those p n) (p n) refl)
-  where
-    go : length (those p n) ≤ n → (b : Bool) → p n ≡ b → length (those p (n + 1)) ≤ n + 1
-    go h true e = omega (arith, ap length (those_yes p n e), length-append (those p n) (n ∷ []), h)
-    go h false e = omega (arith, ap length (those_no p n e), h)
 
 -- where one doesn't pass, there are fewer
 pub fewer_those : (p : ℕ → Bool) (n i : ℕ) → i < n → p i ≡ false → length (those p n) < n
@@ -53,7 +45,8 @@ distinct_those names p (suc n) l d = subst (λ (k : ℕ). AreDistinct (map (name
   where
     go : AreDistinct (map (name_at names) (those p n)) → (b : Bool) → p n ≡ b → AreDistinct (map (name_at names) (those p (n + 1)))
     go before true e =
-        let one : map (name_at names) (those p (n + 1)) ≡ map (name_at names) (those p n) ++ name_at names n ∷ [] = ap (map (name_at names)) (those_yes p n e) ∙ map-append (name_at names) (those p n) (n ∷ []) in
+        let one : map (name_at names) (those p (n + 1)) ≡ map (name_at names) (those p n) ++ name_at names n ∷ [] = ap (map (name_at names)) (those_yes p n e)
+        ∙ map-append (name_at names) (those p n) (n ∷ []) in
         subst AreDistinct (sym one) (distinct_push (map (name_at names) (those p n)) (name_at names n) before (name_new names p n d (omega (arith, l))))
     go before false e = subst (λ (xs : List ℕ). AreDistinct (map (name_at names) xs)) (sym (those_no p n e)) before
 
@@ -221,7 +214,9 @@ sends_merged ms listed there one a b x = elim (Contains-push_cases (messages_at 
         record {
           message = r.part;
           there = subst (Contains ms) p.same (Contains-get_or ms p.place _ l);
-          from = sym (ap (λ (k : Message). k.sender) p.same) ∙ (All-contains (λ k. (message_in ms k).sender ≡ first_sender parts) listed p.place one p.among ∙ (ap (λ (k : Message). k.sender) e ∙ x.from));
+          from =
+              sym (ap (λ (k : Message). k.sender) p.same) ∙ (All-contains (λ k. (message_in ms k).sender ≡ first_sender parts) listed p.place one p.among
+              ∙ (ap (λ (k : Message). k.sender) e ∙ x.from));
           to = r.receives;
         }
   ]
@@ -270,18 +265,22 @@ sends_to_merged ms listed one a b x = at (list_any (is_number k) listed) refl
           to = gathered_has parts [] m b (at_place ms listed k i) (subst (λ (u : Message). Contains u.receivers b) (sym same) x.to);
         }
 
-pub order_merged : (rows : List (List Bool)) (ms : List Message) (listed : List ℕ) → All (λ m. m < length ms) listed → AreOfOneSender ms listed → IsOrderOf rows ms → IsOrderOf rows (merged_messages ms listed)
+pub order_merged : (rows : List (List Bool)) (ms : List Message) (listed : List ℕ) → All (λ m. m < length ms) listed → AreOfOneSender ms listed → IsOrderOf rows ms
+    → IsOrderOf rows (merged_messages ms listed)
 order_merged rows ms listed there one o = order_within rows ms (merged_messages ms listed) (sends_to_merged ms listed one) (sends_merged ms listed there one) o
 
 -- ---- the plan
 
-pub plan_merged : (s : SpecValue) (name : Name) (listed : List ℕ) → IsPlan s → 0 < length listed → All (λ m. m < length s.messages) listed → AreOfOneSender s.messages listed → ¬ IsNameOfOther s.message_names name listed → IsPlan (merged s name listed)
+pub plan_merged : (s : SpecValue) (name : Name) (listed : List ℕ) → IsPlan s → 0 < length listed → All (λ m. m < length s.messages) listed → AreOfOneSender s.messages listed
+    → ¬ IsNameOfOther s.message_names name listed → IsPlan (merged s name listed)
 plan_merged s name listed p some there one free =
     plan_messages s (merged_names s.message_names name listed) (merged_messages s.messages listed) p
     (omega (arith, long, fewer, p.few_messages))
     (omega (arith, long, names_long, ap (λ (k : ℕ). length (unlisted listed k)) p.named))
-    (distinct_push (map (name_at s.message_names) (unlisted listed (length s.message_names))) name (distinct_those s.message_names (is_unlisted listed) (length s.message_names) (omega arith) p.messages_distinct) (name_free s.message_names name listed free))
-    (All-push (IsMessageIn s) kept (merged_message parts) (from_members (IsMessageIn s) kept kept_planned) (merged_planned s parts (omega (arith, some, length-map listed (message_in s.messages))) (from_members (IsMessageIn s) parts part_planned)))
+    (distinct_push (map (name_at s.message_names) (unlisted listed (length s.message_names))) name (distinct_those s.message_names (is_unlisted listed) (length s.message_names) (omega arith)
+    p.messages_distinct) (name_free s.message_names name listed free))
+    (All-push (IsMessageIn s) kept (merged_message parts) (from_members (IsMessageIn s) kept kept_planned)
+    (merged_planned s parts (omega (arith, some, length-map listed (message_in s.messages))) (from_members (IsMessageIn s) parts part_planned)))
     (none_within (merged_messages s.messages listed) s.messages (sends_merged s.messages listed there one) p.no_cycle)
   where
     n : ℕ
@@ -297,7 +296,12 @@ plan_merged s name listed p some there one free =
     long = omega (arith, length-append kept (merged_message parts ∷ []), length-map (unlisted listed n) (message_in s.messages))
 
     names_long : length (merged_names s.message_names name listed) ≡ length (unlisted listed (length s.message_names)) + 1
-    names_long = omega (arith, length-append (map (name_at s.message_names) (unlisted listed (length s.message_names))) (name ∷ []), length-map (unlisted listed (length s.message_names)) (name_at s.message_names))
+    names_long =
+        omega (
+          arith,
+          length-append (map (name_at s.message_names) (unlisted listed (length s.message_names))) (name ∷ []),
+          length-map (unlisted listed (length s.message_names)) (name_at s.message_names),
+        )
 
     fewer : length (unlisted listed n) < n
     fewer = fewer_unlisted listed n (get_or listed 0 0) (there 0 0 some) (Contains-get_or listed 0 0 some)
@@ -317,16 +321,20 @@ plan_merged s name listed p some there one free =
 
 -- ---- the same, where the lists are known by equations
 
-pub kept_short : (ms kept : List Message) (list listed : List ℕ) → kept ≡ messages_at ms (unlisted list (length ms)) → list ≡ listed → 0 < length listed → All (λ m. m < length ms) listed → length kept < length ms
+pub kept_short : (ms kept : List Message) (list listed : List ℕ) → kept ≡ messages_at ms (unlisted list (length ms)) → list ≡ listed → 0 < length listed → All (λ m. m < length ms) listed
+    → length kept < length ms
 kept_short ms kept list listed e el some there =
     let fewer = fewer_unlisted listed (length ms) (get_or listed 0 0) (there 0 0 some) (Contains-get_or listed 0 0 some) in
     omega (arith, ap length e, length-map (unlisted list (length ms)) (message_in ms), ap (λ (xs : List ℕ). length (unlisted xs (length ms))) el, fewer)
 
-pub merged_is : (ms kept new : List Message) (message : Message) (list listed : List ℕ) → kept ≡ messages_at ms (unlisted list (length ms)) → list ≡ listed → message ≡ merged_message (messages_at ms listed) → new ≡ kept ++ message ∷ [] → new ≡ merged_messages ms listed
+pub merged_is : (ms kept new : List Message) (message : Message) (list listed : List ℕ) → kept ≡ messages_at ms (unlisted list (length ms)) → list ≡ listed
+    → message ≡ merged_message (messages_at ms listed) → new ≡ kept ++ message ∷ [] → new ≡ merged_messages ms listed
 merged_is ms kept new message list listed ek el em en =
-    en ∙ (ap (λ (m : Message). kept ++ m ∷ []) em ∙ ap (λ (ks : List Message). ks ++ merged_message (messages_at ms listed) ∷ []) (ek ∙ ap (λ (xs : List ℕ). messages_at ms (unlisted xs (length ms))) el))
+    en ∙ (ap (λ (m : Message). kept ++ m ∷ []) em ∙ ap (λ (ks : List Message). ks ++ merged_message (messages_at ms listed) ∷ [])
+    (ek ∙ ap (λ (xs : List ℕ). messages_at ms (unlisted xs (length ms))) el))
 
-pub plan_merged_at : (s : SpecValue) (name : Name) (listed : List ℕ) (names : List Name) (ms : List Message) → names ≡ merged_names s.message_names name listed → ms ≡ merged_messages s.messages listed → IsPlan (merged s name listed) → IsPlan (record s { message_names = names; messages = ms })
+pub plan_merged_at : (s : SpecValue) (name : Name) (listed : List ℕ) (names : List Name) (ms : List Message) → names ≡ merged_names s.message_names name listed
+    → ms ≡ merged_messages s.messages listed → IsPlan (merged s name listed) → IsPlan (record s { message_names = names; messages = ms })
 plan_merged_at s name listed names ms en em p =
     subst (λ (ns : List Name). IsPlan (record s { message_names = ns; messages = ms })) (sym en)
     (subst (λ (ks : List Message). IsPlan (record s { message_names = merged_names s.message_names name listed; messages = ks })) (sym em) p)

@@ -1,12 +1,12 @@
 -- Lists of tasks that are gone through: for one that stands twice, and for what comes after them.
 use Rattle.std.proofs.Common.{◌≡◌, ℕ, ◌+◌, ◌<◌, ◌≤◌, Bool, true, false, List, length, get_or, map, take, sym, ap, ◌∙◌, subst, arith, ◌⊎◌, inl, inr, eq-eqb}
 use Rattle.std.specs.Prelude.{◌||◌, ◌==◌}
-use Rattle.std.proofs.lemmas.Bool.{cases_lt, false≢true}
+use Rattle.std.proofs.lemmas.Bool.{cases_lt, false≢true, or_cases, or_left, or_right}
 use Rattle.std.proofs.lemmas.List.{get_or-map, length-map, take_all}
 use Rattle.spec_model.specs.Spec.{Message}
 use Rattle.task_order.specs.Order.{is_in, is_gathered, IsOrderOf, IsLed}
 use Rattle.task_order.proofs.Orders.{led_more}
-use Rattle.task_order.proofs.Sets.{or_cases, or_left, or_right, same_from}
+use Rattle.task_order.proofs.Sets.{same_from}
 use Rattle.spec_graph.specs.Refusals.{HasTwice}
 use Rattle.spec_graph.specs.Lists.{task_number}
 use Rattle.spec_graph.specs.declared.numbers.TaskNo.{TaskNo}
@@ -23,19 +23,14 @@ pub record Seeing (xs : List ℕ) (i : ℕ) (seen : List Bool) : Type 0 where
   pub has : (k : ℕ) → k < i → is_in seen (get_or xs k 0) ≡ true
   pub once : (j k : ℕ) → j < k → k < i → get_or xs j 0 ≡ get_or xs k 0 → ⊥
 
-pub seeing_start : (xs : List ℕ) (seen : List Bool) → ((t : ℕ) → is_in seen t ≡ false) → Seeing xs 0 seen
-seeing_start xs seen none = record {
-  holds = λ t h. absurd (false≢true (sym (none t) ∙ h));
-  has = λ k l. absurd (omega (arith, l));
-  once = λ j k l h e. absurd (omega (arith, h));
-}
-
-pub seeing_more : (xs : List ℕ) (i x : ℕ) (seen next : List Bool) → x ≡ get_or xs i 0 → is_in seen x ≡ false → ((t : ℕ) → is_in next t ≡ (is_in seen t || (t == x))) → Seeing xs i seen → Seeing xs (i + 1) next
+pub seeing_more : (xs : List ℕ) (i x : ℕ) (seen next : List Bool) → x ≡ get_or xs i 0 → is_in seen x ≡ false → ((t : ℕ) → is_in next t ≡ (is_in seen t || (t == x))) → Seeing xs i seen
+    → Seeing xs (i + 1) next
 seeing_more xs i x seen next ex new en s = record {
   holds = λ t h. cases t (or_cases (is_in seen t) (t == x) (sym (en t) ∙ h));
   has = λ k l. elim (cases_lt k i) [
     | inl y ↦ en (get_or xs k 0) ∙ or_left (is_in seen (get_or xs k 0)) (get_or xs k 0 == x) (s.has k y)
-    | inr y ↦ let same : k ≡ i = omega (arith, l, y) in en (get_or xs k 0) ∙ or_right (is_in seen (get_or xs k 0)) (get_or xs k 0 == x) (eq-eqb (get_or xs k 0) x (ap (λ (n : ℕ). get_or xs n 0) same ∙ sym ex))
+    | inr y ↦ let same : k ≡ i =
+        omega (arith, l, y) in en (get_or xs k 0) ∙ or_right (is_in seen (get_or xs k 0)) (get_or xs k 0 == x) (eq-eqb (get_or xs k 0) x (ap (λ (n : ℕ). get_or xs n 0) same ∙ sym ex))
   ];
   once = λ j k l h e. elim (cases_lt k i) [
     | inl y ↦ s.once j k l y e
@@ -58,18 +53,16 @@ seen_twice xs i x seen l ex e s =
 pub seen_once : (xs : List ℕ) (i : ℕ) (seen : List Bool) → length xs ≤ i → Seeing xs i seen → ¬ HasTwice xs
 seen_once xs i seen l s h = s.once h.first h.second h.before (omega (arith, h.within, l)) h.same
 
--- the number of the task at a place
-pub number_at : (ts : List TaskNo) (i : ℕ) (t : TaskNo) → i < length ts → t ≡ get_or ts i t → t.0 ≡ get_or (map task_number ts) i 0
-number_at ts i t l e = ap task_number e ∙ sym (get_or-map task_number ts i t 0 l)
-
 -- ---- the tasks to which chains lead from tasks that are gathered one by one
 
-pub led_task : (rows : List (List Bool)) (set next : List Bool) (ms : List Message) (ts : List TaskNo) (i : ℕ) (d : TaskNo) → i < length ts → IsOrderOf rows ms → IsLed set ms (take i (map task_number ts)) → ((b : ℕ) → is_in next b ≡ is_gathered rows set (get_or ts i d).0 b) → IsLed next ms (take (i + 1) (map task_number ts))
+pub led_task : (rows : List (List Bool)) (set next : List Bool) (ms : List Message) (ts : List TaskNo) (i : ℕ) (d : TaskNo) → i < length ts → IsOrderOf rows ms
+    → IsLed set ms (take i (map task_number ts)) → ((b : ℕ) → is_in next b ≡ is_gathered rows set (get_or ts i d).0 b) → IsLed next ms (take (i + 1) (map task_number ts))
 led_task rows set next ms ts i d l o s e =
     led_more rows set next ms (map task_number ts) i (get_or ts i d).0 (omega (arith, l, length-map ts task_number)) (sym (get_or-map task_number ts i d (get_or ts i d).0 l)) o s e
 
 pub led_all : (set : List Bool) (ms : List Message) (ts : List TaskNo) (n : ℕ) → length ts ≤ n → IsLed set ms (take n (map task_number ts)) → IsLed set ms (map task_number ts)
 led_all set ms ts n l s = subst (IsLed set ms) (take_all n (map task_number ts) (omega (arith, l, length-map ts task_number))) s
 
-pub seeing_task : (ts : List TaskNo) (i : ℕ) (d : TaskNo) (seen next : List Bool) → i < length ts → is_in seen (get_or ts i d).0 ≡ false → ((t : ℕ) → is_in next t ≡ (is_in seen t || (t == (get_or ts i d).0))) → Seeing (map task_number ts) i seen → Seeing (map task_number ts) (i + 1) next
+pub seeing_task : (ts : List TaskNo) (i : ℕ) (d : TaskNo) (seen next : List Bool) → i < length ts → is_in seen (get_or ts i d).0 ≡ false
+    → ((t : ℕ) → is_in next t ≡ (is_in seen t || (t == (get_or ts i d).0))) → Seeing (map task_number ts) i seen → Seeing (map task_number ts) (i + 1) next
 seeing_task ts i d seen next l new en s = seeing_more (map task_number ts) i (get_or ts i d).0 seen next (sym (get_or-map task_number ts i d 0 l)) new en s

@@ -4,8 +4,8 @@ use Rattle.spec_model.specs.Spec.{SpecValue}
 use Rattle.spec_graph.specs.Lists.{arc_value, choice_value}
 use Rattle.spec_graph.specs.declared.held.Held.{Held}
 
-abbrev pub value_of : Held → SpecValue
-value_of h = record {
+abbrev pub held_spec : Held → SpecValue
+held_spec h = record {
   tasks = h.tasks;
   message_names = h.message_names;
   messages = h.messages.items;

@@ -29,8 +29,8 @@ abbrev pub choice_pair : Choice → ℕ × ℕ
 choice_pair c = (c.task.0, c.resource.0)
 
 -- a message between tasks with these numbers
-abbrev pub message_of : TaskNo → List TaskNo → ℕ → ℕ → ℕ → Message
-message_of sender receivers hops delay quantity = record {
+abbrev pub numbered_message : TaskNo → List TaskNo → ℕ → ℕ → ℕ → Message
+numbered_message sender receivers hops delay quantity = record {
   sender = sender.0;
   receivers = map task_number receivers;
   limit = hops;

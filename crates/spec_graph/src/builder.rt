@@ -1,8 +1,9 @@
 //! A specification that grows, call by call.
 
-ghost use Rattle.std.specs.Prelude.{◌≡◌, ◌≤◌, length};
+ghost use Rattle.std.specs.Prelude.{◌≡◌, ◌*◌, ◌≤◌, length};
 ghost use Rattle.spec_model.specs.Spec.{empty_spec};
 ghost use Rattle.spec_model.specs.WellFormed.{IsPlan};
+ghost use Rattle.spec_model.specs.Limits.{most_tasks, most_messages, most_resources, most_links, most_options, most_objectives};
 
 use crate::held::Held;
 use std::alloc::Global;
@@ -26,9 +27,9 @@ impl Model for SpecBuilder {
     ghost Value = { SpecValue };
 
     ghost use Rattle.spec_graph.specs.Builder.{HoldsPlan};
-    ghost use Rattle.spec_graph.specs.Held.{value_of};
+    ghost use Rattle.spec_graph.specs.Held.{held_spec};
 
-    ghost view = { λ b. value_of b.held };
+    ghost view = { λ b. held_spec b.held };
 
     ghost invariant = { HoldsPlan };
 }
@@ -55,7 +56,7 @@ impl SpecBuilder {
     /// How many tasks there are.
     pub fn tasks(&self) -> usize
         ensures count { result ≡ length self.now.tasks }
-        ensures few { result ≤ 1024 }
+        ensures few { result ≤ most_tasks }
     {
         self.held.tasks.len()
     }
@@ -63,7 +64,7 @@ impl SpecBuilder {
     /// How many messages there are.
     pub fn messages(&self) -> usize
         ensures count { result ≡ length self.now.messages }
-        ensures few { result ≤ 2048 }
+        ensures few { result ≤ most_messages }
     {
         self.held.messages.len()
     }
@@ -71,7 +72,7 @@ impl SpecBuilder {
     /// How many resources there are.
     pub fn resources(&self) -> usize
         ensures count { result ≡ length self.now.resources }
-        ensures few { result ≤ 256 }
+        ensures few { result ≤ most_resources }
     {
         self.held.resources.len()
     }
@@ -79,7 +80,7 @@ impl SpecBuilder {
     /// How many links there are.
     pub fn links(&self) -> usize
         ensures count { result ≡ length self.now.links }
-        ensures few { result ≤ 1024 }
+        ensures few { result ≤ most_links }
     {
         self.held.links.len()
     }
@@ -87,7 +88,7 @@ impl SpecBuilder {
     /// How many arcs there are.
     pub fn arcs(&self) -> usize
         ensures count { result ≡ length self.now.arcs }
-        ensures few { result ≤ 2048 }
+        ensures few { result ≤ 2 * most_links }
     {
         self.held.arcs.len()
     }
@@ -95,7 +96,7 @@ impl SpecBuilder {
     /// How many options there are.
     pub fn options(&self) -> usize
         ensures count { result ≡ length self.now.options }
-        ensures few { result ≤ 16384 }
+        ensures few { result ≤ most_options }
     {
         self.held.options.len()
     }
@@ -103,7 +104,7 @@ impl SpecBuilder {
     /// How many objectives there are.
     pub fn objectives(&self) -> usize
         ensures count { result ≡ length self.now.objectives }
-        ensures few { result ≤ 8 }
+        ensures few { result ≤ most_objectives }
     {
         self.held.objectives.len()
     }

@@ -1,6 +1,7 @@
 //! The calls of a builder that change what stands already: messages and weights.
 
-ghost use Rattle.std.specs.Prelude.{◌≡◌, ◌<◌, ◌≤◌, ◌^◌, length, map};
+ghost use Rattle.std.specs.Prelude.{◌≡◌, ◌<◌, ◌≤◌, length, map};
+ghost use Rattle.spec_model.specs.Limits.{most_number};
 ghost use Rattle.spec_graph.specs.Changes.{changed, IsSmallChange, with_changed, with_weight};
 
 use crate::builder::SpecBuilder;
@@ -30,7 +31,7 @@ impl SpecBuilder {
     pub fn set_resource_weight(&mut self, r: ResNo, j: usize, weight: u64)
         requires resource_there { r.0 < length self.old.resources }
         requires objective_there { j < length self.old.objectives }
-        requires small { weight ≤ 2 ^ 40 }
+        requires small { weight ≤ most_number }
         ensures { self.new ≡ record self.old { resource_weights = with_weight self.old.resource_weights r.0 j weight } }
     {
         let row = &mut self.held.resource_weights[r.0 as usize];
@@ -41,7 +42,7 @@ impl SpecBuilder {
     pub fn set_traffic(&mut self, l: LinkNo, j: usize, weight: u64)
         requires link_there { l.0 < length self.old.links }
         requires objective_there { j < length self.old.objectives }
-        requires small { weight ≤ 2 ^ 40 }
+        requires small { weight ≤ most_number }
         ensures { self.new ≡ record self.old { traffic_weights = with_weight self.old.traffic_weights l.0 j weight } }
     {
         let row = &mut self.held.traffic_weights[l.0 as usize];

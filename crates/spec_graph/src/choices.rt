@@ -73,7 +73,7 @@ impl Choices {
     pub(crate) fn push(&mut self, choice: Choice) -> Result<(), AllocError>
         requires { Any (IsOfPair choice.task.0 choice.resource.0) (map choice_value self.old) → ⊥ }
         ensures added { OnOk result (self.new ≡ self.old ++ choice ∷ []) }
-        ensures unchanged { OnErr result (self.new ≡ self.old) }
+        ensures err { OnErr result (self.new ≡ self.old) }
     {
         self.list.reserve(1)?;
         self.pairs.insert((choice.task.0, choice.resource.0))?;

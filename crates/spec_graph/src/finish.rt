@@ -3,6 +3,7 @@
 ghost use Rattle.std.specs.Prelude.{◌≡◌, ◌<◌, ◌↔◌, IsTrue, Err, IfOk, OnOk, IfErr};
 ghost use Rattle.spec_model.specs.Spec.{all_variables};
 ghost use Rattle.spec_model.specs.WellFormed.{most_hops, size};
+ghost use Rattle.spec_model.specs.Limits.{most_resources};
 ghost use Rattle.spec_graph.specs.Plan.{finished};
 ghost use Rattle.spec_graph.specs.Refusals.{HasBigProduct, IsFinishRefused, IsFinishAccepted};
 
@@ -27,7 +28,7 @@ impl SpecBuilder {
     /// The greatest hop limit that makes a difference: one less than the number of resources.
     fn most_hops(&self) -> u64
         ensures most { result ≡ most_hops self.now }
-        ensures small { result < 256 }
+        ensures small { result < most_resources }
     {
         let resources = self.held.resources.len() as u64;
         if resources == 0 {

@@ -1,6 +1,7 @@
 //! Tasks that are gathered, each once.
 
 ghost use Rattle.std.specs.Prelude.{◌≡◌, ◌<◌, [], All, map, IfOk, OnOk};
+ghost use Rattle.spec_model.specs.Limits.{most_tasks};
 ghost use Rattle.spec_graph.specs.Lists.{task_number};
 ghost use Rattle.spec_graph.specs.Merged.{with_once, with_all_once};
 
@@ -43,7 +44,7 @@ impl Gathered {
 
     /// Adds a task, where it isn't there yet.
     pub fn add(&mut self, task: TaskNo) -> Result<(), AllocError>
-        requires { task.0 < 1024 }
+        requires { task.0 < most_tasks }
         ensures { OnOk result (self.new ≡ with_once self.old task.0) }
     {
         if self.seen.has(task.0 as usize) {
@@ -56,7 +57,7 @@ impl Gathered {
 
     /// Adds those of the tasks that aren't there yet.
     pub fn add_all(&mut self, tasks: &[TaskNo]) -> Result<(), AllocError>
-        requires { All (λ t. t.0 < 1024) tasks.now }
+        requires { All (λ t. t.0 < most_tasks) tasks.now }
         ensures { OnOk result (self.new ≡ with_all_once self.old (map task_number tasks.now)) }
     {
         for task in tasks {

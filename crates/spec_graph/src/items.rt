@@ -22,7 +22,7 @@ impl SpecBuilder {
         ensures added { OnOk result (self.new ≡ record self.old { tasks = self.old.tasks ++ name.now ∷ [] }) }
         ensures accepted { OnOk result (IsTaskAccepted self.old name.now) }
         ensures refused { IfErr result (IsTaskRefused self.old name.now) }
-        ensures unchanged { OnErr result (self.new ≡ self.old) }
+        ensures err { OnErr result (self.new ≡ self.old) }
     {
         if self.held.tasks.contains(name) {
             return Err(BuildFault::Repeated);
@@ -47,7 +47,7 @@ impl SpecBuilder {
         ensures added { OnOk result (self.new ≡ record self.old { resources = self.old.resources ++ name.now ∷ []; resource_weights = self.old.resource_weights ++ weights.now ∷ [] }) }
         ensures accepted { OnOk result (IsResourceAccepted self.old name.now weights.now) }
         ensures refused { IfErr result (IsResourceRefused self.old name.now weights.now) }
-        ensures unchanged { OnErr result (self.new ≡ self.old) }
+        ensures err { OnErr result (self.new ≡ self.old) }
     {
         if self.held.resources.contains(name) {
             return Err(BuildFault::Repeated);
@@ -84,7 +84,7 @@ impl SpecBuilder {
         ensures added { OnOk result (self.new ≡ record self.old { options = self.old.options ++ choice task.0 resource.0 time ∷ []; option_weights = self.old.option_weights ++ weights.now ∷ [] }) }
         ensures accepted { OnOk result (IsOptionAccepted self.old (choice task.0 resource.0 time) weights.now) }
         ensures refused { IfErr result (IsOptionRefused self.old (choice task.0 resource.0 time) weights.now) }
-        ensures unchanged { OnErr result (self.new ≡ self.old) }
+        ensures err { OnErr result (self.new ≡ self.old) }
     {
         if self.held.options.has(task, resource) {
             return Err(BuildFault::Repeated);
@@ -121,7 +121,7 @@ impl SpecBuilder {
         ensures added { OnOk result (self.new ≡ record self.old { objectives = self.old.objectives ++ name.now ∷ [] }) }
         ensures accepted { OnOk result (IsObjectiveAccepted self.old name.now) }
         ensures refused { IfErr result (IsObjectiveRefused self.old name.now) }
-        ensures unchanged { OnErr result (self.new ≡ self.old) }
+        ensures err { OnErr result (self.new ≡ self.old) }
     {
         if self.held.objectives.contains(name) {
             return Err(BuildFault::Repeated);
@@ -141,7 +141,7 @@ impl SpecBuilder {
         ensures added { OnOk result (self.new ≡ record self.old { deadlines = self.old.deadlines ++ record { task = task.0; time = at } ∷ [] }) }
         ensures accepted { OnOk result (¬ IsBig at) }
         ensures refused { IfErr result (IsDeadlineRefused at) }
-        ensures unchanged { OnErr result (self.new ≡ self.old) }
+        ensures err { OnErr result (self.new ≡ self.old) }
     {
         if at > MOST_NUMBER {
             return Err(BuildFault::TooBig);

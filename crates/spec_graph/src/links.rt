@@ -2,8 +2,9 @@
 
 ghost use Rattle.std.specs.Prelude.{◌≡◌, ◌<◌, ◌≤◌, ◌+◌, ◌++◌, length, map, Contains, MatchOption, IfOk, OnOk, IfErr, OnErr};
 ghost use Rattle.std.specs.Vec.{vec_len, vec_capacity};
+ghost use Rattle.spec_model.specs.Limits.{most_links};
 ghost use Rattle.names.specs.Names.{IsName};
-ghost use Rattle.spec_graph.specs.Held.{value_of};
+ghost use Rattle.spec_graph.specs.Held.{held_spec};
 ghost use Rattle.spec_graph.specs.Lists.{arc_value};
 ghost use Rattle.spec_graph.specs.Plan.{arcs_of_link, with_link};
 ghost use Rattle.spec_graph.specs.Refusals.{IsLinkRefused, IsLinkAccepted};
@@ -50,10 +51,10 @@ impl Held {
     ) -> Result<LinkNo, AllocError>
         requires named { IsName name.now }
         requires new { Contains self.old.links name.now → ⊥ }
-        requires few { length self.old.links ≤ 1024 }
+        requires few { length self.old.links ≤ most_links }
         ensures number { IfOk result (λ l. l.0 ≡ length self.old.links) }
-        ensures added { OnOk result (value_of self.new ≡ with_link (value_of self.old) name.now a.0 b.0 two_way weights.now traffic.now) }
-        ensures unchanged { OnErr result (value_of self.new ≡ value_of self.old) }
+        ensures added { OnOk result (held_spec self.new ≡ with_link (held_spec self.old) name.now a.0 b.0 two_way weights.now traffic.now) }
+        ensures err { OnErr result (held_spec self.new ≡ held_spec self.old) }
     {
         self.arcs.reserve(2)?;
         self.link_weights.reserve(1)?;
@@ -121,7 +122,7 @@ impl SpecBuilder {
         ensures added { OnOk result (self.new ≡ with_link self.old name.now a.0 b.0 two_way weights.now traffic.now) }
         ensures accepted { OnOk result (IsLinkAccepted self.old name.now a.0 b.0 weights.now traffic.now) }
         ensures refused { IfErr result (IsLinkRefused self.old name.now a.0 b.0 weights.now traffic.now) }
-        ensures unchanged { OnErr result (self.new ≡ self.old) }
+        ensures err { OnErr result (self.new ≡ self.old) }
     {
         if let Some(fault) = self.link_fault(name, a, b, weights, traffic) {
             return Err(fault);

@@ -164,7 +164,7 @@ impl SpecBuilder {
         ensures merged { OnOk result (self.new ≡ merged self.old name.now (map message_number messages.now)) }
         ensures accepted { OnOk result (¬ IsMergeRepeated self.old name.now (map message_number messages.now)) }
         ensures refused { IfErr result (IsMergeRefused self.old name.now (map message_number messages.now)) }
-        ensures unchanged { OnErr result (self.new ≡ self.old) }
+        ensures err { OnErr result (self.new ≡ self.old) }
     {
         let listed = match Listed::of(self.alloc, self.held.messages.len(), messages)? {
             Some(listed) => listed,

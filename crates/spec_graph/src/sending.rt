@@ -2,10 +2,11 @@
 
 ghost use Rattle.std.specs.Prelude.{◌≡◌, ◌<◌, ◌≤◌, ◌↔◌, ◌⊎◌, IsTrue, ℕ, List, All, Contains, length, map, IfOk, OnOk, IfErr, OnErr};
 ghost use Rattle.spec_model.specs.Spec.{Message as MessageValue};
+ghost use Rattle.spec_model.specs.Limits.{most_tasks, most_messages};
 ghost use Rattle.names.specs.Names.{IsName};
 ghost use Rattle.task_order.specs.Order.{IsOrderOf, IsLed};
-ghost use Rattle.spec_graph.specs.Held.{value_of};
-ghost use Rattle.spec_graph.specs.Lists.{task_number, message_of};
+ghost use Rattle.spec_graph.specs.Held.{held_spec};
+ghost use Rattle.spec_graph.specs.Lists.{task_number, numbered_message};
 ghost use Rattle.spec_graph.specs.Plan.{with_message};
 ghost use Rattle.spec_graph.specs.Refusals.{HasTwice, IsBig, IsMessageRefused, IsMessageAccepted};
 
@@ -21,7 +22,7 @@ use task_order::{TaskOrder, TaskSet};
 
 /// Whether a task stands twice in a list.
 fn has_twice(alloc: Global, tasks: &[TaskNo]) -> Result<bool, AllocError>
-    requires { All (λ t. t.0 < 1024) tasks.now }
+    requires { All (λ t. t.0 < most_tasks) tasks.now }
     ensures { IfOk result (λ twice. IsTrue twice ↔ HasTwice (map task_number tasks.now)) }
 {
     let mut seen = TaskSet::none(alloc)?;
@@ -47,7 +48,7 @@ fn is_too_big(delay: u64, quantity: u64) -> bool
 /// The tasks, and all that come after them.
 fn gather_all(alloc: Global, order: &TaskOrder, tasks: &[TaskNo]) -> Result<TaskSet, AllocError>
     requires there { All (λ t. t.0 < length order.now) tasks.now }
-    requires few { All (λ t. t.0 < 1024) tasks.now }
+    requires few { All (λ t. t.0 < most_tasks) tasks.now }
     ensures { IfOk result (λ set. (ms : List MessageValue) → IsOrderOf order.now ms → IsLed set ms (map task_number tasks.now)) }
 {
     let mut set = TaskSet::none(alloc)?;
@@ -71,10 +72,10 @@ impl Held {
     ) -> Result<MsgNo, AllocError>
         requires named { IsName name.now }
         requires new { Contains self.old.message_names name.now → ⊥ }
-        requires few { length self.old.message_names ≤ 2048 }
+        requires few { length self.old.message_names ≤ most_messages }
         ensures number { IfOk result (λ m. m.0 ≡ length self.old.message_names) }
-        ensures added { OnOk result (value_of self.new ≡ with_message (value_of self.old) name.now (message_of sender receivers.now hops delay quantity)) }
-        ensures unchanged { OnErr result (value_of self.new ≡ value_of self.old) }
+        ensures added { OnOk result (held_spec self.new ≡ with_message (held_spec self.old) name.now (numbered_message sender receivers.now hops delay quantity)) }
+        ensures err { OnErr result (held_spec self.new ≡ held_spec self.old) }
     {
         self.messages.reserve(1)?;
         let receivers = Vec::from_slice(alloc, receivers)?;
@@ -103,8 +104,8 @@ impl SpecBuilder {
         requires sender_there { sender.0 < length self.now.tasks }
         requires receivers_there { All (λ w. w.0 < length self.now.tasks) receivers.now }
         ensures led { IfOk result (λ set. IsLed set self.now.messages (map task_number receivers.now)) }
-        ensures accepted { OnOk result ((hops : ℕ) → IsMessageAccepted self.now name.now (message_of sender receivers.now hops delay quantity)) }
-        ensures refused { IfErr result (λ fault. (hops : ℕ) → IsMessageRefused self.now name.now (message_of sender receivers.now hops delay quantity) fault) }
+        ensures accepted { OnOk result ((hops : ℕ) → IsMessageAccepted self.now name.now (numbered_message sender receivers.now hops delay quantity)) }
+        ensures refused { IfErr result (λ fault. (hops : ℕ) → IsMessageRefused self.now name.now (numbered_message sender receivers.now hops delay quantity) fault) }
     {
         if self.held.message_names.contains(name) {
             return Err(BuildFault::Repeated);
@@ -145,10 +146,10 @@ impl SpecBuilder {
         requires receivers_there { All (λ w. w.0 < length self.old.tasks) receivers.now }
         requires some_receiver { 0 < length receivers.now }
         ensures number { IfOk result (λ m. m.0 ≡ length self.old.messages) }
-        ensures added { OnOk result (self.new ≡ with_message self.old name.now (message_of sender receivers.now hops delay quantity)) }
-        ensures accepted { OnOk result (IsMessageAccepted self.old name.now (message_of sender receivers.now hops delay quantity)) }
-        ensures refused { IfErr result (IsMessageRefused self.old name.now (message_of sender receivers.now hops delay quantity)) }
-        ensures unchanged { OnErr result (self.new ≡ self.old) }
+        ensures added { OnOk result (self.new ≡ with_message self.old name.now (numbered_message sender receivers.now hops delay quantity)) }
+        ensures accepted { OnOk result (IsMessageAccepted self.old name.now (numbered_message sender receivers.now hops delay quantity)) }
+        ensures refused { IfErr result (IsMessageRefused self.old name.now (numbered_message sender receivers.now hops delay quantity)) }
+        ensures err { OnErr result (self.new ≡ self.old) }
     {
         let after = self.tasks_after(name, sender, receivers, delay, quantity)?;
         let number = self

@@ -1,9 +1,10 @@
 //! A whole specification, and what can be read of it.
 
-ghost use Rattle.std.specs.Prelude.{◌≡◌, ◌<◌, ◌≤◌, ◌+◌, ◌*◌, ◌^◌, length, map, All, Contains, MatchOption};
+ghost use Rattle.std.specs.Prelude.{◌≡◌, ◌<◌, ◌≤◌, ◌+◌, ◌*◌, length, map, All, Contains, MatchOption};
 ghost use Rattle.spec_model.specs.Spec.{name_at, message_at, arc_at, option_at, deadline_at, arc_var, resource_var, link_var, design_variables, all_variables};
 ghost use Rattle.spec_model.specs.WellFormed.{IsWellFormed, size};
 ghost use Rattle.spec_model.specs.Vectors.{weight, arc_weight};
+ghost use Rattle.spec_model.specs.Limits.{most_tasks, most_messages, most_resources, most_links, most_options, most_objectives, most_variables, most_terms, most_number};
 ghost use Rattle.names.specs.Names.{IsName, IsNumberOf};
 ghost use Rattle.spec_graph.specs.Lists.{task_number};
 
@@ -27,9 +28,9 @@ impl Model for Spec {
     ghost Value = { SpecValue };
 
     ghost use Rattle.spec_graph.specs.Finished.{HoldsSpec};
-    ghost use Rattle.spec_graph.specs.Held.{value_of};
+    ghost use Rattle.spec_graph.specs.Held.{held_spec};
 
-    ghost view = { λ s. value_of s.held };
+    ghost view = { λ s. held_spec s.held };
 
     ghost invariant = { HoldsSpec };
 }
@@ -60,7 +61,7 @@ impl Spec {
     /// How many tasks there are.
     pub fn tasks(&self) -> usize
         ensures count { result ≡ length self.now.tasks }
-        ensures few { result ≤ 1024 }
+        ensures few { result ≤ most_tasks }
     {
         self.held.tasks.len()
     }
@@ -68,7 +69,7 @@ impl Spec {
     /// How many messages there are.
     pub fn messages(&self) -> usize
         ensures count { result ≡ length self.now.messages }
-        ensures few { result ≤ 2048 }
+        ensures few { result ≤ most_messages }
     {
         self.held.messages.len()
     }
@@ -76,7 +77,7 @@ impl Spec {
     /// How many resources there are.
     pub fn resources(&self) -> usize
         ensures count { result ≡ length self.now.resources }
-        ensures few { result ≤ 256 }
+        ensures few { result ≤ most_resources }
     {
         self.held.resources.len()
     }
@@ -84,7 +85,7 @@ impl Spec {
     /// How many links there are.
     pub fn links(&self) -> usize
         ensures count { result ≡ length self.now.links }
-        ensures few { result ≤ 1024 }
+        ensures few { result ≤ most_links }
     {
         self.held.links.len()
     }
@@ -92,7 +93,7 @@ impl Spec {
     /// How many arcs there are.
     pub fn arcs(&self) -> usize
         ensures count { result ≡ length self.now.arcs }
-        ensures few { result ≤ 2048 }
+        ensures few { result ≤ 2 * most_links }
     {
         self.held.arcs.len()
     }
@@ -100,7 +101,7 @@ impl Spec {
     /// How many options there are.
     pub fn options(&self) -> usize
         ensures count { result ≡ length self.now.options }
-        ensures few { result ≤ 16384 }
+        ensures few { result ≤ most_options }
     {
         self.held.options.len()
     }
@@ -108,7 +109,7 @@ impl Spec {
     /// How many objectives there are.
     pub fn objectives(&self) -> usize
         ensures count { result ≡ length self.now.objectives }
-        ensures few { result ≤ 8 }
+        ensures few { result ≤ most_objectives }
     {
         self.held.objectives.len()
     }
@@ -123,7 +124,7 @@ impl Spec {
     /// How many variables a design has.
     pub fn design_variables(&self) -> u64
         ensures count { result ≡ design_variables self.now }
-        ensures few { result ≤ 2 ^ 20 }
+        ensures few { result ≤ most_variables }
     {
         self.facts();
         let uses = self.messages() as u64 * self.arcs() as u64;
@@ -133,7 +134,7 @@ impl Spec {
     /// How many variables the encoding has.
     pub fn all_variables(&self) -> u64
         ensures count { result ≡ all_variables self.now }
-        ensures few { result ≤ 2 ^ 20 }
+        ensures few { result ≤ most_variables }
     {
         self.variables
     }
@@ -141,7 +142,7 @@ impl Spec {
     /// A bound on the number of terms of the encoding.
     pub fn size(&self) -> u64
         ensures count { result ≡ size self.now }
-        ensures few { result ≤ 2 ^ 23 }
+        ensures few { result ≤ most_terms }
     {
         self.terms
     }
@@ -237,7 +238,7 @@ impl Spec {
     pub fn hop_limit(&self, m: MsgNo) -> u64
         requires { m.0 < length self.now.messages }
         ensures limit { result ≡ (message_at self.now m.0).limit }
-        ensures small { result < 256 }
+        ensures small { result < most_resources }
     {
         let message = &self.held.messages[m.0 as usize];
         message.hops
@@ -247,7 +248,7 @@ impl Spec {
     pub fn delay(&self, m: MsgNo) -> u64
         requires { m.0 < length self.now.messages }
         ensures delay { result ≡ (message_at self.now m.0).delay }
-        ensures small { result ≤ 2 ^ 40 }
+        ensures small { result ≤ most_number }
     {
         let message = &self.held.messages[m.0 as usize];
         message.delay
@@ -257,7 +258,7 @@ impl Spec {
     pub fn quantity(&self, m: MsgNo) -> u64
         requires { m.0 < length self.now.messages }
         ensures quantity { result ≡ (message_at self.now m.0).quantity }
-        ensures small { result ≤ 2 ^ 40 }
+        ensures small { result ≤ most_number }
     {
         let message = &self.held.messages[m.0 as usize];
         message.quantity
@@ -284,7 +285,7 @@ impl Spec {
         ensures time { result.time ≡ (option_at self.now o.0).time }
         ensures task_there { result.task.0 < length self.now.tasks }
         ensures resource_there { result.resource.0 < length self.now.resources }
-        ensures small { result.time ≤ 2 ^ 40 }
+        ensures small { result.time ≤ most_number }
     {
         self.held.options.at(o.0 as usize)
     }
@@ -295,7 +296,7 @@ impl Spec {
         ensures task { result.0.0 ≡ (deadline_at self.now i).task }
         ensures time { result.1 ≡ (deadline_at self.now i).time }
         ensures there { result.0.0 < length self.now.tasks }
-        ensures small { result.1 ≤ 2 ^ 40 }
+        ensures small { result.1 ≤ most_number }
     {
         let deadline = self.held.deadlines[i];
         (deadline.task, deadline.time)
@@ -337,7 +338,7 @@ impl Spec {
         requires message_there { m.0 < length self.now.messages }
         requires arc_there { a.0 < length self.now.arcs }
         ensures weight { result ≡ arc_weight self.now j m.0 a.0 }
-        ensures small { result ≤ 2 ^ 40 }
+        ensures small { result ≤ most_number }
     {
         let link = self.arc(a).link;
         weight_in(&self.held.traffic_weights, j, link.0 as usize) * self.quantity(m)
@@ -348,7 +349,7 @@ impl Spec {
         requires objective_there { j < length self.now.objectives }
         requires variable_there { variable < design_variables self.now }
         ensures weight { result ≡ weight self.now j variable }
-        ensures small { result ≤ 2 ^ 40 }
+        ensures small { result ≤ most_number }
     {
         let options = self.options() as u64;
         if variable < options {

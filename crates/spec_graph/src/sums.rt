@@ -2,8 +2,9 @@
 //!
 //! The numbers of options of the tasks are counted once, so that the sum over all receivers is cheap.
 
-ghost use Rattle.std.specs.Prelude.{◌≡◌, ◌<◌, ◌≤◌, ◌^◌, length, All, map, IfOk, sum_by, count_by};
+ghost use Rattle.std.specs.Prelude.{◌≡◌, ◌*◌, ◌<◌, ◌≤◌, ◌^◌, length, All, map, IfOk, sum_by, count_by};
 ghost use Rattle.spec_model.specs.Spec.{below};
+ghost use Rattle.spec_model.specs.Limits.{most_messages, most_resources, most_links, most_options};
 ghost use Rattle.spec_graph.specs.Sums.{kept_further, kept_terms, is_of_task, options_of_task, count_at, IsCounted};
 
 use crate::messages::Message;
@@ -13,9 +14,9 @@ use std::cmp::min;
 
 /// How many further variables the messages account for.
 pub fn sum_further(messages: &[Message], resources: u64, most: u64) -> u64
-    requires few_messages { length messages.now ≤ 2048 }
-    requires few_resources { resources ≤ 256 }
-    requires few_hops { most < 256 }
+    requires few_messages { length messages.now ≤ most_messages }
+    requires few_resources { resources ≤ most_resources }
+    requires few_hops { most < most_resources }
     ensures sum { result ≡ sum_by (kept_further resources most) messages.now }
     ensures small { result ≤ 2 ^ 28 }
 {
@@ -54,7 +55,7 @@ pub fn option_counts(
 /// How many options the tasks have together.
 fn sum_counts(tasks: &[TaskNo], counts: &[usize]) -> u128
     requires there { All (λ t. t.0 < length counts.now) tasks.now }
-    requires few { All (λ n. n ≤ 16384) counts.now }
+    requires few { All (λ n. n ≤ most_options) counts.now }
     ensures sum { result ≡ sum_by (count_at counts.now) tasks.now }
     ensures small { result < 2 ^ 80 }
 {
@@ -67,12 +68,12 @@ fn sum_counts(tasks: &[TaskNo], counts: &[usize]) -> u128
 
 /// How many terms a message accounts for.
 fn message_terms(message: &Message, counts: &[usize], resources: u64, arcs: u64, most: u64) -> u128
-    requires few_resources { resources ≤ 256 }
-    requires few_arcs { arcs ≤ 2048 }
-    requires few_hops { most < 256 }
+    requires few_resources { resources ≤ most_resources }
+    requires few_arcs { arcs ≤ 2 * most_links }
+    requires few_hops { most < most_resources }
     requires sender_there { message.now.sender < length counts.now }
     requires receivers_there { All (λ w. w < length counts.now) message.now.receivers }
-    requires few { All (λ n. n ≤ 16384) counts.now }
+    requires few { All (λ n. n ≤ most_options) counts.now }
     ensures terms { result ≡ kept_terms counts.now resources arcs most message.now }
     ensures small { result < 2 ^ 90 }
 {
@@ -90,12 +91,12 @@ pub fn sum_terms(
     arcs: u64,
     most: u64,
 ) -> u128
-    requires few_messages { length messages.now ≤ 2048 }
-    requires few_resources { resources ≤ 256 }
-    requires few_arcs { arcs ≤ 2048 }
-    requires few_hops { most < 256 }
+    requires few_messages { length messages.now ≤ most_messages }
+    requires few_resources { resources ≤ most_resources }
+    requires few_arcs { arcs ≤ 2 * most_links }
+    requires few_hops { most < most_resources }
     requires there { All (IsCounted counts.now) messages.now }
-    requires few { All (λ n. n ≤ 16384) counts.now }
+    requires few { All (λ n. n ≤ most_options) counts.now }
     ensures sum { result ≡ sum_by (kept_terms counts.now resources arcs most) messages.now }
     ensures small { result < 2 ^ 110 }
 {

@@ -22,7 +22,7 @@ use Rattle.spec_join.specs.Joining.{Joining, start}
 use Rattle.spec_join.specs.Effects.{effect}
 use Rattle.tgff_reader.specs.Facts.{TgffValue}
 use Rattle.table_cells.specs.Least.{IsLeast}
-use Rattle.spec_join.specs.Refusals.{IsPast, Breaks, BreaksPlain}
+use Rattle.spec_join.specs.Refusals.{IsPast, StatementBreaks, BreaksPlain}
 use Rattle.spec_join.specs.Reading.{after, after_all, statement_at, NoneBreaks, IsJoined, JoinReads}
 use Rattle.spec_join.specs.Stops.{IsFirst, IsAccepted, Accepts, Refuses, RefusesEnd, AcceptsEnd, IsRefused}
 
@@ -81,7 +81,8 @@ first_least s st Cyclic f = record { holds = f.3; least = least_cyclic s st f }
 first_least s st (Limit what) f = record { holds = f.4; least = least_limit s st what f }
 first_least s st _ f = absurd f
 
-none_plain : (s : Joining) (st : Statement) → IsAccepted s st → (why : Why) → BreaksPlain s st why → ⊥
+-- a statement that is accepted is refused for nothing that has to do with no table
+pub none_plain : (s : Joining) (st : Statement) → IsAccepted s st → (why : Why) → BreaksPlain s st why → ⊥
 none_plain s st a BadStatement h = a.good h
 none_plain s st a UnknownName h = a.known h
 none_plain s st a RepeatedName h = a.once h
@@ -90,7 +91,7 @@ none_plain s st a (Limit what) h = a.room what h
 none_plain s st a _ h = h
 
 -- what a statement is refused for is the lowest of what it breaks
-least_refused : (s : Joining) (st : Statement) (why : Why) → Refuses s st (Broken why) → IsLeast (Breaks s st) why
+least_refused : (s : Joining) (st : Statement) (why : Why) → Refuses s st (Broken why) → IsLeast (StatementBreaks s st) why
 least_refused s (Table name index resource keys weights_at) why r = r
 least_refused s (QuantityTable name index column rows) why r = r
 least_refused s (Objective name scale floor) why r = first_least s (Objective name scale floor) why r
@@ -108,7 +109,7 @@ least_refused s (Delay message amount) why r = first_least s (Delay message amou
 least_refused s (Deadline task at) why r = first_least s (Deadline task at) why r
 
 -- a statement that is accepted breaks nothing
-none_breaks : (s : Joining) (st : Statement) → Accepts s st → (why : Why) → Breaks s st why → ⊥
+none_breaks : (s : Joining) (st : Statement) → Accepts s st → (why : Why) → StatementBreaks s st why → ⊥
 none_breaks s (Table name index resource keys weights_at) a = a
 none_breaks s (QuantityTable name index column rows) a = a
 none_breaks s (Objective name scale floor) a = none_plain s (Objective name scale floor) a
@@ -130,7 +131,8 @@ pub stands : (ls : List ArchLine) (k : ℕ) (l : ArchLine) → k < length ls →
 stands ls k l lt e = get_or-map statement_of ls k l (Task []) lt ∙ ap statement_of (sym e)
 
 -- one more statement is carried out
-pub after_more : (tgff : TgffValue) (ls : List ArchLine) (k : ℕ) (l : ArchLine) (old new : Joining) → k < length ls → l ≡ get_or ls k l → old ≡ after tgff (statements_in ls) k → new ≡ effect old l.statement → new ≡ after tgff (statements_in ls) (k + 1)
+pub after_more : (tgff : TgffValue) (ls : List ArchLine) (k : ℕ) (l : ArchLine) (old new : Joining) → k < length ls → l ≡ get_or ls k l → old ≡ after tgff (statements_in ls) k
+    → new ≡ effect old l.statement → new ≡ after tgff (statements_in ls) (k + 1)
 after_more tgff ls k l old new lt e eo en =
     let sts = statements_in ls in
     let w : k < length sts = omega (arith, lt, length-map ls statement_of) in
@@ -139,7 +141,8 @@ after_more tgff ls k l old new lt e eo en =
     ∙ ap (effect (after tgff sts k)) (sym (stands ls k l lt e))
     ∙ sym (fold_more effect (start tgff (seen sts)) sts k (Task []) w)
 
-pub none_more : (tgff : TgffValue) (ls : List ArchLine) (k : ℕ) (l : ArchLine) (old : Joining) → k < length ls → l ≡ get_or ls k l → old ≡ after tgff (statements_in ls) k → NoneBreaks tgff (statements_in ls) k → Accepts old l.statement → NoneBreaks tgff (statements_in ls) (k + 1)
+pub none_more : (tgff : TgffValue) (ls : List ArchLine) (k : ℕ) (l : ArchLine) (old : Joining) → k < length ls → l ≡ get_or ls k l → old ≡ after tgff (statements_in ls) k
+    → NoneBreaks tgff (statements_in ls) k → Accepts old l.statement → NoneBreaks tgff (statements_in ls) (k + 1)
 none_more tgff ls k l old lt e eo none a = λ i why x b. go i why b (cases_lt i k) x
   where
     sts : List Statement
@@ -148,18 +151,20 @@ none_more tgff ls k l old lt e eo none a = λ i why x b. go i why b (cases_lt i 
     at : Accepts (after tgff sts k) (statement_at sts k)
     at = subst (λ (st : Statement). Accepts (after tgff sts k) st) (sym (stands ls k l lt e)) (subst (λ (s : Joining). Accepts s l.statement) eo a)
 
-    go : (i : ℕ) (why : Why) → Breaks (after tgff sts i) (statement_at sts i) why → (i < k) ⊎ (k ≤ i) → i < k + 1 → ⊥
+    go : (i : ℕ) (why : Why) → StatementBreaks (after tgff sts i) (statement_at sts i) why → (i < k) ⊎ (k ≤ i) → i < k + 1 → ⊥
     go i why b (inl y) x = none i why y b
     go i why b (inr y) x =
         let same : i ≡ k = omega (arith, x, y) in
-        none_breaks (after tgff sts k) (statement_at sts k) at why (subst (λ (j : ℕ). Breaks (after tgff sts j) (statement_at sts j) why) same b)
+        none_breaks (after tgff sts k) (statement_at sts k) at why (subst (λ (j : ℕ). StatementBreaks (after tgff sts j) (statement_at sts j) why) same b)
 
 -- a statement that is refused stops joining at its line
-pub stopped : (tgff : TgffValue) (ls : List ArchLine) (k : ℕ) (l : ArchLine) (old : Joining) (stop : Stop) → k < length ls → l ≡ get_or ls k l → old ≡ after tgff (statements_in ls) k → NoneBreaks tgff (statements_in ls) k → Refuses old l.statement stop → IsRefused tgff ls (fault_at Arch l.line stop)
+pub stopped : (tgff : TgffValue) (ls : List ArchLine) (k : ℕ) (l : ArchLine) (old : Joining) (stop : Stop) → k < length ls → l ≡ get_or ls k l → old ≡ after tgff (statements_in ls) k
+    → NoneBreaks tgff (statements_in ls) k → Refuses old l.statement stop → IsRefused tgff ls (fault_at Arch l.line stop)
 stopped tgff ls k l old NoMemory lt e eo none r = tt
 stopped tgff ls k l old (Broken why) lt e eo none r =
     let sts = statements_in ls in
-    let f : Refuses (after tgff sts k) (statement_at sts k) (Broken why) = subst (λ (st : Statement). Refuses (after tgff sts k) st (Broken why)) (sym (stands ls k l lt e)) (subst (λ (s : Joining). Refuses s l.statement (Broken why)) eo r) in (
+    let f : Refuses (after tgff sts k) (statement_at sts k) (Broken why) = subst (λ (st : Statement). Refuses (after tgff sts k) st (Broken why)) (sym (stands ls k l lt e))
+    (subst (λ (s : Joining). Refuses s l.statement (Broken why)) eo r) in (
       refl,
       record {
         place = k;
@@ -171,12 +176,14 @@ stopped tgff ls k l old (Broken why) lt e eo none r =
     )
 
 -- what stops at the end
-pub stopped_at_end : (tgff : TgffValue) (file : ArchValue) (s : Joining) (stop : Stop) → s ≡ after tgff (statements_in file.lines) (length file.lines) → NoneBreaks tgff (statements_in file.lines) (length file.lines) → RefusesEnd s.plan stop → JoinReads tgff file (Err (fault_at Arch file.end_line stop))
+pub stopped_at_end : (tgff : TgffValue) (file : ArchValue) (s : Joining) (stop : Stop) → s ≡ after tgff (statements_in file.lines) (length file.lines)
+    → NoneBreaks tgff (statements_in file.lines) (length file.lines) → RefusesEnd s.plan stop → JoinReads tgff file (Err (fault_at Arch file.end_line stop))
 stopped_at_end tgff file s NoMemory e none r = tt
 stopped_at_end tgff file s (Broken why) e none r = (refl, inr (record { line_is = refl; before = none; here = subst (λ (x : Joining). RefusesEnd x.plan (Broken why)) e r }))
 
 -- nothing is refused
-pub joined : (tgff : TgffValue) (file : ArchValue) (ls : List ArchLine) (s : Joining) (spec : SpecValue) → ls ≡ file.lines → s ≡ after_all tgff ls → NoneBreaks tgff (statements_in ls) (length ls) → AcceptsEnd s.plan → spec ≡ finished s.plan → IsJoined tgff file spec
+pub joined : (tgff : TgffValue) (file : ArchValue) (ls : List ArchLine) (s : Joining) (spec : SpecValue) → ls ≡ file.lines → s ≡ after_all tgff ls → NoneBreaks tgff (statements_in ls) (length ls)
+    → AcceptsEnd s.plan → spec ≡ finished s.plan → IsJoined tgff file spec
 joined tgff file ls s spec e m none a v =
     let made : s ≡ after_all tgff file.lines = m ∙ ap (after_all tgff) e in
     record {
@@ -186,7 +193,9 @@ joined tgff file ls s spec e m none a v =
     }
 
 -- the end is refused, in what the code has of the file
-pub ended : (tgff : TgffValue) (file : ArchValue) (ls : List ArchLine) (line : ℕ) (s : Joining) (stop : Stop) (fault : ReadFault) → ls ≡ file.lines → line ≡ file.end_line → s ≡ after_all tgff ls → NoneBreaks tgff (statements_in ls) (length ls) → RefusesEnd s.plan stop → fault ≡ fault_at Arch line stop → JoinReads tgff file (Err fault)
+pub ended : (tgff : TgffValue) (file : ArchValue) (ls : List ArchLine) (line : ℕ) (s : Joining) (stop : Stop) (fault : ReadFault) → ls ≡ file.lines → line ≡ file.end_line → s ≡ after_all tgff ls
+    → NoneBreaks tgff (statements_in ls) (length ls) → RefusesEnd s.plan stop → fault ≡ fault_at Arch line stop → JoinReads tgff file (Err fault)
 ended tgff file ls line s stop fault e el m none r ef =
-    let h : JoinReads tgff file (Err (fault_at Arch file.end_line stop)) = stopped_at_end tgff file s stop (m ∙ ap (after_all tgff) e) (subst (λ (xs : List ArchLine). NoneBreaks tgff (statements_in xs) (length xs)) e none) r in
+    let h : JoinReads tgff file (Err (fault_at Arch file.end_line stop)) = stopped_at_end tgff file s stop (m ∙ ap (after_all tgff) e)
+    (subst (λ (xs : List ArchLine). NoneBreaks tgff (statements_in xs) (length xs)) e none) r in
     subst (λ (f : ReadFault). JoinReads tgff file (Err f)) (sym (ef ∙ ap (λ (n : ℕ). fault_at Arch n stop) el)) h

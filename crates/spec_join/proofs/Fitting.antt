@@ -1,15 +1,13 @@
 -- What was read of a statement is what its carrying out needs.
 use Rattle.std.proofs.Common.{◌≡◌, ◌≢◌, ℕ, ℤ, ◌+◌, ◌≤◌, ◌<◌, ◌^◌, zero, suc, Bool, true, false, not, cond, List, [], ◌∷◌, ◌++◌, length, get_or, map, Option, None, Some, refl, sym, ap, subst, ◌∙◌, arith, Contains}
-use Rattle.std.specs.Prelude.{nat_le, is_none, ◌||◌, ◌&&◌, ◌==◌}
-use Rattle.std.specs.List.{list_all}
+use Rattle.std.specs.Prelude.{nat_le, is_none, ◌&&◌}
 use Rattle.std.specs.Option.{option_map_or}
 use Rattle.std.specs.Str.{bytes_eq}
 use Rattle.std.proofs.lemmas.Slice.Eq.{bytes_eq-Decides}
-use Rattle.std.proofs.lemmas.Bool.{false≢true, leb-false}
+use Rattle.std.proofs.lemmas.Bool.{false≢true, leb-false, or_parts, not-false}
 use Rattle.std.proofs.lemmas.List.{length-map, take-map, map-append}
-use Rattle.names.specs.Names.{IsName, is_name_byte}
+use Rattle.names.specs.Names.{IsName}
 use Rattle.spec_model.specs.Spec.{Name}
-use Rattle.line_words.specs.Text.{is_word_byte}
 use Rattle.file_bricks.specs.Words.{IsWord}
 use Rattle.arch_reader.specs.Numbers.{at_scale}
 use Rattle.std.specs.Option.{option_or}
@@ -18,53 +16,24 @@ use Rattle.tgff_reader.specs.Facts.{TgffValue}
 use Rattle.arch_reader.specs.Tests.{objective_called, is_declared, is_above, weights_of}
 use Rattle.arch_reader.specs.Arch.{AllPass, Passes, statement_of, statements_in}
 use Rattle.arch_reader.specs.declared.statement.ArchLine.{ArchLine}
-use Rattle.arch_reader.proofs.Places.{before_place, passes_at, seen_at-more}
+use Rattle.arch_reader.proofs.Places.{before_place, passes_at, seen_at_more}
 use Rattle.arch_reader.specs.declared.seen.Objective.{Objective as Declared}
 use Rattle.arch_reader.specs.declared.seen.Seen.{Seen}
 use Rattle.arch_reader.specs.declared.statement.Statement.{Statement}
 use Rattle.arch_reader.specs.declared.statement.Statement.TheVariants.{Objective, Clock, Resource, Link, Traffic, Task, Message, Merge, Map, Table, Quantity, QuantityTable, Hops, Delay, Deadline}
+use Rattle.graph_plan.proofs.Naming.{word_bytes}
 use Rattle.spec_join.specs.Joining.{Joining, SettingsValue, settings_of, with_declared, plan_with, objective_name, objective_scale, objective_floor, time_at, time_or_0}
 use Rattle.spec_join.specs.Reading.{after}
 use Rattle.spec_join.specs.Fits.{IsFit, IsDeclarable, AreWeighable}
 use Rattle.spec_join.proofs.Tying.{IsTied, tied}
 use Rattle.spec_join.proofs.Weighing.{weighable, known_keys, known_places, declared_of, not_declared, not_above}
 
-left_false : (a b : Bool) → (a || b) ≡ false → a ≡ false
-left_false true b h = h
-left_false false b h = refl
-
-right_false : (a b : Bool) → (a || b) ≡ false → b ≡ false
-right_false true b h = absurd (false≢true (sym h))
-right_false false b h = h
-
-not_false : (a : Bool) → not a ≡ false → a ≡ true
-not_false true h = refl
-not_false false h = absurd (false≢true (sym h))
-
-left_true : (a b : Bool) → (a && b) ≡ true → a ≡ true
-left_true true b h = refl
-left_true false b h = h
-
-right_true : (a b : Bool) → (a && b) ≡ true → b ≡ true
-right_true true b h = h
-right_true false b h = absurd (false≢true h)
-
-both_true : (a b : Bool) → a ≡ true → b ≡ true → (a && b) ≡ true
-both_true a b x y = ap (λ (c : Bool). c && b) x ∙ y
-
--- the bytes of a word are bytes of a name
-bytes_of : (bs : List ℕ) → list_all is_word_byte bs ≡ true → list_all is_name_byte bs ≡ true
-bytes_of [] h = refl
-bytes_of (b ∷ bs) h = both_true (is_name_byte b) (list_all is_name_byte bs)
-    (left_true (is_name_byte b) (not (b == 35)) (left_true (is_word_byte b) (list_all is_word_byte bs) h))
-    (bytes_of bs (right_true (is_word_byte b) (list_all is_word_byte bs) h))
-
 -- a word is a name
 pub named_of : (name : Name) → IsWord name → IsName name
-named_of name h = record { some = h.some; bytes = bytes_of name h.plain }
+named_of name h = record { some = h.some; bytes = word_bytes name h.plain }
 
 there : (was now : List Name) (name : Name) → now ≡ was → not (is_declared was name) ≡ false → Contains now name
-there was now name e h = subst (λ (ns : List Name). Contains ns name) (sym e) (declared_of was name (not_false (is_declared was name) h))
+there was now name e h = subst (λ (ns : List Name). Contains ns name) (sym e) (declared_of was name (not-false (is_declared was name) h))
 
 new : (was now : List Name) (name : Name) → now ≡ was → is_declared was name ≡ false → Contains now name → ⊥
 new was now name e h c = not_declared was name h (subst (λ (ns : List Name). Contains ns name) e c)
@@ -98,8 +67,8 @@ fits before s (Link name a b two_way ws) t p =
     record {
       named = named_of name p.name_is_word;
       new = new (seen before).links s.plan.links name t.links p.name_is_new;
-      a_there = there was s.plan.resources a t.resources (left_false (not (is_declared was a)) (not (is_declared was b)) p.resources_are_known);
-      b_there = there was s.plan.resources b t.resources (right_false (not (is_declared was a)) (not (is_declared was b)) p.resources_are_known);
+      a_there = there was s.plan.resources a t.resources (or_parts (not (is_declared was a)) (not (is_declared was b)) p.resources_are_known).0;
+      b_there = there was s.plan.resources b t.resources (or_parts (not (is_declared was a)) (not (is_declared was b)) p.resources_are_known).1;
       apart = apart a b p.no_self_link;
       weighable = weighable_of before s (Link name a b two_way ws) t p;
       room = room (seen before).links s.plan.links 1024 t.links p.links_are_few;
@@ -130,7 +99,8 @@ fits before s (QuantityTable name index column rows) t p = tt
 fits before s (Hops message limit) t p = tt
 
 -- a name that no objective has
-apart_by : (o : Declared) (os : List Declared) (name : Name) → (is_none (objective_called os name) ≡ true → Contains (map objective_name os) name → ⊥) → (b : Bool) → bytes_eq o.name name ≡ b → is_none (objective_called (o ∷ os) name) ≡ true → Contains (map objective_name (o ∷ os)) name → ⊥
+apart_by : (o : Declared) (os : List Declared) (name : Name) → (is_none (objective_called os name) ≡ true → Contains (map objective_name os) name → ⊥) → (b : Bool) → bytes_eq o.name name ≡ b
+    → is_none (objective_called (o ∷ os) name) ≡ true → Contains (map objective_name (o ∷ os)) name → ⊥
 apart_by o os name ih true e h c = false≢true (ap (λ (b : Bool). is_none (cond b (Some o) (objective_called os name))) (sym e) ∙ h)
 apart_by o os name ih false e h (zero, l, x) = false≢true (sym e ∙ (bytes_eq-Decides o.name name).1 x)
 apart_by o os name ih false e h (suc k, l, x) = ih (ap (λ (b : Bool). is_none (cond b (Some o) (objective_called os name))) (sym e) ∙ h) (k, omega (arith, l), x)
@@ -143,7 +113,7 @@ unknown_apart (o ∷ os) name h c = apart_by o os name (unknown_apart os name) (
 pub declarable : (before : List Statement) (st : Statement) → Passes before st → IsDeclarable (settings_of (seen before)) st
 declarable before (Objective name scale floor) p = record {
   named = named_of name p.name_is_word;
-  new = unknown_apart (seen before).objectives name (not_false (is_none (objective_called (seen before).objectives name)) p.name_is_new);
+  new = unknown_apart (seen before).objectives name (not-false (is_none (objective_called (seen before).objectives name)) p.name_is_new);
   room = omega (arith, length-map (seen before).objectives objective_name, leb-false 8 (length (seen before).objectives) p.objectives_are_few);
   no_resource = refl;
   no_link = refl;
@@ -165,7 +135,8 @@ declarable before (Delay message amount) p = tt
 declarable before (Deadline task at) p = tt
 
 -- the statement at a place fits what those before it made
-pub fits_at : (tgff : TgffValue) (ls : List ArchLine) (k : ℕ) (l : ArchLine) (s : Joining) → AllPass [] ls → k < length ls → l ≡ get_or ls k l → s ≡ after tgff (statements_in ls) k → IsFit s l.statement
+pub fits_at : (tgff : TgffValue) (ls : List ArchLine) (k : ℕ) (l : ArchLine) (s : Joining) → AllPass [] ls → k < length ls → l ≡ get_or ls k l → s ≡ after tgff (statements_in ls) k
+    → IsFit s l.statement
 fits_at tgff ls k l s a lt e es =
     let sts = statements_in ls in
     let before = before_place ls k in
@@ -174,7 +145,8 @@ fits_at tgff ls k l s a lt e es =
     subst (λ (x : Joining). IsFit x l.statement) (sym es) (fits before (after tgff sts k) l.statement t p)
 
 -- the statement at a place declares an objective where those before it are declared
-pub declarable_at : (ls : List ArchLine) (k : ℕ) (l : ArchLine) (s : SettingsValue) → AllPass [] ls → k < length ls → l ≡ get_or ls k l → s ≡ settings_of (seen (before_place ls k)) → IsDeclarable s l.statement
+pub declarable_at : (ls : List ArchLine) (k : ℕ) (l : ArchLine) (s : SettingsValue) → AllPass [] ls → k < length ls → l ≡ get_or ls k l → s ≡ settings_of (seen (before_place ls k))
+    → IsDeclarable s l.statement
 declarable_at ls k l s a lt e es =
     let before = before_place ls k in
     let p : Passes before l.statement = subst (λ (x : ArchLine). Passes before x.statement) (sym e) (passes_at ls k l a lt) in
@@ -193,11 +165,12 @@ more_declared s st =
     ∙ ap (λ (cs : List ℕ). set_with (map objective_name (os ++ new)) cs (map objective_floor os ++ map objective_floor new) clock) (sym (map-append objective_scale os new))
     ∙ ap (λ (fs : List Bool). set_with (map objective_name (os ++ new)) (map objective_scale (os ++ new)) fs clock) (sym (map-append objective_floor os new))
 
-pub declared_at : (ls : List ArchLine) (k : ℕ) (l : ArchLine) (old new : SettingsValue) → k < length ls → l ≡ get_or ls k l → old ≡ settings_of (seen (before_place ls k)) → new ≡ with_declared old l.statement → new ≡ settings_of (seen (before_place ls (k + 1)))
+pub declared_at : (ls : List ArchLine) (k : ℕ) (l : ArchLine) (old new : SettingsValue) → k < length ls → l ≡ get_or ls k l → old ≡ settings_of (seen (before_place ls k))
+    → new ≡ with_declared old l.statement → new ≡ settings_of (seen (before_place ls (k + 1)))
 declared_at ls k l old new lt e eo en =
     let s = seen (before_place ls k) in
     en
     ∙ ap (λ (x : SettingsValue). with_declared x l.statement) eo
     ∙ more_declared s l.statement
     ∙ ap (λ (x : ArchLine). settings_of (seen_after s x.statement)) e
-    ∙ ap settings_of (sym (seen_at-more ls k l lt))
+    ∙ ap settings_of (sym (seen_at_more ls k l lt))

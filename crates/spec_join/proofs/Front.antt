@@ -3,7 +3,7 @@ use Rattle.std.proofs.Common.{◌≡◌, ℕ, ◌+◌, List, [], ◌∷◌, leng
 use Rattle.std.proofs.lemmas.List.{length-map}
 use Rattle.spec_model.specs.Spec.{SpecValue}
 use Rattle.tgff_reader.specs.declared.file.Graph.{Graph}
-use Rattle.graph_plan.specs.Graphs.{task_in, message_of, with_graph, with_graphs, kind_of_task, kind_of_arc, kinds_of_tasks, kinds_of_arcs, task_kinds, message_kinds}
+use Rattle.graph_plan.specs.Graphs.{task_in, planned_message, with_graph, with_graphs, kind_of_task, kind_of_arc, kinds_of_tasks, kinds_of_arcs, task_kinds, message_kinds}
 
 -- the graphs change neither objectives nor resources nor links
 pub record GraphsKeep (old new : SpecValue) : Type 0 where
@@ -33,8 +33,8 @@ pub as_many_messages : (clock : ℕ) (p : SpecValue) (gs : List Graph) → lengt
 as_many_messages clock p [] = omega arith
 as_many_messages clock p (g ∷ gs) =
     let r = as_many_messages clock (with_graph clock p g) gs in
-    let a = length-append p.messages (map (message_of (length p.tasks)) g.arcs) in
-    let b = length-map g.arcs (message_of (length p.tasks)) in
+    let a = length-append p.messages (map (planned_message (length p.tasks)) g.arcs) in
+    let b = length-map g.arcs (planned_message (length p.tasks)) in
     let c = length-map g.arcs kind_of_arc in
     let d = length-append (kinds_of_arcs g) (message_kinds gs) in
     omega (arith, r, a, b, c, d)

@@ -16,7 +16,8 @@ other_at : (keys : List KeyColumn) (key : Name) (i k : ℕ) (d : KeyColumn) → 
 other_at keys key i k d le lt h = ap (has_key column_key key) (sym (get_or-take i keys k d lt)) ∙ h k d (omega (arith, length-take-le i keys le, lt))
 
 -- the first word that has the key
-pub column_found : (keys : List KeyColumn) (key : Name) (i : ℕ) (word : KeyColumn) → i < length keys → word ≡ get_or keys i word → has_key column_key key word ≡ true → All (IsOther key) (take i keys) → Some word.column ≡ column_of keys key
+pub column_found : (keys : List KeyColumn) (key : Name) (i : ℕ) (word : KeyColumn) → i < length keys → word ≡ get_or keys i word → has_key column_key key word ≡ true
+    → All (IsOther key) (take i keys) → Some word.column ≡ column_of keys key
 column_found keys key i word lt e has others =
     let found = find_first (has_key column_key key) keys word i lt (ap (has_key column_key key) (sym e) ∙ has) (λ k low. other_at keys key i k word (omega (arith, lt)) low others) in
     sym (ap (option_map column_in) found ∙ ap (λ (w : KeyColumn). Some w.column) (sym e))

@@ -6,18 +6,18 @@ use Rattle.std.proofs.lemmas.Bool.{cases_lt, false≢true}
 use Rattle.std.proofs.lemmas.List.{get_or-map, length-map, map_push, take_more, take_all}
 use Rattle.std.proofs.lemmas.List.Elements.{All-push}
 use Rattle.std.proofs.lemmas.List.Sums.{fails_before_first, passes_at_first}
-use Rattle.names.specs.Names.{IsNumberOf, number_of}
+use Rattle.names.specs.Names.{IsNumberOf, number_by_name}
 use Rattle.spec_model.specs.Spec.{Name, name_at}
 use Rattle.spec_model.specs.WellFormed.{AreDistinct}
 use Rattle.spec_graph.specs.Refusals.{HasTwice}
 use Rattle.spec_join.specs.Refusals.{HasMissing, IsListedTwice}
 
 -- a name that is there has a number
-pub number_there : (names : List Name) (name : Name) → Contains names name → IsNumberOf names name (number_of names name)
-number_there names name h = go (cases_lt (number_of names name) (length names))
+pub number_there : (names : List Name) (name : Name) → Contains names name → IsNumberOf names name (number_by_name names name)
+number_there names name h = go (cases_lt (number_by_name names name) (length names))
   where
     n : ℕ
-    n = number_of names name
+    n = number_by_name names name
 
     not_past : length names ≤ n → ⊥
     not_past l =
@@ -30,17 +30,17 @@ number_there names name h = go (cases_lt (number_of names name) (length names))
     go (inr l) = absurd (not_past l)
 
 -- two names of one number are one name
-pub same_name : (names : List Name) (a b : Name) → Contains names a → Contains names b → number_of names a ≡ number_of names b → a ≡ b
+pub same_name : (names : List Name) (a b : Name) → Contains names a → Contains names b → number_by_name names a ≡ number_by_name names b → a ≡ b
 same_name names a b x y e = sym (number_there names a x).same ∙ ap (λ (n : ℕ). name_at names n) e ∙ (number_there names b y).same
 
 -- the number at a place of a list of names
-number_at : (names listed : List Name) (k : ℕ) → k < length listed → get_or (map (number_of names) listed) k 0 ≡ number_of names (name_at listed k)
-number_at names listed k l = get_or-map (number_of names) listed k [] 0 l
+number_at : (names listed : List Name) (k : ℕ) → k < length listed → get_or (map (number_by_name names) listed) k 0 ≡ number_by_name names (name_at listed k)
+number_at names listed k l = get_or-map (number_by_name names) listed k [] 0 l
 
 -- where all names are there, a number is listed twice where a name is
-pub twice_of : (names listed : List Name) → All (Contains names) listed → HasTwice (map (number_of names) listed) → IsListedTwice listed
+pub twice_of : (names listed : List Name) → All (Contains names) listed → HasTwice (map (number_by_name names) listed) → IsListedTwice listed
 twice_of names listed known h =
-    let w : h.second < length listed = omega (arith, h.within, length-map listed (number_of names)) in
+    let w : h.second < length listed = omega (arith, h.within, length-map listed (number_by_name names)) in
     let v : h.first < length listed = omega (arith, h.before, w) in
     record {
       first = h.first;
@@ -51,15 +51,15 @@ twice_of names listed known h =
           (sym (number_at names listed h.first v) ∙ h.same ∙ number_at names listed h.second w);
     }
 
-pub twice_by : (names listed : List Name) → IsListedTwice listed → HasTwice (map (number_of names) listed)
+pub twice_by : (names listed : List Name) → IsListedTwice listed → HasTwice (map (number_by_name names) listed)
 twice_by names listed h =
     let v : h.first < length listed = omega (arith, h.before, h.within) in
     record {
       first = h.first;
       second = h.second;
       before = h.before;
-      within = omega (arith, h.within, length-map listed (number_of names));
-      same = number_at names listed h.first v ∙ ap (number_of names) h.same ∙ sym (number_at names listed h.second h.within);
+      within = omega (arith, h.within, length-map listed (number_by_name names));
+      same = number_at names listed h.first v ∙ ap (number_by_name names) h.same ∙ sym (number_at names listed h.second h.within);
     }
 
 -- where all names are there, none is missing
@@ -67,21 +67,23 @@ pub none_missing : (names listed : List Name) → All (Contains names) listed �
 none_missing names listed known h = h.4 (subst (Contains names) h.3 (known h.0 h.1 h.2))
 
 -- one more name, and its number behind the others
-pub numbers_more : {X : Type 0} (number : X → ℕ) (names listed : List Name) (i : ℕ) (items new : List X) (item : X) (name said : Name) → i < length listed → new ≡ items ++ item ∷ [] → name ≡ get_or listed i name → said ≡ name → number item ≡ number_of names said
-    → map number items ≡ map (number_of names) (take i listed) → map number new ≡ map (number_of names) (take (i + 1) listed)
+pub numbers_more : {X : Type 0} (number : X → ℕ) (names listed : List Name) (i : ℕ) (items new : List X) (item : X) (name said : Name) → i < length listed → new ≡ items ++ item ∷ []
+    → name ≡ get_or listed i name → said ≡ name → number item ≡ number_by_name names said
+    → map number items ≡ map (number_by_name names) (take i listed) → map number new ≡ map (number_by_name names) (take (i + 1) listed)
 numbers_more number names listed i items new item name said l e en es n h =
-    let last : number item ≡ number_of names (get_or listed i name) = n ∙ ap (number_of names) (es ∙ en) in
+    let last : number item ≡ number_by_name names (get_or listed i name) = n ∙ ap (number_by_name names) (es ∙ en) in
     ap (map number) e
     ∙ map_push number items item
     ∙ ap (λ (xs : List ℕ). xs ++ number item ∷ []) h
-    ∙ ap (λ (k : ℕ). map (number_of names) (take i listed) ++ k ∷ []) last
-    ∙ sym (map_push (number_of names) (take i listed) (get_or listed i name))
-    ∙ ap (map (number_of names)) (sym (take_more listed i name l))
+    ∙ ap (λ (k : ℕ). map (number_by_name names) (take i listed) ++ k ∷ []) last
+    ∙ sym (map_push (number_by_name names) (take i listed) (get_or listed i name))
+    ∙ ap (map (number_by_name names)) (sym (take_more listed i name l))
 
 pub there_more : {X : Type 0} (P : X → Type 0) (items new : List X) (item : X) → new ≡ items ++ item ∷ [] → All P items → P item → All P new
 there_more P items new item e h p = subst (All P) (sym e) (All-push P items item h p)
 
-pub known_more : (names listed : List Name) (i : ℕ) (name said : Name) → i < length listed → name ≡ get_or listed i name → said ≡ name → Contains names said → All (Contains names) (take i listed) → All (Contains names) (take (i + 1) listed)
+pub known_more : (names listed : List Name) (i : ℕ) (name said : Name) → i < length listed → name ≡ get_or listed i name → said ≡ name → Contains names said → All (Contains names) (take i listed)
+    → All (Contains names) (take (i + 1) listed)
 known_more names listed i name said l en es c h =
     subst (All (Contains names)) (sym (take_more listed i name l)) (All-push (Contains names) (take i listed) (get_or listed i name) h (subst (Contains names) (es ∙ en) c))
 

@@ -54,7 +54,8 @@ some_less {X} P xs i x lt e h = go (among_of P xs (i + 1) (omega (arith, lt)) h)
     ]
 
 -- one more item
-pub least_in_more : {X : Type 0} (P : Why → X → Type 0) (xs : List X) (i : ℕ) (x : X) (a b r : Option Why) → i < length xs → x ≡ get_or xs i x → r ≡ lower_of a b → IsLeastIn P (take i xs) a → IsLeastOrNone (λ why. P why x) b → IsLeastIn P (take (i + 1) xs) r
+pub least_in_more : {X : Type 0} (P : Why → X → Type 0) (xs : List X) (i : ℕ) (x : X) (a b r : Option Why) → i < length xs → x ≡ get_or xs i x → r ≡ lower_of a b → IsLeastIn P (take i xs) a
+    → IsLeastOrNone (λ why. P why x) b → IsLeastIn P (take (i + 1) xs) r
 least_in_more P xs i x a b r lt e lower first last =
     subst (IsLeastIn P (take (i + 1) xs)) (sym lower)
     (least_same (λ why. Any (P why) (take i xs) ⊎ P why x) (λ why. Any (P why) (take (i + 1) xs)) (lower_of a b)

@@ -1,7 +1,7 @@
 -- What the builder refuses is what a statement is refused for.
 use Rattle.std.proofs.Common.{◌≡◌, ◌≢◌, ℕ, ℤ, Bool, List, Option, sym, ap, subst, ◌∙◌, arith, All, Contains, get_or, ◌≤◌, ◌^◌, inl, inr, Result, Ok, Err, OnOk}
 use Rattle.std.proofs.lemmas.List.{get_or_default}
-use Rattle.names.specs.Names.{IsNumberOf, number_of}
+use Rattle.names.specs.Names.{IsNumberOf, number_by_name}
 use Rattle.spec_model.specs.Spec.{Name, name_at, choice}
 use Rattle.spec_graph.specs.Refusals.{HasBig, HasBigLink, HasBigOption, IsMapped, IsTaskRefused, IsTaskAccepted, IsResourceRefused, IsLinkRefused, IsOptionRefused, IsOptionAccepted, IsDeadlineRefused}
 use Rattle.spec_graph.specs.declared.faults.BuildFault.{BuildFault}
@@ -42,7 +42,8 @@ task_refused s name TooBig h = absurd h
 pub task_accepted : (s : Joining) (name : Name) → IsTaskAccepted s.plan name → IsAccepted s (Task name)
 task_accepted s name h = record { good = λ x. x; known = λ x. x; once = h.once; free = λ x. x; room = λ what x. absurd (omega (arith, h.room, x.1)) }
 
-pub resource_refused : (s : Joining) (name : Name) (ws : List KeyAmount) (row : List ℕ) (fault : BuildFault) → IsResourceRefused s.plan name row fault → IsFitResource s name ws → AreSmall row → Refuses s (Resource name ws) (stop_for fault)
+pub resource_refused : (s : Joining) (name : Name) (ws : List KeyAmount) (row : List ℕ) (fault : BuildFault) → IsResourceRefused s.plan name row fault → IsFitResource s name ws → AreSmall row
+    → Refuses s (Resource name ws) (stop_for fault)
 resource_refused s name ws row Repeated h fit small = absurd (fit.new h)
 resource_refused s name ws row TooBig h fit small = absurd (none_big row small h.1)
 resource_refused s name ws row (Limit what) h fit small = absurd (omega (arith, fit.room, h.3))
@@ -58,7 +59,8 @@ none_big_link row traffic r t (inr h) = none_big traffic t h
 apart_of : (names : List Name) (a b : Name) (n m : ℕ) → IsNumberOf names a n → IsNumberOf names b m → a ≢ b → n ≢ m
 apart_of names a b n m x y d e = d (sym x.same ∙ ap (λ (k : ℕ). name_at names k) e ∙ y.same)
 
-pub link_refused : (s : Joining) (name a b : Name) (two_way : Bool) (ws : List KeyAmount) (n m : ℕ) (row traffic : List ℕ) (fault : BuildFault) → IsLinkRefused s.plan name n m row traffic fault → IsFitLink s name a b ws
+pub link_refused : (s : Joining) (name a b : Name) (two_way : Bool) (ws : List KeyAmount) (n m : ℕ) (row traffic : List ℕ) (fault : BuildFault) → IsLinkRefused s.plan name n m row traffic fault
+    → IsFitLink s name a b ws
     → IsNumberOf s.plan.resources a n → IsNumberOf s.plan.resources b m → AreSmall row → AreSmall traffic → Refuses s (Link name a b two_way ws) (stop_for fault)
 link_refused s name a b two_way ws n m row traffic Repeated h fit x y r t = absurd (fit.new h)
 link_refused s name a b two_way ws n m row traffic SelfLink h fit x y r t = absurd (apart_of s.plan.resources a b n m x y fit.apart h.1)
@@ -72,11 +74,13 @@ none_big_option time row x r (inl h) = omega (arith, x, h)
 none_big_option time row x r (inr h) = none_big row r h
 
 -- a pair by its numbers or by its names
-mapped_of : (s : Joining) (task resource : Name) (n m : ℕ) → IsNumberOf s.plan.tasks task n → IsNumberOf s.plan.resources resource m → IsMapped s.plan n m → IsMapped s.plan (number_of s.plan.tasks task) (number_of s.plan.resources resource)
-mapped_of s task resource n m x y h = subst (λ (k : ℕ). IsMapped s.plan (number_of s.plan.tasks task) k) y.first (subst (λ (k : ℕ). IsMapped s.plan k m) x.first h)
+mapped_of : (s : Joining) (task resource : Name) (n m : ℕ) → IsNumberOf s.plan.tasks task n → IsNumberOf s.plan.resources resource m → IsMapped s.plan n m
+    → IsMapped s.plan (number_by_name s.plan.tasks task) (number_by_name s.plan.resources resource)
+mapped_of s task resource n m x y h = subst (λ (k : ℕ). IsMapped s.plan (number_by_name s.plan.tasks task) k) y.first (subst (λ (k : ℕ). IsMapped s.plan k m) x.first h)
 
-mapped_by : (s : Joining) (task resource : Name) (n m : ℕ) → IsNumberOf s.plan.tasks task n → IsNumberOf s.plan.resources resource m → IsMapped s.plan (number_of s.plan.tasks task) (number_of s.plan.resources resource) → IsMapped s.plan n m
-mapped_by s task resource n m x y h = subst (λ (k : ℕ). IsMapped s.plan n k) (sym y.first) (subst (λ (k : ℕ). IsMapped s.plan k (number_of s.plan.resources resource)) (sym x.first) h)
+mapped_by : (s : Joining) (task resource : Name) (n m : ℕ) → IsNumberOf s.plan.tasks task n → IsNumberOf s.plan.resources resource m
+    → IsMapped s.plan (number_by_name s.plan.tasks task) (number_by_name s.plan.resources resource) → IsMapped s.plan n m
+mapped_by s task resource n m x y h = subst (λ (k : ℕ). IsMapped s.plan n k) (sym y.first) (subst (λ (k : ℕ). IsMapped s.plan k (number_by_name s.plan.resources resource)) (sym x.first) h)
 
 pub map_refused : (s : Joining) (task resource : Name) (time : Option ℤ) (ws : List KeyAmount) (n m x : ℕ) (row : List ℕ) (fault : BuildFault) → IsOptionRefused s.plan (choice n m x) row fault
     → IsNumberOf s.plan.tasks task n → IsNumberOf s.plan.resources resource m → x ≤ 2 ^ 40 → AreSmall row → Refuses s (Map task resource time ws) (stop_for fault)

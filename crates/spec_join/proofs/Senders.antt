@@ -1,6 +1,5 @@
 -- The senders of messages that are named.
-use Rattle.std.proofs.Common.{◌≡◌, ℕ, ◌+◌, List, [], length, get_or, sym, ap, subst, ◌∙◌, arith, Contains, ◌<◌, ◌≤◌, ◌⊎◌, inl, inr, Option, None, Some}
-use Rattle.std.proofs.lemmas.Bool.{cases_lt}
+use Rattle.std.proofs.Common.{◌≡◌, ℕ, ◌+◌, List, [], length, get_or, sym, ap, subst, ◌∙◌, arith, Contains, ◌<◌, ◌≤◌, Option, None, Some, below_more}
 use Rattle.std.proofs.lemmas.List.{get_or_default}
 use Rattle.spec_model.specs.Spec.{Name, SpecValue, name_at}
 use Rattle.spec_graph.specs.declared.numbers.TaskNo.{TaskNo}
@@ -24,16 +23,6 @@ IsSenderOf p names n (Some t) = HaveSender p names n t.0
 place_is : (names : List Name) (i : ℕ) (name said : Name) → i < length names → name ≡ get_or names i name → said ≡ name → said ≡ name_at names i
 place_is names i name said l en es = es ∙ en ∙ get_or_default names i name [] l
 
--- what holds of the names before a place and of the one there holds of those before the next
-one_more : (P : ℕ → Type 0) (i : ℕ) → ((k : ℕ) → k < i → P k) → P i → (k : ℕ) → k < i + 1 → P k
-one_more P i h p k l = go (cases_lt k i)
-  where
-    go : (k < i) ⊎ (i ≤ k) → P k
-    go (inl x) = h k x
-    go (inr x) =
-        let e : i ≡ k = omega (arith, x, l) in
-        subst P e p
-
 abbrev IsAway : SpecValue → List Name → ℕ → Type 0
 IsAway p names k = Contains p.message_names (name_at names k) → ⊥
 
@@ -41,9 +30,10 @@ abbrev HasIt : SpecValue → List Name → ℕ → ℕ → Type 0
 HasIt p names sender k = Contains p.message_names (name_at names k) → sender_of p (name_at names k) ≡ sender
 
 -- a name that isn't a message's changes nothing
-pub sender_skips : (p : SpecValue) (names : List Name) (i : ℕ) (sender : Option TaskNo) (name said : Name) → i < length names → name ≡ get_or names i name → said ≡ name → (Contains p.message_names said → ⊥) → IsSenderOf p names i sender → IsSenderOf p names (i + 1) sender
+pub sender_skips : (p : SpecValue) (names : List Name) (i : ℕ) (sender : Option TaskNo) (name said : Name) → i < length names → name ≡ get_or names i name → said ≡ name
+    → (Contains p.message_names said → ⊥) → IsSenderOf p names i sender → IsSenderOf p names (i + 1) sender
 sender_skips p names i None name said l en es none h =
-    one_more (IsAway p names) i h (subst (λ (x : Name). Contains p.message_names x → ⊥) (place_is names i name said l en es) none)
+    below_more (IsAway p names) i h (subst (λ (x : Name). Contains p.message_names x → ⊥) (place_is names i name said l en es) none)
 sender_skips p names i (Some t) name said l en es none h =
     let away : IsAway p names i = subst (λ (x : Name). Contains p.message_names x → ⊥) (place_is names i name said l en es) none in
     record {
@@ -51,11 +41,12 @@ sender_skips p names i (Some t) name said l en es none h =
       before = omega (arith, h.before);
       there = h.there;
       sends = h.sends;
-      each = one_more (HasIt p names t.0) i h.each (λ c. absurd (away c));
+      each = below_more (HasIt p names t.0) i h.each (λ c. absurd (away c));
     }
 
 -- the first message that is there
-pub sender_first : (p : SpecValue) (names : List Name) (i : ℕ) (from : TaskNo) (name said : Name) → i < length names → name ≡ get_or names i name → said ≡ name → Contains p.message_names said → from.0 ≡ sender_of p said → IsSenderOf p names i None → IsSenderOf p names (i + 1) (Some from)
+pub sender_first : (p : SpecValue) (names : List Name) (i : ℕ) (from : TaskNo) (name said : Name) → i < length names → name ≡ get_or names i name → said ≡ name → Contains p.message_names said
+    → from.0 ≡ sender_of p said → IsSenderOf p names i None → IsSenderOf p names (i + 1) (Some from)
 sender_first p names i from name said l en es c e h =
     let at = place_is names i name said l en es in
     let sends : sender_of p (name_at names i) ≡ from.0 = ap (sender_of p) (sym at) ∙ sym e in
@@ -64,11 +55,12 @@ sender_first p names i from name said l en es c e h =
       before = omega arith;
       there = subst (Contains p.message_names) at c;
       sends = sends;
-      each = one_more (HasIt p names from.0) i (λ k x d. absurd (h k x d)) (λ d. sends);
+      each = below_more (HasIt p names from.0) i (λ k x d. absurd (h k x d)) (λ d. sends);
     }
 
 -- another message of the same sender
-pub sender_again : (p : SpecValue) (names : List Name) (i : ℕ) (first from : TaskNo) (name said : Name) → i < length names → name ≡ get_or names i name → said ≡ name → from.0 ≡ sender_of p said → first.0 ≡ from.0 → IsSenderOf p names i (Some first) → IsSenderOf p names (i + 1) (Some first)
+pub sender_again : (p : SpecValue) (names : List Name) (i : ℕ) (first from : TaskNo) (name said : Name) → i < length names → name ≡ get_or names i name → said ≡ name → from.0 ≡ sender_of p said
+    → first.0 ≡ from.0 → IsSenderOf p names i (Some first) → IsSenderOf p names (i + 1) (Some first)
 sender_again p names i first from name said l en es e same h =
     let at = place_is names i name said l en es in
     let sends : sender_of p (name_at names i) ≡ first.0 = ap (sender_of p) (sym at) ∙ sym e ∙ sym same in
@@ -77,7 +69,7 @@ sender_again p names i first from name said l en es e same h =
       before = omega (arith, h.before);
       there = h.there;
       sends = h.sends;
-      each = one_more (HasIt p names first.0) i h.each (λ d. sends);
+      each = below_more (HasIt p names first.0) i h.each (λ d. sends);
     }
 
 -- a listed name by its place

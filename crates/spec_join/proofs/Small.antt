@@ -1,4 +1,4 @@
--- The definitions, computed on a small file.
+-- The definitions, computed on a small file, against what was worked out by hand.
 use Rattle.std.proofs.Common.{◌≡◌, ℕ, ◌*◌, ◌^◌, List, [], ◌∷◌, Some, None, true, false, pos, codes, refl}
 use Rattle.spec_model.specs.Spec.{SpecValue, choice}
 use Rattle.spec_graph.specs.Plan.{finished}
@@ -63,5 +63,6 @@ states : (after no_graphs file 20).plan ≡ plan
 states = refl
 
 -- each hop limit is cut to one less than the number of resources
-cut : (finished (after no_graphs file 20).plan).messages ≡ record { sender = 1; receivers = 2 ∷ []; limit = 1; delay = 0; quantity = 1 } ∷ record { sender = 0; receivers = 1 ∷ 2 ∷ []; limit = 1; delay = 6; quantity = 5 } ∷ []
+cut : (finished (after no_graphs file 20).plan).messages ≡ record { sender = 1; receivers = 2 ∷ []; limit = 1; delay = 0; quantity = 1 }
+    ∷ record { sender = 0; receivers = 1 ∷ 2 ∷ []; limit = 1; delay = 6; quantity = 5 } ∷ []
 cut = refl

@@ -1,5 +1,5 @@
--- The definitions, computed on two graphs and their tables: the clock's scale, deadlines, delays, marks, rows, and a
--- quantity table after a merge.
+-- The definitions on two graphs and their tables, worked out by hand: the clock's scale, deadlines, delays, marks, rows,
+-- and a quantity table after a merge.
 use Rattle.std.proofs.Common.{◌≡◌, ℕ, ◌*◌, ◌-◌, ◌^◌, List, [], ◌∷◌, Some, None, true, false, pos, negsuc, codes, refl}
 use Rattle.spec_model.specs.Spec.{SpecValue, choice}
 use Rattle.arch_reader.specs.declared.statement.KeyColumn.{KeyColumn}

@@ -14,6 +14,7 @@ use Rattle.arch_reader.specs.declared.seen.Objective.{Objective as Declared}
 use Rattle.arch_reader.specs.declared.seen.Seen.{Seen}
 use Rattle.arch_reader.specs.declared.statement.Statement.{Statement}
 use Rattle.arch_reader.specs.declared.statement.Statement.TheVariants.{Objective, Clock, Resource, Link, Traffic, Task, Message, Merge, Map, Table, Quantity, QuantityTable, Hops, Delay, Deadline}
+use Rattle.arch_reader.proofs.Declared.{or_none}
 use Rattle.spec_join.specs.Joining.{Joining, start, plan_with, objective_name, objective_scale}
 use Rattle.spec_join.specs.Tables.{with_table}
 use Rattle.spec_join.specs.Quantities.{with_quantity_table}
@@ -28,10 +29,6 @@ pub record Keeps (s t : Joining) (st : Statement) : Type 0 where
   pub resources : t.plan.resources ≡ s.plan.resources ++ resources_in st
   pub links : t.plan.links ≡ s.plan.links ++ links_in st
   pub clock : t.clock ≡ option_or s.clock (clock_in st)
-
-or_none : (o : Option ℕ) → option_or o None ≡ o
-or_none None = refl
-or_none (Some n) = refl
 
 or_assoc : (a b c : Option ℕ) → option_or (option_or a b) c ≡ option_or a (option_or b c)
 or_assoc None b c = refl
@@ -49,11 +46,13 @@ silent s t st o c r l k er el ek = record {
 }
 
 -- a table line declares nothing
-table_keeps : (s : Joining) (t : Option TgffTable) (name : Name) (index : ℕ) (resource : Name) (keys places : List KeyColumn) → Keeps s (with_plan s (with_table s t resource keys places)) (Table name index resource keys places)
+table_keeps : (s : Joining) (t : Option TgffTable) (name : Name) (index : ℕ) (resource : Name) (keys places : List KeyColumn)
+    → Keeps s (with_plan s (with_table s t resource keys places)) (Table name index resource keys places)
 table_keeps s None name index resource keys places = silent s _ (Table name index resource keys places) refl refl refl refl refl refl refl refl
 table_keeps s (Some t) name index resource keys places = silent s _ (Table name index resource keys places) refl refl refl refl refl refl refl refl
 
-quantities_keep : (s : Joining) (t : Option TgffTable) (name : Name) (index column : ℕ) (rows : Option ℕ) → Keeps s (with_plan s (with_quantity_table s t column rows)) (QuantityTable name index column rows)
+quantities_keep : (s : Joining) (t : Option TgffTable) (name : Name) (index column : ℕ) (rows : Option ℕ)
+    → Keeps s (with_plan s (with_quantity_table s t column rows)) (QuantityTable name index column rows)
 quantities_keep s None name index column rows = silent s _ (QuantityTable name index column rows) refl refl refl refl refl refl refl refl
 quantities_keep s (Some t) name index column rows = silent s _ (QuantityTable name index column rows) refl refl refl refl refl refl refl refl
 

@@ -30,10 +30,14 @@ delay_refused s message amount NoMemory h = tt
 pub delay_accepted : (s : Joining) (message : Name) (amount : ℤ) → ¬ IsMissing s.plan.message_names message → IsAccepted s (Delay (Some message) amount)
 delay_accepted s message amount h = record { good = λ x. x; known = h; once = λ x. x; free = λ x. x; room = λ what x. x }
 
-pub hops_found : {X : Type 0} (r : Result X Stop) (s : Joining) (message : Option Name) (limit : ℕ) (name said : Name) → message ≡ Some name → said ≡ name → OnOk r (¬ IsMissing s.plan.message_names said) → OnOk r (IsAccepted s (Hops message limit))
+pub hops_found : {X : Type 0} (r : Result X Stop) (s : Joining) (message : Option Name) (limit : ℕ) (name said : Name) → message ≡ Some name → said ≡ name
+    → OnOk r (¬ IsMissing s.plan.message_names said) → OnOk r (IsAccepted s (Hops message limit))
 hops_found (Err e) s message limit name said m n h = tt
-hops_found (Ok x) s message limit name said m n h = subst (λ (o : Option Name). IsAccepted s (Hops o limit)) (sym m) (hops_accepted s name limit (subst (λ (k : Name). ¬ IsMissing s.plan.message_names k) n h))
+hops_found (Ok x) s message limit name said m n h =
+    subst (λ (o : Option Name). IsAccepted s (Hops o limit)) (sym m) (hops_accepted s name limit (subst (λ (k : Name). ¬ IsMissing s.plan.message_names k) n h))
 
-pub delay_found : {X : Type 0} (r : Result X Stop) (s : Joining) (message : Option Name) (amount : ℤ) (name said : Name) → message ≡ Some name → said ≡ name → OnOk r (¬ IsMissing s.plan.message_names said) → OnOk r (IsAccepted s (Delay message amount))
+pub delay_found : {X : Type 0} (r : Result X Stop) (s : Joining) (message : Option Name) (amount : ℤ) (name said : Name) → message ≡ Some name → said ≡ name
+    → OnOk r (¬ IsMissing s.plan.message_names said) → OnOk r (IsAccepted s (Delay message amount))
 delay_found (Err e) s message amount name said m n h = tt
-delay_found (Ok x) s message amount name said m n h = subst (λ (o : Option Name). IsAccepted s (Delay o amount)) (sym m) (delay_accepted s name amount (subst (λ (k : Name). ¬ IsMissing s.plan.message_names k) n h))
+delay_found (Ok x) s message amount name said m n h =
+    subst (λ (o : Option Name). IsAccepted s (Delay o amount)) (sym m) (delay_accepted s name amount (subst (λ (k : Name). ¬ IsMissing s.plan.message_names k) n h))

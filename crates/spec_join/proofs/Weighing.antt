@@ -9,9 +9,10 @@ use Rattle.std.specs.Str.{bytes_eq}
 use Rattle.std.proofs.lemmas.Slice.Eq.{bytes_eq-Decides}
 use Rattle.std.proofs.lemmas.Bool.{false≢true, false_from_ne_true, ltb-false}
 use Rattle.std.proofs.lemmas.List.Folds.{list_any_at, Any-from_list_any}
-use Rattle.names.specs.Names.{number_of}
+use Rattle.names.specs.Names.{number_by_name}
 use Rattle.spec_model.specs.Spec.{Name}
-use Rattle.arch_reader.specs.Numbers.{at_scale, greatest}
+use Rattle.spec_model.specs.Limits.{most_number}
+use Rattle.arch_reader.specs.Numbers.{at_scale}
 use Rattle.arch_reader.specs.Tests.{objective_called, is_unknown_weight, is_big_weight, is_above_for, is_above, is_declared, is_unknown, is_unknown_key, is_unknown_place}
 use Rattle.arch_reader.specs.declared.seen.Objective.{Objective as Declared}
 use Rattle.arch_reader.specs.Words.{is_table_key}
@@ -38,18 +39,18 @@ not_declared names name h c =
 
 -- an amount that isn't above is at most the greatest
 pub not_above : (scale : ℕ) (amount : ℤ) → is_above scale amount ≡ false → at_scale scale amount ≤ 2 ^ 40
-not_above scale amount h = ltb-false greatest (at_scale scale amount) h
+not_above scale amount h = ltb-false most_number (at_scale scale amount) h
 
 -- a key among objectives, and the amount at the scale of the first one of that name
 record IsFound (os : List Declared) (key : Name) (amount : ℤ) : Type 0 where
   known : Contains (map objective_name os) key
-  small : at_scale (get_or (map objective_scale os) (number_of (map objective_name os) key) 0) amount ≤ 2 ^ 40
+  small : at_scale (get_or (map objective_scale os) (number_by_name (map objective_name os) key) 0) amount ≤ 2 ^ 40
 
 here : (o : Declared) (os : List Declared) (key : Name) (amount : ℤ) → bytes_eq o.name key ≡ true → is_above o.scale amount ≡ false → IsFound (o ∷ os) key amount
 here o os key amount e h =
     let same : o.name ≡ key = (bytes_eq-Decides o.name key).0 e in
     let t : bytes_eq key o.name ≡ true = (bytes_eq-Decides key o.name).1 (sym same) in
-    let n : number_of (map objective_name (o ∷ os)) key ≡ 0 = ap (λ (b : Bool). cond (not b) (1 + number_of (map objective_name os) key) 0) t in
+    let n : number_by_name (map objective_name (o ∷ os)) key ≡ 0 = ap (λ (b : Bool). cond (not b) (1 + number_by_name (map objective_name os) key) 0) t in
     record {
       known = (0, omega arith, same);
       small = subst (λ (k : ℕ). at_scale (get_or (map objective_scale (o ∷ os)) k 0) amount ≤ 2 ^ 40) (sym n) (not_above o.scale amount h);
@@ -58,8 +59,8 @@ here o os key amount e h =
 further : (o : Declared) (os : List Declared) (key : Name) (amount : ℤ) → bytes_eq o.name key ≡ false → IsFound os key amount → IsFound (o ∷ os) key amount
 further o os key amount e f =
     let t : bytes_eq key o.name ≡ false = false_from_ne_true (bytes_eq key o.name) (λ x. false≢true (sym e ∙ (bytes_eq-Decides o.name key).1 (sym ((bytes_eq-Decides key o.name).0 x)))) in
-    let m : ℕ = number_of (map objective_name os) key in
-    let n : number_of (map objective_name (o ∷ os)) key ≡ 1 + m = ap (λ (b : Bool). cond (not b) (1 + m) 0) t in
+    let m : ℕ = number_by_name (map objective_name os) key in
+    let n : number_by_name (map objective_name (o ∷ os)) key ≡ 1 + m = ap (λ (b : Bool). cond (not b) (1 + m) 0) t in
     let up : 1 + m ≡ suc m = omega arith in
     record {
       known = (suc f.known.0, omega (arith, f.known.1), f.known.2);
@@ -69,7 +70,8 @@ further o os key amount e f =
 abbrev called : List Declared → Name → ℤ → Bool
 called os key amount = option_map_or (is_above_for amount) (objective_called os key) false
 
-found_by : (o : Declared) (os later : List Declared) (key : Name) (amount : ℤ) → (is_none (objective_called os key) ≡ false → called os key amount ≡ false → IsFound (os ++ later) key amount) → (b : Bool) → bytes_eq o.name key ≡ b
+found_by : (o : Declared) (os later : List Declared) (key : Name) (amount : ℤ) → (is_none (objective_called os key) ≡ false → called os key amount ≡ false → IsFound (os ++ later) key amount)
+    → (b : Bool) → bytes_eq o.name key ≡ b
     → is_none (objective_called (o ∷ os) key) ≡ false → called (o ∷ os) key amount ≡ false → IsFound (o ∷ (os ++ later)) key amount
 found_by o os later key amount ih true e u a = here o (os ++ later) key amount e (ap (λ (b : Bool). option_map_or (is_above_for amount) (cond b (Some o) (objective_called os key)) false) (sym e) ∙ a)
 found_by o os later key amount ih false e u a = further o (os ++ later) key amount e (ih
@@ -80,13 +82,15 @@ found : (os later : List Declared) (key : Name) (amount : ℤ) → is_none (obje
 found [] later key amount u a = absurd (false≢true (sym u))
 found (o ∷ os) later key amount u a = found_by o os later key amount (found os later key amount) (bytes_eq o.name key) refl u a
 
-pub weighable : (os later : List Declared) (names : List Name) (scales : List ℕ) (ws : List KeyAmount) → names ≡ map objective_name (os ++ later) → scales ≡ map objective_scale (os ++ later) → list_any (is_unknown_weight os) ws ≡ false → list_any (is_big_weight os) ws ≡ false → All (IsWeighable names scales) ws
+pub weighable : (os later : List Declared) (names : List Name) (scales : List ℕ) (ws : List KeyAmount) → names ≡ map objective_name (os ++ later) → scales ≡ map objective_scale (os ++ later)
+    → list_any (is_unknown_weight os) ws ≡ false → list_any (is_big_weight os) ws ≡ false → All (IsWeighable names scales) ws
 weighable os later names scales ws en es u b = λ k d l. one (get_or ws k d) (any_false (is_unknown_weight os) ws u k d l) (any_false (is_big_weight os) ws b k d l)
   where
     one : (w : KeyAmount) → is_unknown_weight os w ≡ false → is_big_weight os w ≡ false → IsWeighable names scales w
     one w x y =
         let f = found os later w.key w.amount x y in
-        subst (λ (ns : List Name). IsWeighable ns scales w) (sym en) (subst (λ (cs : List ℕ). IsWeighable (map objective_name (os ++ later)) cs w) (sym es) (record { known = f.known; small = f.small }))
+        subst (λ (ns : List Name). IsWeighable ns scales w) (sym en) (subst (λ (cs : List ℕ). IsWeighable (map objective_name (os ++ later)) cs w) (sym es)
+        (record { known = f.known; small = f.small }))
 
 -- ---- the keys of a table line
 
@@ -94,7 +98,8 @@ known_in : (os : List Declared) (key : Name) → is_unknown os key ≡ false →
 known_in [] key h = absurd (false≢true (sym h))
 known_in (o ∷ os) key h = known_by o os key (known_in os key) (bytes_eq o.name key) refl h
   where
-    known_by : (o : Declared) (os : List Declared) (key : Name) → (is_unknown os key ≡ false → Contains (map objective_name os) key) → (b : Bool) → bytes_eq o.name key ≡ b → is_unknown (o ∷ os) key ≡ false → Contains (map objective_name (o ∷ os)) key
+    known_by : (o : Declared) (os : List Declared) (key : Name) → (is_unknown os key ≡ false → Contains (map objective_name os) key) → (b : Bool) → bytes_eq o.name key ≡ b
+        → is_unknown (o ∷ os) key ≡ false → Contains (map objective_name (o ∷ os)) key
     known_by o os key ih true e u = (0, omega arith, (bytes_eq-Decides o.name key).0 e)
     known_by o os key ih false e u =
         let c = ih (ap (λ (b : Bool). is_none (cond b (Some o) (objective_called os key))) (sym e) ∙ u) in
@@ -110,8 +115,11 @@ not_both : (a b : Bool) → (not a && b) ≡ false → a ≡ false → b ≡ fal
 not_both true b h e = absurd (false≢true (sym e))
 not_both false b h e = h
 
-pub known_keys : (os later : List Declared) (names : List Name) (keys : List KeyColumn) → names ≡ map objective_name (os ++ later) → list_any (is_unknown_key os) keys ≡ false → All (IsKnownKey names) keys
-known_keys os later names keys e h = λ k d l t. known_later os later names (get_or keys k d).key e (not_both (is_table_key (get_or keys k d).key) (is_unknown os (get_or keys k d).key) (any_false (is_unknown_key os) keys h k d l) t)
+pub known_keys : (os later : List Declared) (names : List Name) (keys : List KeyColumn) → names ≡ map objective_name (os ++ later) → list_any (is_unknown_key os) keys ≡ false
+    → All (IsKnownKey names) keys
+known_keys os later names keys e h =
+    λ k d l t. known_later os later names (get_or keys k d).key e (not_both (is_table_key (get_or keys k d).key) (is_unknown os (get_or keys k d).key) (any_false (is_unknown_key os) keys h k d l) t)
 
-pub known_places : (os later : List Declared) (names : List Name) (places : List KeyColumn) → names ≡ map objective_name (os ++ later) → list_any (is_unknown_place os) places ≡ false → All (IsKnownPlace names) places
+pub known_places : (os later : List Declared) (names : List Name) (places : List KeyColumn) → names ≡ map objective_name (os ++ later) → list_any (is_unknown_place os) places ≡ false
+    → All (IsKnownPlace names) places
 known_places os later names places e h = λ k d l. known_later os later names (get_or places k d).key e (any_false (is_unknown_place os) places h k d l)

@@ -2,7 +2,7 @@
 -- is refused.
 use Rattle.std.specs.Prelude.{ℕ, ℤ, List, [], ◌∷◌, ◌++◌, length, Option, None, Some, map, fold}
 use Rattle.std.specs.Option.{option_or}
-use Rattle.names.specs.Names.{number_of}
+use Rattle.names.specs.Names.{number_by_name}
 use Rattle.spec_model.specs.Spec.{Name, SpecValue, Message as MessageValue, Choice, choice}
 use Rattle.spec_graph.specs.Plan.{with_link, with_message}
 use Rattle.spec_graph.specs.Changes.{changed, with_changed}
@@ -41,7 +41,7 @@ with_deadline p task time = record p { deadlines = p.deadlines ++ record { task 
 
 -- the message of a name is changed
 abbrev pub with_change : SpecValue → Name → Change → SpecValue
-with_change p name change = record p { messages = with_changed p.messages (number_of p.message_names name) change }
+with_change p name change = record p { messages = with_changed p.messages (number_by_name p.message_names name) change }
 
 -- all messages are changed
 abbrev pub with_changes : SpecValue → Change → SpecValue
@@ -49,11 +49,11 @@ with_changes p change = record p { messages = map (changed change) p.messages }
 
 -- the traffic weights of a link that words name are set, and its others stay
 abbrev pub with_traffic : Joining → Name → List KeyAmount → SpecValue
-with_traffic s link ws = record s.plan { traffic_weights = fold (weighed_at s.plan.objectives s.scales (number_of s.plan.links link)) s.plan.traffic_weights ws }
+with_traffic s link ws = record s.plan { traffic_weights = fold (weighed_at s.plan.objectives s.scales (number_by_name s.plan.links link)) s.plan.traffic_weights ws }
 
 -- the option of a task on a resource
 abbrev pub option_between : Joining → Name → Name → Option ℤ → Choice
-option_between s task resource time = choice (number_of s.plan.tasks task) (number_of s.plan.resources resource) (time_or_0 s time)
+option_between s task resource time = choice (number_by_name s.plan.tasks task) (number_by_name s.plan.resources resource) (time_or_0 s time)
 
 -- a hop limit of all messages, now and later, or of one
 abbrev pub with_hops : Joining → Option Name → ℕ → Joining
@@ -86,15 +86,15 @@ abbrev pub effect : Joining → Statement → Joining
 effect s (Objective name scale floor) = s
 effect s (Clock scale floor) = record s { clock = option_or s.clock (Some (scale_or_0 scale)) }
 effect s (Resource name weights) = with_plan s (with_resource s.plan name (weights_of s weights))
-effect s (Link name a b two_way weights) = with_plan s (with_link s.plan name (number_of s.plan.resources a) (number_of s.plan.resources b) two_way (weights_of s weights) (no_weights s))
+effect s (Link name a b two_way weights) = with_plan s (with_link s.plan name (number_by_name s.plan.resources a) (number_by_name s.plan.resources b) two_way (weights_of s weights) (no_weights s))
 effect s (Traffic link weights) = with_plan s (with_traffic s link weights)
 effect s (Task name) = with_plan s (with_task s.plan name)
 effect s (Message name sender receivers) = with_new_message s name (message_between s sender receivers)
-effect s (Merge name messages) = with_merged s name (map (number_of s.plan.message_names) messages)
+effect s (Merge name messages) = with_merged s name (map (number_by_name s.plan.message_names) messages)
 effect s (Map task resource time weights) = with_plan s (with_option s.plan (option_between s task resource time) (weights_of s weights))
 effect s (Table name index resource keys weights_at) = with_plan s (with_table s (table_called s.tables name index) resource keys weights_at)
 effect s (Quantity message amount) = with_plan s (with_change s.plan message (changes.Quantity (at_scale 0 amount)))
 effect s (QuantityTable name index column rows) = with_plan s (with_quantity_table s (table_called s.tables name index) column rows)
 effect s (Hops message limit) = with_hops s message limit
 effect s (Delay message amount) = with_delay s message (time_at s amount)
-effect s (Deadline task at) = with_plan s (with_deadline s.plan (number_of s.plan.tasks task) (time_at s at))
+effect s (Deadline task at) = with_plan s (with_deadline s.plan (number_by_name s.plan.tasks task) (time_at s at))

@@ -1,7 +1,8 @@
 -- What is kept of a statement of a file that was read, said of what the statements before it made.
-use Rattle.std.specs.Prelude.{◌≡◌, ◌≢◌, ℕ, ℤ, false, ◌<◌, ◌≤◌, ◌^◌, List, Option, length, All, Contains}
-use Rattle.names.specs.Names.{IsName, number_of}
+use Rattle.std.specs.Prelude.{◌≡◌, ◌≢◌, ℕ, ℤ, false, ◌<◌, ◌≤◌, List, Option, length, All, Contains}
+use Rattle.names.specs.Names.{IsName, number_by_name}
 use Rattle.spec_model.specs.Spec.{Name}
+use Rattle.spec_model.specs.Limits.{most_resources, most_links, most_objectives, most_number}
 use Rattle.arch_reader.specs.Numbers.{at_scale}
 use Rattle.arch_reader.specs.Words.{is_table_key}
 use Rattle.arch_reader.specs.declared.statement.KeyAmount.{KeyAmount}
@@ -13,7 +14,7 @@ use Rattle.spec_join.specs.Joining.{Joining, SettingsValue, weight_of, time_at, 
 -- a word `OBJ=D` names an objective, and its weight isn't too big
 pub record IsWeighable (objectives : List Name) (scales : List ℕ) (w : KeyAmount) : Type 0 where
   pub known : Contains objectives w.key
-  pub small : weight_of scales (number_of objectives w.key) w.amount ≤ 2 ^ 40
+  pub small : weight_of scales (number_by_name objectives w.key) w.amount ≤ most_number
 
 abbrev pub AreWeighable : Joining → List KeyAmount → Type 0
 AreWeighable s ws = All (IsWeighable s.plan.objectives s.scales) ws
@@ -22,7 +23,7 @@ pub record IsFitResource (s : Joining) (name : Name) (weights : List KeyAmount) 
   pub named : IsName name
   pub new : ¬ Contains s.plan.resources name
   pub weighable : AreWeighable s weights
-  pub room : length s.plan.resources < 256
+  pub room : length s.plan.resources < most_resources
 
 pub record IsFitLink (s : Joining) (name a b : Name) (weights : List KeyAmount) : Type 0 where
   pub named : IsName name
@@ -31,7 +32,7 @@ pub record IsFitLink (s : Joining) (name a b : Name) (weights : List KeyAmount) 
   pub b_there : Contains s.plan.resources b
   pub apart : a ≢ b
   pub weighable : AreWeighable s weights
-  pub room : length s.plan.links < 1024
+  pub room : length s.plan.links < most_links
 
 pub record IsFitTraffic (s : Joining) (link : Name) (weights : List KeyAmount) : Type 0 where
   pub there : Contains s.plan.links link
@@ -40,7 +41,7 @@ pub record IsFitTraffic (s : Joining) (link : Name) (weights : List KeyAmount) :
 pub record IsFitMap (s : Joining) (resource : Name) (time : Option ℤ) (weights : List KeyAmount) : Type 0 where
   pub there : Contains s.plan.resources resource
   pub weighable : AreWeighable s weights
-  pub small : time_or_0 s time ≤ 2 ^ 40
+  pub small : time_or_0 s time ≤ most_number
 
 -- a key of a table line that isn't one of a table's own names an objective
 abbrev pub IsKnownKey : List Name → KeyColumn → Type 0
@@ -69,9 +70,9 @@ IsFit s (Message name sender receivers) = IsFitList name receivers
 IsFit s (Merge name messages) = IsFitList name messages
 IsFit s (Map task resource time weights) = IsFitMap s resource time weights
 IsFit s (Table name index resource keys weights_at) = IsFitTable s resource keys weights_at
-IsFit s (Quantity message amount) = at_scale 0 amount ≤ 2 ^ 40
-IsFit s (Delay message amount) = time_at s amount ≤ 2 ^ 40
-IsFit s (Deadline task at) = time_at s at ≤ 2 ^ 40
+IsFit s (Quantity message amount) = at_scale 0 amount ≤ most_number
+IsFit s (Delay message amount) = time_at s amount ≤ most_number
+IsFit s (Deadline task at) = time_at s at ≤ most_number
 IsFit s _ = Unit {0}
 
 -- a statement is about messages
@@ -93,7 +94,7 @@ IsOfTables st = ⊥
 pub record IsFitObjective (s : SettingsValue) (name : Name) : Type 0 where
   pub named : IsName name
   pub new : ¬ Contains s.plan.objectives name
-  pub room : length s.plan.objectives < 8
+  pub room : length s.plan.objectives < most_objectives
   pub no_resource : length s.plan.resources ≡ 0
   pub no_link : length s.plan.links ≡ 0
   pub no_option : length s.plan.options ≡ 0

@@ -1,7 +1,7 @@
 -- What a file of task graphs and tables and the statements of an architecture file have made so far.
 use Rattle.std.specs.Prelude.{ℕ, ℤ, ◌++◌, ◌-◌, ◌^◌, List, Bool, Option, None, Some, length, map, fold, replicate, slice_index_or, slice_set}
 use Rattle.std.specs.Option.{option_or}
-use Rattle.names.specs.Names.{number_of}
+use Rattle.names.specs.Names.{number_by_name}
 use Rattle.spec_model.specs.Spec.{Name, SpecValue, Message, empty_spec, message_at}
 use Rattle.spec_graph.specs.Changes.{with_weight}
 use Rattle.arch_reader.specs.Numbers.{at_scale}
@@ -92,11 +92,11 @@ weight_of scales j amount = at_scale (slice_index_or scales j 0) amount
 
 -- a row of weights in which a word `OBJ=D` sets the weight for its objective
 abbrev pub weighed : List Name → List ℕ → List ℕ → KeyAmount → List ℕ
-weighed objectives scales row w = slice_set row (number_of objectives w.key) (weight_of scales (number_of objectives w.key) w.amount)
+weighed objectives scales row w = slice_set row (number_by_name objectives w.key) (weight_of scales (number_by_name objectives w.key) w.amount)
 
 -- rows of weights in which such a word sets the weight of row i
 abbrev pub weighed_at : List Name → List ℕ → ℕ → List (List ℕ) → KeyAmount → List (List ℕ)
-weighed_at objectives scales i rows w = with_weight rows i (number_of objectives w.key) (weight_of scales (number_of objectives w.key) w.amount)
+weighed_at objectives scales i rows w = with_weight rows i (number_by_name objectives w.key) (weight_of scales (number_by_name objectives w.key) w.amount)
 
 -- a row in which words set weights
 abbrev pub weighed_all : Joining → List ℕ → List KeyAmount → List ℕ
@@ -122,8 +122,8 @@ time_or_0 s (Some amount) = time_at s amount
 -- a message between tasks of these names, with what later messages have
 abbrev pub message_between : Joining → Name → List Name → Message
 message_between s sender receivers = record {
-  sender = number_of s.plan.tasks sender;
-  receivers = map (number_of s.plan.tasks) receivers;
+  sender = number_by_name s.plan.tasks sender;
+  receivers = map (number_by_name s.plan.tasks) receivers;
   limit = s.hops;
   delay = s.delay;
   quantity = 1;
@@ -131,4 +131,4 @@ message_between s sender receivers = record {
 
 -- the task that sends the message of a name
 abbrev pub sender_of : SpecValue → Name → ℕ
-sender_of s name = (message_at s (number_of s.message_names name)).sender
+sender_of s name = (message_at s (number_by_name s.message_names name)).sender

@@ -15,7 +15,7 @@ use Rattle.spec_join.specs.Joining.{Joining, start}
 use Rattle.spec_join.specs.Effects.{effect}
 use Rattle.tgff_reader.specs.Facts.{TgffValue}
 use Rattle.table_cells.specs.Least.{IsLeast}
-use Rattle.spec_join.specs.Refusals.{Breaks, BreaksEnd}
+use Rattle.spec_join.specs.Refusals.{StatementBreaks, BreaksEnd}
 
 -- what the first n of a file's statements make, over the graphs and tables
 abbrev pub after : TgffValue → List Statement → ℕ → Joining
@@ -35,7 +35,7 @@ line_at lines n = slice_index_or lines n (record { line = 0; statement = Task []
 
 -- the statement at a place is to be refused for this, after what those before it made
 abbrev pub BreaksAt : TgffValue → List Statement → ℕ → Why → Type 0
-BreaksAt tgff statements n why = Breaks (after tgff statements n) (statement_at statements n) why
+BreaksAt tgff statements n why = StatementBreaks (after tgff statements n) (statement_at statements n) why
 
 -- none of the first n statements is to be refused
 abbrev pub NoneBreaks : TgffValue → List Statement → ℕ → Type 0

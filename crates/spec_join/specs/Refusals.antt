@@ -1,9 +1,10 @@
 -- What a statement is refused for, after what the statements before it made: one condition for each cause. What an
 -- architecture file was read for already isn't asked again.
-use Rattle.std.specs.Prelude.{◌≡◌, ◌≢◌, ℕ, ◌<◌, ◌≤◌, ◌^◌, ◌⊎◌, List, Option, None, Some, length, Any, Contains}
-use Rattle.names.specs.Names.{number_of}
+use Rattle.std.specs.Prelude.{◌≡◌, ◌≢◌, ℕ, ◌<◌, ◌≤◌, ◌⊎◌, List, Option, None, Some, length, Any, Contains}
+use Rattle.names.specs.Names.{number_by_name}
 use Rattle.spec_model.specs.Spec.{Name, SpecValue, name_at, all_variables}
 use Rattle.spec_model.specs.WellFormed.{size}
+use Rattle.spec_model.specs.Limits.{most_tasks, most_messages, most_options, most_variables, most_terms}
 use Rattle.spec_graph.specs.Plan.{finished}
 use Rattle.spec_graph.specs.Refusals.{ClosesCycle, IsMapped, HasBigProduct}
 use Rattle.line_words.specs.declared.refusals.Why.{Why}
@@ -74,7 +75,7 @@ abbrev pub IsRepeated : Joining → Statement → Type 0
 IsRepeated s (Task name) = Contains s.plan.tasks name
 IsRepeated s (Message name sender receivers) = Contains s.plan.message_names name ⊎ IsListedTwice receivers
 IsRepeated s (Merge name messages) = IsListedTwice messages ⊎ IsOfOther s.plan name messages
-IsRepeated s (Map task resource time weights) = IsMapped s.plan (number_of s.plan.tasks task) (number_of s.plan.resources resource)
+IsRepeated s (Map task resource time weights) = IsMapped s.plan (number_by_name s.plan.tasks task) (number_by_name s.plan.resources resource)
 IsRepeated s _ = ⊥
 
 -- Cyclic: the message closes a cycle of tasks
@@ -84,9 +85,9 @@ IsCyclic s _ = ⊥
 
 -- Limit: one more would be too many
 abbrev pub IsPast : Joining → Statement → What → Type 0
-IsPast s (Task name) what = (what ≡ Tasks) × (1024 ≤ length s.plan.tasks)
-IsPast s (Message name sender receivers) what = (what ≡ Messages) × (2048 ≤ length s.plan.messages)
-IsPast s (Map task resource time weights) what = (what ≡ Options) × (16384 ≤ length s.plan.options)
+IsPast s (Task name) what = (what ≡ Tasks) × (most_tasks ≤ length s.plan.tasks)
+IsPast s (Message name sender receivers) what = (what ≡ Messages) × (most_messages ≤ length s.plan.messages)
+IsPast s (Map task resource time weights) what = (what ≡ Options) × (most_options ≤ length s.plan.options)
 IsPast s _ what = ⊥
 
 -- a statement that uses no table breaks a rule and is to be refused for this
@@ -99,14 +100,14 @@ BreaksPlain s st (Limit what) = IsPast s st what
 BreaksPlain s st _ = ⊥
 
 -- a statement is to be refused for this
-abbrev pub Breaks : Joining → Statement → Why → Type 0
-Breaks s (Table name index resource keys weights_at) why = TableBreaks s (table_called s.tables name index) resource keys weights_at why
-Breaks s (QuantityTable name index column rows) why = QuantityTableBreaks s (table_called s.tables name index) column rows why
-Breaks s st why = BreaksPlain s st why
+abbrev pub StatementBreaks : Joining → Statement → Why → Type 0
+StatementBreaks s (Table name index resource keys weights_at) why = TableBreaks s (table_called s.tables name index) resource keys weights_at why
+StatementBreaks s (QuantityTable name index column rows) why = QuantityTableBreaks s (table_called s.tables name index) column rows why
+StatementBreaks s st why = BreaksPlain s st why
 
 -- the plan breaks a rule at the end
 abbrev pub BreaksEnd : SpecValue → Why → Type 0
 BreaksEnd p TooBig = HasBigProduct p
-BreaksEnd p (Limit Variables) = 2 ^ 20 < all_variables (finished p)
-BreaksEnd p (Limit Terms) = 2 ^ 23 < size (finished p)
+BreaksEnd p (Limit Variables) = most_variables < all_variables (finished p)
+BreaksEnd p (Limit Terms) = most_terms < size (finished p)
 BreaksEnd p _ = ⊥

@@ -19,7 +19,7 @@ use Rattle.tgff_reader.specs.Facts.{TgffValue}
 use Rattle.table_cells.specs.Least.{IsLeast}
 use Rattle.spec_join.specs.Joining.{Joining}
 use Rattle.spec_join.specs.Reading.{IsRefusedAt}
-use Rattle.spec_join.specs.Refusals.{IsBad, IsUnknown, IsRepeated, IsCyclic, IsPast, Breaks, BreaksEnd}
+use Rattle.spec_join.specs.Refusals.{IsBad, IsUnknown, IsRepeated, IsCyclic, IsPast, StatementBreaks, BreaksEnd}
 
 -- why joining stops where the builder refuses a call
 abbrev pub stop_for : BuildFault → Stop
@@ -41,8 +41,8 @@ IsFirst s st _ = ⊥
 
 -- a statement stops joining; memory may run out at any
 abbrev pub Refuses : Joining → Statement → Stop → Type 0
-Refuses s (Table name index resource keys weights_at) (Broken why) = IsLeast (Breaks s (Table name index resource keys weights_at)) why
-Refuses s (QuantityTable name index column rows) (Broken why) = IsLeast (Breaks s (QuantityTable name index column rows)) why
+Refuses s (Table name index resource keys weights_at) (Broken why) = IsLeast (StatementBreaks s (Table name index resource keys weights_at)) why
+Refuses s (QuantityTable name index column rows) (Broken why) = IsLeast (StatementBreaks s (QuantityTable name index column rows)) why
 Refuses s st (Broken why) = IsFirst s st why
 Refuses s st NoMemory = Unit {0}
 
@@ -56,8 +56,8 @@ pub record IsAccepted (s : Joining) (st : Statement) : Type 0 where
 
 -- a statement is accepted
 abbrev pub Accepts : Joining → Statement → Type 0
-Accepts s (Table name index resource keys weights_at) = (why : Why) → Breaks s (Table name index resource keys weights_at) why → ⊥
-Accepts s (QuantityTable name index column rows) = (why : Why) → Breaks s (QuantityTable name index column rows) why → ⊥
+Accepts s (Table name index resource keys weights_at) = (why : Why) → StatementBreaks s (Table name index resource keys weights_at) why → ⊥
+Accepts s (QuantityTable name index column rows) = (why : Why) → StatementBreaks s (QuantityTable name index column rows) why → ⊥
 Accepts s st = IsAccepted s st
 
 -- the number of a message that is there

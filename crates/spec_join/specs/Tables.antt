@@ -1,8 +1,9 @@
--- What a `table` line makes of a table of the TGFF file, and what it is refused for. It makes an option for each task of
--- the graphs whose type has a row that counts, and sets the weights of its resource from the first row.
+-- What a `table` line makes of a table of the TGFF file, and what it is refused for. It makes an option for each task
+-- of the graphs whose type has a row that counts, and sets the weights of its resource from the first row.
 use Rattle.std.specs.Prelude.{◌≡◌, ℕ, zero, suc, ◌+◌, ◌<◌, ◌⊎◌, List, [], ◌∷◌, ◌++◌, length, fold, Bool, true, false, if◌then◌else◌, Option, None, Some, is_some, find, slice_index_or, option_map, option_and_then, Any, codes}
-use Rattle.names.specs.Names.{number_of}
+use Rattle.names.specs.Names.{number_by_name}
 use Rattle.spec_model.specs.Spec.{Name, SpecValue, Choice, choice}
+use Rattle.spec_model.specs.Limits.{most_options}
 use Rattle.spec_graph.specs.Refusals.{IsMapped}
 use Rattle.line_words.specs.declared.refusals.Why.{Why}
 use Rattle.line_words.specs.declared.refusals.Why.TheVariants.{UnknownName, RepeatedName, Limit}
@@ -40,8 +41,8 @@ rows_of keys = number_or (column_of keys (codes "rows")) 1
 -- how a weight for an objective is taken
 abbrev pub weight_taking : Joining → Name → Taking
 weight_taking s name = record {
-  scale = slice_index_or s.scales (number_of s.plan.objectives name) 0;
-  cut = slice_index_or s.floors (number_of s.plan.objectives name) false;
+  scale = slice_index_or s.scales (number_by_name s.plan.objectives name) 0;
+  cut = slice_index_or s.floors (number_by_name s.plan.objectives name) false;
 }
 
 -- how a time is taken
@@ -92,7 +93,7 @@ time_from s keys row = time_in_column s (column_of keys (codes "time")) row
 
 -- the option of task t that a row states
 abbrev pub choice_from : Joining → Name → List KeyColumn → ℕ → Row → Choice
-choice_from s resource keys t row = choice t (number_of s.plan.resources resource) (time_from s keys row)
+choice_from s resource keys t row = choice t (number_by_name s.plan.resources resource) (time_from s keys row)
 
 -- one item, or none where there is no row
 abbrev pub one_of : {X : Type 0} → (Row → X) → Option Row → List X
@@ -120,7 +121,7 @@ with_made s table resource keys t = record s.plan {
 
 -- rows of weights in which a word `OBJ@N` sets a weight of the resource from the first row of the table
 abbrev pub placed : Joining → Table → Name → List (List ℕ) → KeyColumn → List (List ℕ)
-placed s table resource rows k = weighed_at s.plan.objectives s.scales (number_of s.plan.resources resource) rows (record { key = k.key; amount = amount_in (first_cell_of table k.column) })
+placed s table resource rows k = weighed_at s.plan.objectives s.scales (number_by_name s.plan.resources resource) rows (record { key = k.key; amount = amount_in (first_cell_of table k.column) })
 
 -- a plan with the weights that some words set
 abbrev pub with_places : Joining → Table → Name → List KeyColumn → SpecValue → SpecValue
@@ -170,7 +171,7 @@ TaskBreaks s table keys why t = OfRow (RowBreaks s keys) (task_row s table keys 
 
 -- task t is to get an option and has one on the resource already
 abbrev pub IsTakenTwice : Joining → Table → Name → List KeyColumn → ℕ → Type 0
-IsTakenTwice s table resource keys t = (is_some (chosen_row s table keys t) ≡ true) × IsMapped s.plan t (number_of s.plan.resources resource)
+IsTakenTwice s table resource keys t = (is_some (chosen_row s table keys t) ≡ true) × IsMapped s.plan t (number_by_name s.plan.resources resource)
 
 -- what a word `OBJ@N` is refused for
 abbrev pub PlaceBreaks : Joining → Table → Why → KeyColumn → Type 0
@@ -183,7 +184,7 @@ CellsBreak s table keys places why = Any (PlaceBreaks s table why) places ⊎ Ha
 -- RepeatedName: a pair of task and resource that is there already; Limit: too many options
 abbrev pub OptionsBreak : Joining → Table → Name → List KeyColumn → Why → Type 0
 OptionsBreak s table resource keys RepeatedName = HasBelow (length s.task_kinds) (IsTakenTwice s table resource keys)
-OptionsBreak s table resource keys (Limit Options) = 16384 < length s.plan.options + length (made_choices s table resource keys (length s.task_kinds))
+OptionsBreak s table resource keys (Limit Options) = most_options < length s.plan.options + length (made_choices s table resource keys (length s.task_kinds))
 OptionsBreak s table resource keys _ = ⊥
 
 -- what a line is refused for whose table is there

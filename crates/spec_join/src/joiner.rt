@@ -1,6 +1,7 @@
 //! What the statements so far have made.
 
-ghost use Rattle.std.specs.Prelude.{◌≡◌, ℕ, ◌<◌, ◌≤◌, ◌^◌, length};
+ghost use Rattle.std.specs.Prelude.{◌≡◌, ℕ, ◌<◌, ◌≤◌, length};
+ghost use Rattle.spec_model.specs.Limits.{most_number};
 ghost use Rattle.spec_join.specs.Joining.{time_at, time_or_0};
 
 use arch_reader::at_scale;
@@ -28,20 +29,21 @@ pub(crate) struct Joiner<'a> {
 }
 
 impl<'a> Model for Joiner<'a> {
-    ghost use Rattle.std.specs.Prelude.{◌≡◌, ◌≤◌, ◌^◌, length};
+    ghost use Rattle.std.specs.Prelude.{◌≡◌, ◌≤◌, length};
+    ghost use Rattle.spec_model.specs.Limits.{most_number};
     ghost use Rattle.spec_join.specs.Joining.{Joining};
 
     ghost Value = { Joining };
 
     ghost view = { λ j. record { plan = j.plan; tables = j.tgff.now.tables; task_kinds = j.task_kinds.items; message_kinds = j.message_kinds.items; scales = j.scales.items; floors = j.floors.items; clock = j.clock; hops = j.hops; delay = j.delay } };
 
-    ghost invariant = { λ j. (length j.scales.items ≡ length j.plan.objectives) × (length j.floors.items ≡ length j.plan.objectives) × (length j.message_kinds.items ≡ length j.plan.messages) × (length j.task_kinds.items ≤ length j.plan.tasks) × (j.delay ≤ 2 ^ 40) };
+    ghost invariant = { λ j. (length j.scales.items ≡ length j.plan.objectives) × (length j.floors.items ≡ length j.plan.objectives) × (length j.message_kinds.items ≡ length j.plan.messages) × (length j.task_kinds.items ≤ length j.plan.tasks) × (j.delay ≤ most_number) };
 }
 
 impl Joiner<'_> {
     /// A time at the clock's scale.
     pub(crate) fn time_at(&self, amount: i128) -> u64
-        requires { time_at self.now amount ≤ 2 ^ 40 }
+        requires { time_at self.now amount ≤ most_number }
         ensures { result ≡ time_at self.now amount }
     {
         let scale = match self.clock {
@@ -53,7 +55,7 @@ impl Joiner<'_> {
 
     /// A time at the clock's scale, or 0 where none is written.
     pub(crate) fn time_or_0(&self, time: Option<i128>) -> u64
-        requires { time_or_0 self.now time ≤ 2 ^ 40 }
+        requires { time_or_0 self.now time ≤ most_number }
         ensures { result ≡ time_or_0 self.now time }
     {
         match time {

@@ -2,7 +2,7 @@
 
 ghost use Rattle.std.specs.Prelude.{◌≡◌, ◌==◌, ◌<◌, ◌↔◌, IsTrue, length, map, All, Contains, IfOk, OnOk, IfErr};
 ghost use Rattle.std.specs.List.{list_any};
-ghost use Rattle.names.specs.Names.{number_of};
+ghost use Rattle.names.specs.Names.{number_by_name};
 ghost use Rattle.spec_graph.specs.Lists.{message_number};
 ghost use Rattle.spec_graph.specs.Merged.{is_unlisted};
 ghost use Rattle.spec_join.specs.Effects.{effect, merged_kinds};
@@ -35,7 +35,7 @@ fn is_unlisted(listed: &[MsgNo], m: usize) -> bool
 impl Joiner<'_> {
     /// The messages of names, in their order.
     fn messages_of(&self, names: &[Text]) -> Result<Vec<MsgNo>, Stop>
-        ensures numbers { IfOk result (λ messages. map message_number messages.items ≡ map (number_of self.now.plan.message_names) names.now) }
+        ensures numbers { IfOk result (λ messages. map message_number messages.items ≡ map (number_by_name self.now.plan.message_names) names.now) }
         ensures many { IfOk result (λ messages. length messages.items ≡ length names.now) }
         ensures there { IfOk result (λ messages. All (λ m. m.0 < length self.now.plan.messages) messages.items) }
         ensures known { OnOk result (All (Contains self.now.plan.message_names) names.now) }

@@ -1,7 +1,7 @@
 //! Carries out the statements that add messages.
 
 ghost use Rattle.std.specs.Prelude.{◌≡◌, ◌<◌, length, map, All, Contains, IfOk, OnOk, IfErr};
-ghost use Rattle.names.specs.Names.{number_of};
+ghost use Rattle.names.specs.Names.{number_by_name};
 ghost use Rattle.spec_graph.specs.Lists.{task_number};
 ghost use Rattle.spec_join.specs.Effects.{effect};
 ghost use Rattle.spec_join.specs.Fits.{IsFit};
@@ -18,7 +18,7 @@ use spec_graph::TaskNo;
 impl Joiner<'_> {
     /// The tasks of names, in their order.
     fn tasks_of(&self, names: &[Text]) -> Result<Vec<TaskNo>, Stop>
-        ensures numbers { IfOk result (λ tasks. map task_number tasks.items ≡ map (number_of self.now.plan.tasks) names.now) }
+        ensures numbers { IfOk result (λ tasks. map task_number tasks.items ≡ map (number_by_name self.now.plan.tasks) names.now) }
         ensures many { IfOk result (λ tasks. length tasks.items ≡ length names.now) }
         ensures there { IfOk result (λ tasks. All (λ t. t.0 < length self.now.plan.tasks) tasks.items) }
         ensures known { OnOk result (All (Contains self.now.plan.tasks) names.now) }

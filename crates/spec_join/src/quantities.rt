@@ -1,6 +1,7 @@
 //! Carries out the `quantity table` lines.
 
-ghost use Rattle.std.specs.Prelude.{◌≡◌, ◌<◌, ◌≤◌, ◌^◌, length, None, OnOk, IfErr, MatchOption};
+ghost use Rattle.std.specs.Prelude.{◌≡◌, ◌<◌, ◌≤◌, length, None, OnOk, IfErr, MatchOption};
+ghost use Rattle.spec_model.specs.Limits.{most_number};
 ghost use Rattle.tgff_reader.specs.Looking.{table_at, row_at};
 ghost use Rattle.arch_reader.specs.Numbers.{at_scale};
 ghost use Rattle.table_cells.specs.Cells.{cell_of, amount_in};
@@ -63,7 +64,7 @@ impl Joiner<'_> {
     fn quantity_from(&self, table: usize, row: usize, column: u64) -> u64
         requires table { table < length self.now.tables }
         requires row { row < length (table_at self.now.tables table).rows }
-        requires small { at_scale 0 (amount_in (cell_of (row_at (table_at self.now.tables table) row) column)) ≤ 2 ^ 40 }
+        requires small { at_scale 0 (amount_in (cell_of (row_at (table_at self.now.tables table) row) column)) ≤ most_number }
         ensures { result ≡ at_scale 0 (amount_in (cell_of (row_at (table_at self.now.tables table) row) column)) }
     {
         at_scale(0, amount_in(self.cell(table, row, column))) as u64

@@ -15,10 +15,8 @@ use crate::joiner::Joiner;
 use arch_reader::{KeyColumn, scale_or_0};
 use line_words::{What, Why};
 use spec_graph::{ResNo, TaskNo};
+use spec_model::MOST_OPTIONS;
 use table_cells::{Taking, cell_fault, find_row, first_cell, is_marked, lower_of, mark_fault};
-
-/// The greatest number of options.
-const MAX_OPTIONS: usize = 16_384;
 
 /// The column of a key, where the line has the key.
 pub(crate) fn column_of(keys: &[KeyColumn], key: &str) -> Option<u64>
@@ -292,7 +290,7 @@ impl Joiner<'_> {
         }
         let before = self.plan.options();
         let made = self.count_chosen(table, keys);
-        if before + made > MAX_OPTIONS {
+        if before + made > MOST_OPTIONS {
             return Some(Why::Limit(What::Options));
         }
         None

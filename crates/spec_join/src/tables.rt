@@ -1,8 +1,9 @@
 //! Carries out the `table` lines. What a line is refused for is found before anything is made of its table, so that
 //! afterwards only memory may run out: then options of the first tasks may stand already.
 
-ghost use Rattle.std.specs.Prelude.{◌≡◌, ◌<◌, ◌≤◌, ◌^◌, ◌++◌, length, true, is_some, Any, All, Contains, IfOk, OnOk, IfErr};
-ghost use Rattle.names.specs.Names.{number_of};
+ghost use Rattle.std.specs.Prelude.{◌≡◌, ◌<◌, ◌≤◌, ◌++◌, length, true, is_some, Any, All, Contains, IfOk, OnOk, IfErr};
+ghost use Rattle.spec_model.specs.Limits.{most_options, most_number};
+ghost use Rattle.names.specs.Names.{number_by_name};
 ghost use Rattle.spec_graph.specs.Refusals.{IsMapped};
 ghost use Rattle.tgff_reader.specs.Looking.{table_at, row_at};
 ghost use Rattle.spec_join.specs.Effects.{effect, with_plan, with_option};
@@ -25,7 +26,7 @@ impl Joiner<'_> {
     fn time_from(&self, table: usize, row: usize, keys: &[KeyColumn]) -> u64
         requires table { table < length self.now.tables }
         requires row { row < length (table_at self.now.tables table).rows }
-        requires small { time_from self.now keys.now (row_at (table_at self.now.tables table) row) ≤ 2 ^ 40 }
+        requires small { time_from self.now keys.now (row_at (table_at self.now.tables table) row) ≤ most_number }
         ensures { result ≡ time_from self.now keys.now (row_at (table_at self.now.tables table) row) }
     {
         match column_of(keys, "time") {
@@ -47,7 +48,7 @@ impl Joiner<'_> {
         requires unbroken { (why : Why) → Any (KeyBreaks self.now (row_at (table_at self.now.tables table) row) why) keys.now → ⊥ }
         ensures value { IfOk result (λ weights. weights.items ≡ weights_from self.now keys.now (row_at (table_at self.now.tables table) row)) }
         ensures one_each { IfOk result (λ weights. length weights.items ≡ length self.now.plan.objectives) }
-        ensures small { IfOk result (λ weights. All (λ w. w ≤ 2 ^ 40) weights.items) }
+        ensures small { IfOk result (λ weights. All (λ w. w ≤ most_number) weights.items) }
     {
         let mut weights = self.no_weights()?;
         for key in keys {
@@ -77,8 +78,8 @@ impl Joiner<'_> {
         requires task { t < length self.old.task_kinds }
         requires known { All (IsKnownKey self.old.plan.objectives) keys.now }
         requires unbroken { (why : Why) → ValuesBreak self.old keys.now (row_at (table_at self.old.tables table) row) why → ⊥ }
-        requires new { IsMapped self.old.plan t (number_of self.old.plan.resources resource.now) → ⊥ }
-        requires room { length self.old.plan.options < 16384 }
+        requires new { IsMapped self.old.plan t (number_by_name self.old.plan.resources resource.now) → ⊥ }
+        requires room { length self.old.plan.options < most_options }
         ensures { OnOk result (self.new ≡ with_plan self.old (with_option self.old.plan (choice_from self.old resource.now keys.now t (row_at (table_at self.old.tables table) row)) (weights_from self.old keys.now (row_at (table_at self.old.tables table) row)))) }
     {
         self.plan.facts();
@@ -108,7 +109,7 @@ impl Joiner<'_> {
         requires known { All (IsKnownKey self.old.plan.objectives) keys.now }
         requires unbroken { (why : Why) → TaskBreaks self.old (table_at self.old.tables table) keys.now why t → ⊥ }
         requires new { IsTakenTwice self.old (table_at self.old.tables table) resource.now keys.now t → ⊥ }
-        requires room { is_some (chosen_row self.old (table_at self.old.tables table) keys.now t) ≡ true → length self.old.plan.options < 16384 }
+        requires room { is_some (chosen_row self.old (table_at self.old.tables table) keys.now t) ≡ true → length self.old.plan.options < most_options }
         ensures { OnOk result (self.new ≡ with_plan self.old (record self.old.plan { options = self.old.plan.options ++ one_of (choice_from self.old resource.now keys.now t) (chosen_row self.old (table_at self.old.tables table) keys.now t); option_weights = self.old.plan.option_weights ++ one_of (weights_from self.old keys.now) (chosen_row self.old (table_at self.old.tables table) keys.now t) })) }
     {
         match self.chosen_row(table, keys, t) {

@@ -7,7 +7,7 @@ use Rattle.std.proofs.lemmas.List.FromFn.{map-range_with_len_more}
 use Rattle.std.proofs.lemmas.List.Concat.{flat_map-append}
 use Rattle.line_words.specs.Rules.{Words}
 use Rattle.spelled_lines.specs.Lines.{spelled}
-use Rattle.genotype.specs.Draws.{below as draw, after_words}
+use Rattle.genotype.specs.Draws.{draw, after_words}
 use Rattle.spec_make.specs.Streams.{Stream, stream_of, later, taking}
 use Rattle.spec_make.specs.Made.{option_words, map_words}
 
@@ -41,7 +41,8 @@ stream_later gives after m s = λ i k. ap gives (after_add after m k s) i
 
 -- ---- items one after another
 
-pub taking-append : {X : Type 0} (n : ℕ) (lines : Stream → X → List Words) (words : Stream) (xs ys : List X) → taking n lines words (xs ++ ys) ≡ taking n lines words xs ++ taking n lines (later (n * length xs) words) ys
+pub taking-append : {X : Type 0} (n : ℕ) (lines : Stream → X → List Words) (words : Stream) (xs ys : List X)
+    → taking n lines words (xs ++ ys) ≡ taking n lines words xs ++ taking n lines (later (n * length xs) words) ys
 taking-append n lines words [] ys =
     let none : n * 0 ≡ 0 = omega arith in
     ap (λ w. taking n lines w ys) (sym (ap (λ m. later m words) none ∙ later_zero words))
@@ -73,7 +74,8 @@ written_more gives after n lines first old xs ys text next s t so put drawn =
       put = put
           ∙ ap₂ (λ l w. l ++ flat_map spelled (taking n lines w ys)) so.put place
           ∙ append_assoc old (flat_map spelled (taking n lines words xs)) (flat_map spelled (taking n lines (later (n * length xs) words) ys))
-          ∙ ap (λ l. old ++ l) (sym (flat_map-append spelled (taking n lines words xs) (taking n lines (later (n * length xs) words) ys)) ∙ ap (flat_map spelled) (sym (taking-append n lines words xs ys)));
+          ∙ ap (λ l. old ++ l) (sym (flat_map-append spelled (taking n lines words xs) (taking n lines (later (n * length xs) words) ys))
+          ∙ ap (flat_map spelled) (sym (taking-append n lines words xs ys)));
       drawn = drawn ∙ ap (after_words after (n * length ys)) so.drawn ∙ after_add after (n * length xs) (n * length ys) first ∙ ap (λ k. after_words after k first) long;
     }
 
@@ -100,7 +102,8 @@ drawn_singly after n m first s same drawn =
     drawn ∙ ap (λ k. after_words after k first) all
 
 -- all items were put
-pub written_all : {S X : Type 0} (gives : S → ℕ) (after : S → S) (n : ℕ) (lines : Stream → X → List Words) (first : S) (old : List ℕ) (xs ys : List X) (text : List ℕ) (s : S) → xs ≡ ys → Written gives after n lines first old xs text s → Written gives after n lines first old ys text s
+pub written_all : {S X : Type 0} (gives : S → ℕ) (after : S → S) (n : ℕ) (lines : Stream → X → List Words) (first : S) (old : List ℕ) (xs ys : List X) (text : List ℕ) (s : S) → xs ≡ ys
+    → Written gives after n lines first old xs text s → Written gives after n lines first old ys text s
 written_all gives after n lines first old xs ys text s same so = subst (λ zs. Written gives after n lines first old zs text s) same so
 
 -- ---- lines one after another, whatever they are drawn from

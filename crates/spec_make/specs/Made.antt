@@ -4,7 +4,7 @@ use Rattle.std.specs.List.{flat_map, enumerate_from}
 use Rattle.spec_model.specs.Spec.{below}
 use Rattle.line_words.specs.Rules.{Words}
 use Rattle.spelled_lines.specs.Lines.{spelled}
-use Rattle.genotype.specs.Draws.{below as draw}
+use Rattle.genotype.specs.Draws.{draw}
 use Rattle.rand_core.specs.Pcg32Seed.{pcg32_seed}
 use Rattle.rand_pcg.specs.Lcg.{Lcg}
 use Rattle.rand_pcg.specs.Pcg.{pcg32, pcg32_of_seed}

@@ -4,7 +4,7 @@ ghost use Rattle.std.specs.Prelude.{◌≡◌, ℕ, ◌+◌, ◌*◌, ◌^◌, �
 ghost use Rattle.std.specs.List.{flat_map, enumerate_from};
 ghost use Rattle.spec_model.specs.Spec.{below};
 ghost use Rattle.spelled_lines.specs.Lines.{spelled};
-ghost use Rattle.genotype.specs.Draws.{below as draw, after_words};
+ghost use Rattle.genotype.specs.Draws.{draw, after_words};
 ghost use Rattle.spec_make.specs.Streams.{stream_of, taking};
 ghost use Rattle.spec_make.specs.Mesh.{resources_of, tasks_of, all_ends, has_message, messages_of};
 ghost use Rattle.spec_make.specs.Made.{header_lines, resource_lines, link_lines, task_lines, message_lines, option_words, map_lines};

@@ -14,6 +14,7 @@ pub record IsBack (s : SpecValue) (f : Bits) (m to now i : ℕ) : Type 0 where
 along : (s : SpecValue) (f : Bits) (m r i j : ℕ) → i ≡ j → Walk s f m r i → Walk s f m r j
 along s f m r i j e w = subst (λ (n : ℕ). Walk s f m r n) e w
 
+-- a walk is followed back from its end,
 pub IsBack-start : (s : SpecValue) (f : Bits) (m to : ℕ) → IsBack s f m to to 0
 IsBack-start s f m to = record {
   none_shorter = λ n l w. absurd (omega arith);
@@ -21,11 +22,13 @@ IsBack-start s f m to = record {
   whole_of = λ n w. along s f m to n (n + 0) (omega arith) w;
 }
 
+-- and is one where the sender stands there
 pub IsBack-found : (s : SpecValue) (f : Bits) (m to now i n : ℕ) → IsBack s f m to now i → i < n → IsOn s f (sender_of s m) now → WalkBelow s f m to n
 IsBack-found s f m to now i n back l on = (i, l, along s f m to (0 + i) i (omega arith) (back.whole_of 0 on))
 
 -- no walk where the sender is elsewhere and no used arc comes in
-pub IsBack-none : (s : SpecValue) (f : Bits) (m to now i n : ℕ) → IsBack s f m to now i → ¬ IsOn s f (sender_of s m) now → ((a : ℕ) → Uses s f m a → ¬ ((arc_at s a).head ≡ now)) → ¬ WalkBelow s f m to n
+pub IsBack-none : (s : SpecValue) (f : Bits) (m to now i n : ℕ) → IsBack s f m to now i → ¬ IsOn s f (sender_of s m) now → ((a : ℕ) → Uses s f m a → ¬ ((arc_at s a).head ≡ now))
+    → ¬ WalkBelow s f m to n
 IsBack-none s f m to now i n back off none w =
     let split = cases_lt w.0 i in
     elim split [
@@ -38,7 +41,8 @@ IsBack-none s f m to now i n back off none w =
     stuck (suc k) x = none x.0 x.1 x.2
 
 -- one step back, along the one used arc that comes in
-pub IsBack-step : (s : SpecValue) (f : Bits) (m to now i a : ℕ) → IsBack s f m to now i → ¬ IsOn s f (sender_of s m) now → uses_into s f m now ≤ 1 → Uses s f m a → (arc_at s a).head ≡ now → IsBack s f m to (arc_at s a).tail (i + 1)
+pub IsBack-step : (s : SpecValue) (f : Bits) (m to now i a : ℕ) → IsBack s f m to now i → ¬ IsOn s f (sender_of s m) now → uses_into s f m now ≤ 1 → Uses s f m a → (arc_at s a).head ≡ now
+    → IsBack s f m to (arc_at s a).tail (i + 1)
 IsBack-step s f m to now i a back off one used into = record {
   none_shorter = λ n l w.
       elim (cases_lt n i) [

@@ -1,18 +1,14 @@
 -- Chains of messages: what one message more, or a change that keeps who sends to whom, makes of them.
-use Rattle.std.proofs.Common.{◌≡◌, ℕ, zero, suc, ◌+◌, ◌<◌, ◌≤◌, List, [], ◌∷◌, ◌++◌, length, get_or, map, arith, refl, sym, ◌∙◌, ap, subst, Contains, ◌⊎◌, inl, inr}
+use Rattle.std.proofs.Common.{◌≡◌, ℕ, zero, suc, ◌+◌, ◌<◌, List, [], ◌∷◌, ◌++◌, length, get_or, map, arith, refl, sym, ◌∙◌, ap, subst, Contains, ◌⊎◌, inl, inr}
 use Rattle.std.proofs.lemmas.List.{get_or-map, length-map}
 use Rattle.std.proofs.lemmas.List.Elements.{Contains-append_left, Contains-push, Contains-push_cases, Contains-get_or}
 use Rattle.spec_model.specs.Spec.{Message}
 use Rattle.spec_model.specs.WellFormed.{Sends, Chain, Reaches, Leads, Follows, HasCycle}
 
--- a chain and one message more
-chain_more : (ms : List Message) (n a b c : ℕ) → Chain ms n a b → Sends ms b c → Chain ms (suc n) a c
-chain_more ms zero a b c e x = (c, subst (λ (d : ℕ). Sends ms d c) (sym e) x, refl)
-chain_more ms (suc n) a b c p x = (p.0, p.1, chain_more ms n p.0 b c p.2 x)
-
 pub sends_before : (ms : List Message) (m : Message) (a b : ℕ) → Sends ms a b → Sends (ms ++ m ∷ []) a b
 sends_before ms m a b x = record { message = x.message; there = Contains-append_left ms (m ∷ []) x.message x.there; from = x.from; to = x.to }
 
+-- a chain is one with a message more
 pub chain_before : (ms : List Message) (m : Message) (n a c : ℕ) → Chain ms n a c → Chain (ms ++ m ∷ []) n a c
 chain_before ms m zero a c e = e
 chain_before ms m (suc n) a c p = (p.0, sends_before ms m a p.0 p.1, chain_before ms m n p.0 c p.2)
@@ -30,7 +26,8 @@ pub chain_cases : (ms : List Message) (m : Message) (n a c : ℕ) → Chain (ms 
 chain_cases ms m zero a c e = inl e
 chain_cases ms m (suc n) a c p = split (sends_cases ms m a p.0 p.1) (chain_cases ms m n p.0 c p.2)
   where
-    split : ((Sends ms a p.0) ⊎ ((m.sender ≡ a) × Contains m.receivers p.0)) → ((Chain ms n p.0 c) ⊎ (Reaches ms p.0 m.sender × Leads ms m.receivers c)) → (Chain ms (suc n) a c) ⊎ (Reaches ms a m.sender × Leads ms m.receivers c)
+    split : ((Sends ms a p.0) ⊎ ((m.sender ≡ a) × Contains m.receivers p.0)) → ((Chain ms n p.0 c) ⊎ (Reaches ms p.0 m.sender × Leads ms m.receivers c)) → (Chain ms (suc n) a c)
+        ⊎ (Reaches ms a m.sender × Leads ms m.receivers c)
     split (inl x) (inl q) = inl (p.0, x, q)
     split (inl x) (inr q) = inr (record { hops = suc q.0.hops; chain = (p.0, x, q.0.chain) }, q.1)
     split (inr x) (inl q) = inr (record { hops = 0; chain = sym x.0 }, record { start = p.0; among = x.1; reaches = record { hops = n; chain = q } })
@@ -45,7 +42,15 @@ pub still_none : (ms : List Message) (m : Message) → ¬ HasCycle ms → ¬ Lea
 still_none ms m none shut x =
     elim (chain_cases ms m (suc x.more) x.task x.task x.chain) [
       | inl p ↦ none (record { task = x.task; more = x.more; chain = p })
-      | inr q ↦ shut (record { start = q.1.start; among = q.1.among; reaches = record { hops = q.1.reaches.hops + q.0.hops; chain = chain_join ms q.1.reaches.hops q.0.hops q.1.start x.task m.sender q.1.reaches.chain q.0.chain } })
+      | inr q ↦ shut (record {
+        start = q.1.start;
+        among = q.1.among;
+        reaches = record {
+          hops = q.1.reaches.hops + q.0.hops;
+          chain =
+              chain_join ms q.1.reaches.hops q.0.hops q.1.start x.task m.sender q.1.reaches.chain q.0.chain;
+        };
+      })
     ]
 
 -- a message closes a cycle where a chain leads from one of its receivers to its sender
@@ -61,6 +66,7 @@ pub chain_within : (ms ks : List Message) → ((a b : ℕ) → Sends ms a b → 
 chain_within ms ks h zero a c e = e
 chain_within ms ks h (suc n) a c p = (p.0, h a p.0 p.1, chain_within ms ks h n p.0 c p.2)
 
+-- messages that lead no further than others have no cycle where those have none
 pub none_within : (ms ks : List Message) → ((a b : ℕ) → Sends ms a b → Sends ks a b) → ¬ HasCycle ks → ¬ HasCycle ms
 none_within ms ks h none x = none (record { task = x.task; more = x.more; chain = chain_within ms ks h (suc x.more) x.task x.task x.chain })
 
@@ -69,6 +75,7 @@ pub record KeepsWay (f : Message → Message) : Type 0 where
   pub sender : (m : Message) → (f m).sender ≡ m.sender
   pub receivers : (m : Message) → (f m).receivers ≡ m.receivers
 
+-- what messages send that were changed and kept their way, they sent before,
 pub sends_mapped : (f : Message → Message) → KeepsWay f → (ms : List Message) (a b : ℕ) → Sends (map f ms) a b → Sends ms a b
 sends_mapped f k ms a b x =
     let i = x.there.0 in
@@ -83,6 +90,7 @@ sends_mapped f k ms a b x =
       to = subst (λ (xs : List ℕ). Contains xs b) (sym (ap (λ (u : Message). u.receivers) e) ∙ k.receivers m) x.to;
     }
 
+-- and send still,
 pub sends_to_mapped : (f : Message → Message) → KeepsWay f → (ms : List Message) (a b : ℕ) → Sends ms a b → Sends (map f ms) a b
 sends_to_mapped f k ms a b x =
     let i = x.there.0 in
@@ -93,11 +101,13 @@ sends_to_mapped f k ms a b x =
       to = subst (λ (xs : List ℕ). Contains xs b) (sym (k.receivers x.message)) x.to;
     }
 
+-- so they have no cycle where there was none
 pub none_mapped : (f : Message → Message) → KeepsWay f → (ms : List Message) → ¬ HasCycle ms → ¬ HasCycle (map f ms)
 none_mapped f k ms = none_within (map f ms) ms (sends_mapped f k ms)
 
 -- ---- chains of at least one message
 
+-- what a task reaches is the task or follows it
 pub reaches_cases : (ms : List Message) (a c : ℕ) → Reaches ms a c → (a ≡ c) ⊎ Follows ms a c
 reaches_cases ms a c r = go r.hops r.chain
   where
@@ -105,9 +115,11 @@ reaches_cases ms a c r = go r.hops r.chain
     go zero e = inl e
     go (suc n) p = inr (record { more = n; chain = p })
 
+-- a task reaches itself,
 pub reaches_itself : (ms : List Message) (a : ℕ) → Reaches ms a a
 reaches_itself ms a = record { hops = 0; chain = refl }
 
+-- and what follows it
 pub reaches_from_follows : (ms : List Message) (a c : ℕ) → Follows ms a c → Reaches ms a c
 reaches_from_follows ms a c f = record { hops = suc f.more; chain = f.chain }
 
@@ -115,12 +127,18 @@ reaches_from_follows ms a c f = record { hops = suc f.more; chain = f.chain }
 pub follows_cases : (ms : List Message) (m : Message) (a c : ℕ) → Follows (ms ++ m ∷ []) a c → (Follows ms a c) ⊎ (Reaches ms a m.sender × Leads ms m.receivers c)
 follows_cases ms m a c f = elim (chain_cases ms m (suc f.more) a c f.chain) [ inl p ↦ inl (record { more = f.more; chain = p }) | inr q ↦ inr q ]
 
+-- what follows a task follows it with a message more
 pub follows_before : (ms : List Message) (m : Message) (a c : ℕ) → Follows ms a c → Follows (ms ++ m ∷ []) a c
 follows_before ms m a c f = record { more = f.more; chain = chain_before ms m (suc f.more) a c f.chain }
 
+-- and so does what the new message leads to, where its sender is reached
 pub follows_by : (ms : List Message) (m : Message) (a c : ℕ) → Reaches ms a m.sender → Leads ms m.receivers c → Follows (ms ++ m ∷ []) a c
 follows_by ms m a c r l =
-    let by : Chain (ms ++ m ∷ []) (suc l.reaches.hops) m.sender c = (l.start, record { message = m; there = Contains-push ms m; from = refl; to = l.among }, chain_before ms m l.reaches.hops l.start c l.reaches.chain) in
+    let by : Chain (ms ++ m ∷ []) (suc l.reaches.hops) m.sender c = (
+      l.start,
+      record { message = m; there = Contains-push ms m; from = refl; to = l.among },
+      chain_before ms m l.reaches.hops l.start c l.reaches.chain,
+    ) in
     let long : r.hops + suc l.reaches.hops ≡ suc (r.hops + l.reaches.hops) = omega arith in
     record {
       more = r.hops + l.reaches.hops;

@@ -63,7 +63,8 @@ vector_is g = by_bits (g 0) (g 1) (g 2) (g 3) (g 4) (g 5)
     add_up : ℕ → ℕ → ℕ → ℕ → ℕ → ℕ → ℕ
     add_up p q r a b c = ((((((0 + p) + q) + r) + a) + b) + c)
 
-    by_bits : (p q r a b c : Bool) → add_up (cond p 0 0) (cond q 0 0) (cond r 0 0) (cond a 1 0) (cond b 4 0) (cond c 4 0) ∷ (add_up (cond p 5 0) (cond q 2 0) (cond r 5 0) (cond a 0 0) (cond b 0 0) (cond c 0 0) ∷ []) ≡ numbers p q r a b c
+    by_bits : (p q r a b c : Bool) → add_up (cond p 0 0) (cond q 0 0) (cond r 0 0) (cond a 1 0) (cond b 4 0) (cond c 4 0)
+        ∷ (add_up (cond p 5 0) (cond q 2 0) (cond r 5 0) (cond a 0 0) (cond b 0 0) (cond c 0 0) ∷ []) ≡ numbers p q r a b c
     by_bits p q r a b c = pair (omega (arith, none p, none q, none r)) (omega (arith, none a, none b, none c))
       where
         none : (t : Bool) → amount t 0 ≡ 0
@@ -79,7 +80,13 @@ unfolding of_task
 none_below g valid d = at (g 0) (g 1) (g 2) (g 3) (g 4) (g 5) (valid.routed.bound_once 0 (omega arith)) allocated low (λ e. d.1 (vector_is g ∙ e))
   where
     allocated : g 1 ≡ true → g 4 ≡ true
-    allocated e = (valid.routed.resource_use 1 (omega arith)).1 (inl (record { task = 0; in_range = omega arith; on = record { choice = 1; in_range = omega arith; chosen = e; of_task = refl; on_resource = refl } }))
+    allocated e =
+        (valid.routed.resource_use 1 (omega arith)).1 (inl (record {
+          task = 0;
+          in_range = omega arith;
+          on =
+              record { choice = 1; in_range = omega arith; chosen = e; of_task = refl; on_resource = refl };
+        }))
 
     low : IsAtMost (numbers (g 0) (g 1) (g 2) (g 3) (g 4) (g 5)) (4 ∷ (2 ∷ []))
     low = subst (λ (u : List ℕ). IsAtMost u (4 ∷ (2 ∷ []))) (vector_is g) d.0
@@ -99,7 +106,9 @@ in_front = record { design = on_b; valid = valid_b; vector = vector_priced; undo
 
 -- cost 4 with energy 5 isn't: the task on b has the same cost and less energy
 not_in_front : ¬ IsInFront priced (4 ∷ (5 ∷ []))
-not_in_front x = x.undominated on_b valid_b (subst (λ (u : List ℕ). Dominates u (4 ∷ (5 ∷ []))) (sym vector_priced) (at_most, λ e. (let f : second (4 ∷ (2 ∷ [])) ≡ second (4 ∷ (5 ∷ [])) = ap second e in absurd (omega (arith, f)))))
+not_in_front x =
+    x.undominated on_b valid_b (subst (λ (u : List ℕ). Dominates u (4 ∷ (5 ∷ []))) (sym vector_priced)
+    (at_most, λ e. (let f : second (4 ∷ (2 ∷ [])) ≡ second (4 ∷ (5 ∷ [])) = ap second e in absurd (omega (arith, f)))))
   where
     at_most : IsAtMost (4 ∷ (2 ∷ [])) (4 ∷ (5 ∷ []))
     at_most zero = omega arith

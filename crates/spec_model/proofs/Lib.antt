@@ -18,3 +18,5 @@ pub mod Vectors
 pub mod Places
 pub mod Fronts
 pub mod Designs
+pub mod Ones
+pub mod Distinct

@@ -54,6 +54,10 @@ IsOn-same s f t r q once x y =
     test : {a b : ℕ} → a ≡ b → nat_eq a b ≡ true
     test e = grind (arith, nat_tests, e)
 
+-- a task that is bound once is on no other resource
+pub IsOn-elsewhere : (s : SpecValue) (f : Bits) (t source now : ℕ) → BoundOnce s f t → IsOn s f t source → (now ≡ source → ⊥) → ¬ IsOn s f t now
+IsOn-elsewhere s f t source now once on ne x = ne (IsOn-same s f t now source once x on)
+
 -- at most one used arc goes into a resource
 pub Uses-same : (s : SpecValue) (f : Bits) (m r a b : ℕ) → uses_into s f m r ≤ 1 → Uses s f m a → (arc_at s a).head ≡ r → Uses s f m b → (arc_at s b).head ≡ r → a ≡ b
 unfolding goes_into arc_bit uses_into

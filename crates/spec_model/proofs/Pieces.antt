@@ -5,6 +5,7 @@ use Rattle.std.proofs.lemmas.List.{get_or_append_left, get_or-append-add, length
 use Rattle.spec_model.specs.Spec.{below}
 use Rattle.spec_model.proofs.Those.{flat_map-below_more, cases_suc}
 
+-- what the next number gives stands behind what the others give
 pub flat-suc : {A : Type 0} (g : ℕ → List A) (n : ℕ) → flat_map g (below (suc n)) ≡ flat_map g (below n) ++ g n
 flat-suc g n = subst (λ (k : ℕ). flat_map g (below k) ≡ flat_map g (below n) ++ g n) (add-one n) (flat_map-below_more g n)
 

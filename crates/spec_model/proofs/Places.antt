@@ -3,7 +3,7 @@ use Rattle.std.proofs.Common.{◌≡◌, ℕ, zero, suc, ◌+◌, ◌-◌, ◌*�
 use Rattle.std.proofs.lemmas.Bool.{cases_lt}
 use Rattle.std.proofs.lemmas.Nat.{div-add-mod', div_below, mod_below}
 use Rattle.spec_model.specs.Spec.{SpecValue, Bits, message_at, further, base, design_variables, step_var, covered_var}
-use Rattle.spec_model.proofs.Numbers.{base-zero, base-more}
+use Rattle.spec_model.proofs.Numbers.{base-zero, base_more}
 
 -- a place among the further variables of a message
 pub record IsWithin (s : SpecValue) (v n : ℕ) : Type 0 where
@@ -16,7 +16,7 @@ pub record IsWithin (s : SpecValue) (v n : ℕ) : Type 0 where
 within_of : (s : SpecValue) (v n : ℕ) → n ≤ length s.messages → v < base s n → (v < design_variables s) ⊎ IsWithin s v n
 within_of s v zero h l = inl (omega (arith, l, base-zero s))
 within_of s v (suc n) h l =
-    let next : base s (suc n) ≡ base s n + further s (message_at s n) = subst (λ (k : ℕ). base s k ≡ base s n + further s (message_at s n)) (add-one n) (base-more s n h) in
+    let next : base s (suc n) ≡ base s n + further s (message_at s n) = subst (λ (k : ℕ). base s k ≡ base s n + further s (message_at s n)) (add-one n) (base_more s n h) in
     elim (cases_lt v (base s n)) [
       | inl k ↦ elim (within_of s v n (omega (arith, h)) k) [
         | inl d ↦ inl d
@@ -37,7 +37,8 @@ agree_at s f g design steps covers v l =
       | inr x ↦ at x (cases_lt x.place (length s.resources * ((message_at s x.message).limit + 1)))
     ]
   where
-    at : (x : IsWithin s v (length s.messages)) → ((x.place < length s.resources * ((message_at s x.message).limit + 1)) ⊎ (length s.resources * ((message_at s x.message).limit + 1) ≤ x.place)) → f v ≡ g v
+    at : (x : IsWithin s v (length s.messages)) → ((x.place < length s.resources * ((message_at s x.message).limit + 1)) ⊎ (length s.resources * ((message_at s x.message).limit + 1) ≤ x.place))
+        → f v ≡ g v
     at x (inl k) =
         let w = (message_at s x.message).limit + 1 in
         let r = x.place / w in

@@ -7,7 +7,7 @@ use Rattle.spec_model.specs.Rules.{of_task, Uses, IsCrowded, IsStray, WalkBelow,
 use Rattle.spec_model.specs.Vectors.{vector_at, vector_of, weights_of, arc_weight}
 use Rattle.spec_model.specs.WellFormed.{size, message_size}
 use Rattle.spec_model.specs.Walks.{walk_test}
-use Rattle.spec_model.proofs.Decide.{walk_test-from}
+use Rattle.spec_model.proofs.Decide.{walk_test_from}
 
 abbrev pub arc : ℕ → ℕ → ℕ → Arc
 arc l p q = record { link = l; tail = p; head = q }
@@ -69,9 +69,9 @@ abbrev pub apart : Bits
 apart = of_list (0 ∷ (1 ∷ (2 ∷ (4 ∷ (5 ∷ [])))))
 
 no_walk_to_c : ¬ WalkBelow parallel apart 0 2 3
-no_walk_to_c (zero, l, w) = false≢true (walk_test-from parallel apart 0 0 2 w)
-no_walk_to_c (suc zero, l, w) = false≢true (walk_test-from parallel apart 0 1 2 w)
-no_walk_to_c (suc (suc zero), l, w) = false≢true (walk_test-from parallel apart 0 2 2 w)
+no_walk_to_c (zero, l, w) = false≢true (walk_test_from parallel apart 0 0 2 w)
+no_walk_to_c (suc zero, l, w) = false≢true (walk_test_from parallel apart 0 1 2 w)
+no_walk_to_c (suc (suc zero), l, w) = false≢true (walk_test_from parallel apart 0 2 2 w)
 no_walk_to_c (suc (suc (suc n)), l, w) = absurd (omega (arith, l))
 
 -- the arc from c, which nothing reaches

@@ -1,18 +1,11 @@
 -- Tests on numbers and lists, and what they say.
-use Rattle.std.proofs.Common.{◌≡◌, ℕ, zero, suc, ◌<◌, Bool, true, false, cond, List, [], ◌∷◌, ◌++◌, nat_eq, refl, sym, subst, add-one, arith, inl, inr}
+use Rattle.std.proofs.Common.{◌≡◌, ℕ, zero, suc, ◌<◌, Bool, true, false, cond, List, [], ◌∷◌, ◌++◌, refl, sym, subst, add-one, arith, inl, inr}
 use Rattle.std.specs.Prelude.{◌||◌, Contains}
 use Rattle.std.specs.List.{list_any}
 use Rattle.std.proofs.lemmas.List.Elements.{Contains-append_left, Contains-append_right}
 use Rattle.std.proofs.lemmas.Bool.{false≢true, or_left, or_right}
-use Rattle.std.proofs.lemmas.Bool.Decides.{nat_tests}
 use Rattle.spec_model.specs.Spec.{those}
-use Rattle.spec_model.proofs.Those.{those-more, cases_suc}
-
-pub to_test : {a b : ℕ} → a ≡ b → nat_eq a b ≡ true
-to_test e = grind (arith, nat_tests, e)
-
-pub from_test : (a b : ℕ) → nat_eq a b ≡ true → a ≡ b
-from_test a b e = grind (arith, nat_tests, e)
+use Rattle.spec_model.proofs.Those.{those_more, cases_suc}
 
 -- a member that passes
 pub passing_member : (p : ℕ → Bool) (xs : List ℕ) → list_any p xs ≡ true → (x : ℕ) × Contains xs x × (p x ≡ true)
@@ -39,4 +32,4 @@ Contains-those p (suc n) i h e =
           Contains-append_right (those p n) (cond (p n) (n ∷ []) []) i (subst (λ (b : Bool). Contains (cond b (n ∷ []) []) i) (sym pn) (0, omega arith, sym same))
       | inr l ↦ Contains-append_left (those p n) (cond (p n) (n ∷ []) []) i (Contains-those p n i l e)
     ] in
-    subst (λ (k : ℕ). Contains (those p k) i) (add-one n) (subst (λ (xs : List ℕ). Contains xs i) (sym (those-more p n)) before)
+    subst (λ (k : ℕ). Contains (those p k) i) (add-one n) (subst (λ (xs : List ℕ). Contains xs i) (sym (those_more p n)) before)

@@ -33,22 +33,26 @@ long_arcs : (s : SpecValue) (j : ℕ) → length (option_part s j ++ arc_part s 
 long_arcs s j = length-append (option_part s j) (arc_part s j) ∙ omega (arith, long_options s j, width (arc_weights s j) (length s.arcs) (length s.messages) (long_row s j))
 
 long_resources : (s : SpecValue) (j : ℕ) → length (option_part s j ++ arc_part s j ++ resource_part s j) ≡ length s.options + length s.messages * length s.arcs + length s.resources
-long_resources s j = length-append (option_part s j ++ arc_part s j) (resource_part s j) ∙ omega (arith, long_arcs s j, length-map-range_with_len (weight_in s.resource_weights j) 0 (length s.resources))
+long_resources s j =
+    length-append (option_part s j ++ arc_part s j) (resource_part s j) ∙ omega (arith, long_arcs s j, length-map-range_with_len (weight_in s.resource_weights j) 0 (length s.resources))
 
 -- what stands before the links, the resources and the arcs is read there
-first_three : (s : SpecValue) (j v : ℕ) → v < length s.options + length s.messages * length s.arcs + length s.resources → weight s j v ≡ get_or (option_part s j ++ arc_part s j ++ resource_part s j) v 0
+first_three : (s : SpecValue) (j v : ℕ) → v < length s.options + length s.messages * length s.arcs + length s.resources
+    → weight s j v ≡ get_or (option_part s j ++ arc_part s j ++ resource_part s j) v 0
 unfolding weights_of
 first_three s j v h = get_or_append_left (option_part s j ++ arc_part s j ++ resource_part s j) (link_part s j) 0 v (omega (arith, h, long_resources s j))
 
 first_two : (s : SpecValue) (j v : ℕ) → v < length s.options + length s.messages * length s.arcs → weight s j v ≡ get_or (option_part s j ++ arc_part s j) v 0
 first_two s j v h = first_three s j v (omega (arith, h)) ∙ get_or_append_left (option_part s j ++ arc_part s j) (resource_part s j) 0 v (omega (arith, h, long_arcs s j))
 
+-- the weight of a variable is that of its option,
 pub weight_option : (s : SpecValue) (j o : ℕ) → o < length s.options → weight s j o ≡ weight_in s.option_weights j o
 weight_option s j o h =
     first_two s j o (omega (arith, h))
     ∙ (get_or_append_left (option_part s j) (arc_part s j) 0 o (omega (arith, h, long_options s j))
     ∙ get_or-map-range_with_len (weight_in s.option_weights j) 0 (length s.options) o o 0 h (omega arith))
 
+-- of its arc,
 pub weight_arc : (s : SpecValue) (j m a : ℕ) → m < length s.messages → a < length s.arcs → weight s j (arc_var s m a) ≡ arc_weight s j m a
 weight_arc s j m a hm ha =
     let inside : m * length s.arcs + a < length s.messages * length s.arcs = omega (arith, mul-add-lt m (length s.arcs) a (length s.messages) hm ha) in
@@ -59,6 +63,7 @@ weight_arc s j m a hm ha =
     ∙ (piece_of_width (arc_weights s j) (length s.arcs) (length s.messages) m a 0 (long_row s j) hm ha
     ∙ get_or-map-range_with_len (arc_weight s j m) 0 (length s.arcs) a a 0 ha (omega arith))))
 
+-- of its resource,
 pub weight_resource : (s : SpecValue) (j r : ℕ) → r < length s.resources → weight s j (resource_var s r) ≡ weight_in s.resource_weights j r
 weight_resource s j r h =
     let place : resource_var s r ≡ length (option_part s j ++ arc_part s j) + r = omega (arith, long_arcs s j) in
@@ -67,6 +72,7 @@ weight_resource s j r h =
     ∙ (get_or-append-add (option_part s j ++ arc_part s j) (resource_part s j) r 0
     ∙ get_or-map-range_with_len (weight_in s.resource_weights j) 0 (length s.resources) r r 0 h (omega arith)))
 
+-- or of its link
 pub weight_link : (s : SpecValue) (j l : ℕ) → l < length s.links → weight s j (link_var s l) ≡ weight_in s.link_weights j l
 unfolding weights_of
 weight_link s j l h =
@@ -87,6 +93,7 @@ weight_in_small k n rows j i h = row_at (cases_lt i (length rows))
     row_at (inl l) = number_at (get_or rows i []) (h.each i [] l).small (cases_lt j (length (get_or rows i [])))
     row_at (inr l) = subst (λ (row : List ℕ). get_or row j 0 ≤ most_number) (sym (get_or_past rows i [] l)) (omega arith)
 
+-- the weight of an arc is at most the greatest number
 pub arc_weight_small : (s : SpecValue) (j m a : ℕ) → IsWellFormed s → m < length s.messages → a < length s.arcs → arc_weight s j m a ≤ most_number
 unfolding arc_weight
 arc_weight_small s j m a w hm ha = w.products m a j hm ha

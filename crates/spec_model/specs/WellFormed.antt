@@ -61,11 +61,13 @@ AreDistinct {A = A} xs = (i j : ℕ) (d : A) → i < j → j < length xs → sli
 
 -- no two options map one task to one resource
 abbrev pub ArePairsDistinct : List Choice → Type 0
-ArePairsDistinct os = (i j : ℕ) (d : Choice) → i < j → j < length os → (slice_index_or os i d).task ≡ (slice_index_or os j d).task → (slice_index_or os i d).resource ≡ (slice_index_or os j d).resource → ⊥
+ArePairsDistinct os =
+    (i j : ℕ) (d : Choice) → i < j → j < length os → (slice_index_or os i d).task ≡ (slice_index_or os j d).task → (slice_index_or os i d).resource ≡ (slice_index_or os j d).resource → ⊥
 
 -- no two arcs of one link leave one resource
 abbrev pub AreArcsDistinct : List Arc → Type 0
-AreArcsDistinct arcs = (i j : ℕ) (d : Arc) → i < j → j < length arcs → (slice_index_or arcs i d).link ≡ (slice_index_or arcs j d).link → (slice_index_or arcs i d).tail ≡ (slice_index_or arcs j d).tail → ⊥
+AreArcsDistinct arcs =
+    (i j : ℕ) (d : Arc) → i < j → j < length arcs → (slice_index_or arcs i d).link ≡ (slice_index_or arcs j d).link → (slice_index_or arcs i d).tail ≡ (slice_index_or arcs j d).tail → ⊥
 
 -- the greatest hop limit that makes a difference: one less than the number of resources
 abbrev pub most_hops : SpecValue → ℕ

@@ -38,6 +38,7 @@ piece_ended bs lt =
 pub ended_spelled : (piece : List ℕ) → piece ≡ body_of piece ++ 10 ∷ [] → piece ≡ spelled (words_of piece)
 ended_spelled piece ended = ended ∙ ap (λ (t : List ℕ). t ++ 10 ∷ []) (sym (join_with_byte-slice_split 32 (body_of piece)))
 
+-- no byte is an LF where none is found
 pub no_lf : (bs : List ℕ) → length bs ≤ position_or_len is_lf bs → list_any is_lf bs ≡ false
 no_lf [] h = refl
 no_lf (b ∷ bs) h =

@@ -9,7 +9,7 @@ use Rattle.line_words.specs.Run.{Reading, run, unless_broken}
 use Rattle.line_words.specs.declared.refusals.Why.{Why}
 use Rattle.line_words.proofs.Least.{Outcome, run-nil, run-cons, run_is}
 use Rattle.spelled_lines.specs.Lines.{pieces, body_of, lacks_lf}
-use Rattle.spelled_lines.proofs.FirstPiece.{pieces-nil, pieces-first, pieces-last}
+use Rattle.spelled_lines.proofs.FirstPiece.{pieces-nil, pieces_first, pieces_last}
 use Rattle.spelled_lines.proofs.Ended.{piece_ended, no_lf}
 
 abbrev ok : List Statement → Reading
@@ -57,7 +57,8 @@ pub is_read : (rules : Rules) (lines : List (List ℕ)) (all : List Statement) �
 is_read rules lines all order e = subst (Outcome rules lines) e (run_is rules lines order)
 
 -- what holds wherever reading gives statements holds of what a text without fault states
-pub accepted : (rules : Rules) (lines : List (List ℕ)) (P : List Statement → Type 0) → AreInOrder rules → ((all : List Statement) → run rules 1 [] lines ≡ Ok all → P all) → HasNoFault rules lines → P (statements rules lines)
+pub accepted : (rules : Rules) (lines : List (List ℕ)) (P : List Statement → Type 0) → AreInOrder rules → ((all : List Statement) → run rules 1 [] lines ≡ Ok all → P all) → HasNoFault rules lines
+    → P (statements rules lines)
 accepted rules lines P order each fine = go (run rules 1 [] lines) refl (run_is rules lines order)
   where
     go : (r : Reading) → run rules 1 [] lines ≡ r → Outcome rules lines r → P (statements rules lines)
@@ -89,17 +90,19 @@ whole_from rules Kept k (suc fuel) (b ∷ bs) number done text all le h e =
           let n = position_or_len is_lf bytes in
           let piece = take (n + 1) bytes in
           let rest = drop (n + 1) bytes in
-          let step = read_line rules number done piece (pieces rest) all (ap (run rules number done) (sym (pieces-first bytes lt)) ∙ e) in
+          let step = read_line rules number done piece (pieces rest) all (ap (run rules number done) (sym (pieces_first bytes lt)) ∙ e) in
           let next = k.more done text piece number h step.0 (piece_ended bytes lt) in
           let shorter : length rest ≤ fuel = omega (arith, le, length-drop (n + 1) bytes) in
           let tail = whole_from rules Kept k fuel rest (number + 1) (done ++ at_number number (rules.stated piece)) (text ++ piece) all shorter next step.1 in
           subst (IsWhole rules Kept all) (append_assoc text piece rest ∙ ap (λ (x : List ℕ). text ++ x) (take-append-drop (n + 1) bytes)) tail
       | inr ge ↦
           let bytes = b ∷ bs in
-          let step = read_line rules number done bytes (pieces []) all (ap (run rules number done) (sym (pieces-last bytes (omega arith) ge)) ∙ e) in
+          let step = read_line rules number done bytes (pieces []) all (ap (run rules number done) (sym (pieces_last bytes (omega arith) ge)) ∙ e) in
           let lacks : lacks_lf bytes ≡ true = rw (no_lf bytes ge) refl in
           absurd (k.ended done bytes lacks step.0)
     ]
 
-pub whole : (rules : Rules) (Kept : List Statement → List ℕ → Type 0) → IsKept rules Kept → (bytes : List ℕ) (all : List Statement) → run rules 1 [] (pieces bytes) ≡ Ok all → IsWhole rules Kept all bytes
+-- a run without a refusal has kept what its rules keep, over all bytes
+pub whole : (rules : Rules) (Kept : List Statement → List ℕ → Type 0) → IsKept rules Kept → (bytes : List ℕ) (all : List Statement) → run rules 1 [] (pieces bytes) ≡ Ok all
+    → IsWhole rules Kept all bytes
 whole rules Kept k bytes all e = whole_from rules Kept k (length bytes) bytes 1 [] [] all (omega arith) k.start e

@@ -2,15 +2,15 @@
 use Rattle.std.proofs.Common.{◌≡◌, ℕ, ◌<◌, Bool, true, false, List, [], ◌∷◌, ◌++◌, length, take, refl, ap, ◌∙◌, arith}
 use Rattle.std.specs.Prelude.{◌||◌}
 use Rattle.std.specs.List.{list_any, list_all, slice_split, join_with_byte, AllByRecursion, position_or_len, onto_first, before_first}
+use Rattle.std.proofs.lemmas.Bool.{and_parts}
 use Rattle.std.proofs.lemmas.Bool.Decides.{nat_tests}
 use Rattle.std.proofs.lemmas.List.{take_at}
 use Rattle.std.proofs.lemmas.List.Splits.{slice_split_at, slice_split_none}
 use Rattle.std.proofs.lemmas.List.Elements.{All-from_recursion}
 use Rattle.line_words.specs.Front.{is_lf}
 use Rattle.line_words.specs.Rules.{Words}
-use Rattle.line_words.proofs.Whys.{both}
 use Rattle.spelled_lines.specs.Lines.{pieces, is_bad, is_space, is_empty, lacks_lf, words_of, spelled, is_word_byte, IsWord}
-use Rattle.spelled_lines.proofs.FirstPiece.{pieces-end, pieces-byte}
+use Rattle.spelled_lines.proofs.FirstPiece.{pieces_end, pieces_byte}
 
 -- ---- bytes
 
@@ -33,15 +33,15 @@ space = record { good = refl; no_lf = refl }
 
 word_line : (w : List ℕ) → list_all is_word_byte w ≡ true → IsLine w
 word_line [] h = tt
-word_line (b ∷ w) h = let p = both (is_word_byte b) (list_all is_word_byte w) h in (word_byte b p.0, word_line w p.1)
+word_line (b ∷ w) h = let p = and_parts (is_word_byte b) (list_all is_word_byte w) h in (word_byte b p.0, word_line w p.1)
 
 no_spaces : (w : List ℕ) → list_all is_word_byte w ≡ true → AllByRecursion (λ b. is_space b ≡ false) w
 no_spaces [] h = tt
-no_spaces (b ∷ w) h = let p = both (is_word_byte b) (list_all is_word_byte w) h in (no_space b p.0, no_spaces w p.1)
+no_spaces (b ∷ w) h = let p = and_parts (is_word_byte b) (list_all is_word_byte w) h in (no_space b p.0, no_spaces w p.1)
 
-line-append : (xs ys : List ℕ) → IsLine xs → IsLine ys → IsLine (xs ++ ys)
-line-append [] ys a b = b
-line-append (x ∷ xs) ys a b = (a.0, line-append xs ys a.1 b)
+line_append : (xs ys : List ℕ) → IsLine xs → IsLine ys → IsLine (xs ++ ys)
+line_append [] ys a b = b
+line_append (x ∷ xs) ys a b = (a.0, line_append xs ys a.1 b)
 
 abbrev pub AreWords : Words → Type 0
 AreWords ws = AllByRecursion IsWord ws
@@ -50,7 +50,7 @@ AreWords ws = AllByRecursion IsWord ws
 join_line : (ws : Words) → AreWords ws → IsLine (join_with_byte 32 ws)
 join_line [] h = tt
 join_line (w ∷ []) h = word_line w h.0.bytes
-join_line (w ∷ x ∷ ws) h = line-append w (32 ∷ join_with_byte 32 (x ∷ ws)) (word_line w h.0.bytes) (space, join_line (x ∷ ws) h.1)
+join_line (w ∷ x ∷ ws) h = line_append w (32 ∷ join_with_byte 32 (x ∷ ws)) (word_line w h.0.bytes) (space, join_line (x ∷ ws) h.1)
 
 -- words joined and split
 split_join : (w : List ℕ) (ws : Words) → AreWords (w ∷ ws) → slice_split is_space (join_with_byte 32 (w ∷ ws)) ≡ w ∷ ws
@@ -59,6 +59,7 @@ split_join w (x ∷ ws) h =
     slice_split_at is_space w 32 (join_with_byte 32 (x ∷ ws)) (All-from_recursion (λ b. is_space b ≡ false) w (no_spaces w h.0.bytes)) refl
     ∙ ap (λ (r : Words). w ∷ r) (split_join x ws h.1)
 
+-- no word is empty
 pub none_empty : (ws : Words) → AreWords ws → list_any is_empty ws ≡ false
 none_empty [] h = refl
 none_empty (w ∷ ws) h = ap (λ (b : Bool). b || list_any is_empty ws) (some_byte w h.0.some) ∙ none_empty ws h.1
@@ -72,8 +73,8 @@ abbrev ended : List ℕ → List ℕ
 ended l = l ++ 10 ∷ []
 
 pieces_line : (l more : List ℕ) → IsLine l → pieces (ended l ++ more) ≡ ended l ∷ pieces more
-pieces_line [] more h = pieces-end 10 more refl
-pieces_line (b ∷ l) more h = pieces-byte b (ended l ++ more) h.0.no_lf ∙ ap (onto_first b) (pieces_line l more h.1)
+pieces_line [] more h = pieces_end 10 more refl
+pieces_line (b ∷ l) more h = pieces_byte b (ended l ++ more) h.0.no_lf ∙ ap (onto_first b) (pieces_line l more h.1)
 
 none_bad : (l : List ℕ) → IsLine l → list_any is_bad (ended l) ≡ false
 none_bad [] h = refl
@@ -97,6 +98,7 @@ pub record IsSpelled (ws : Words) : Type 0 where
   pub ended : lacks_lf (spelled ws) ≡ false
   pub words : words_of (spelled ws) ≡ ws
 
+-- words are spelled as a line that has them
 pub spelled_is : (w : List ℕ) (ws : Words) → AreWords (w ∷ ws) → IsSpelled (w ∷ ws)
 spelled_is w ws h =
     let l = join_with_byte 32 (w ∷ ws) in

@@ -2,10 +2,9 @@
 use Rattle.std.proofs.Common.{◌≡◌, ℕ, ◌<◌, inl, inr, true, eqb, List, [], ◌∷◌, length, Option, Some, None, refl, arith}
 use Rattle.std.specs.Prelude.{MatchOption, IfSome, IfNone, slice_get}
 use Rattle.std.specs.Str.{bytes_eq}
-use Rattle.std.proofs.lemmas.Bool.{cases_Bool, eqb-true}
+use Rattle.std.proofs.lemmas.Bool.{cases_Bool, eqb-true, and_parts}
 use Rattle.std.proofs.lemmas.Bool.Decides.{Decides-eqb}
 use Rattle.std.proofs.lemmas.Slice.Eq.{bytes_eq-Decides}
-use Rattle.line_words.proofs.Whys.{both}
 use Rattle.tgff_reader.specs.Rows.{is_of_kind}
 use Rattle.tgff_reader.specs.Looking.{table_at, row_at, IsTableAt, HasNoTable, IsFirstOfKind, HasNoneOfKind}
 use Rattle.tgff_reader.specs.declared.file.Table.{Table}
@@ -21,7 +20,7 @@ IsOnlyTable tables name index place = (other : ℕ) → IsTableAt tables name in
 
 table_there : (tables : List Table) (name : List ℕ) (index i : ℕ) → i < length tables → is_called name index (table_at tables i) ≡ true → IsTableAt tables name index i
 table_there tables name index i lt is =
-    let parts = both (bytes_eq (table_at tables i).name name) (eqb (table_at tables i).index index) is in
+    let parts = and_parts (bytes_eq (table_at tables i).name name) (eqb (table_at tables i).index index) is in
     record {
       there = lt;
       name_is = (bytes_eq-Decides (table_at tables i).name name).0 parts.0;

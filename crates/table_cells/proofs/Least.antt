@@ -62,7 +62,3 @@ least_either A B (Some a) (Some b) x y = least_both A B a b x y
 pub least_same : (A B : Why → Type 0) (a : Option Why) → ((why : Why) → A why → B why) → ((why : Why) → B why → A why) → IsLeastOrNone A a → IsLeastOrNone B a
 least_same A B None to from x = λ why h. x why (from why h)
 least_same A B (Some a) to from x = record { holds = to a x.holds; least = λ other h. x.least other (from other h) }
-
--- nothing holds, so there is no least
-pub least_none : (A : Why → Type 0) → ((why : Why) → A why → ⊥) → IsLeastOrNone A None
-least_none A none = none

@@ -1,21 +1,16 @@
 -- What a search of a list from the front finds.
-use Rattle.std.proofs.Common.{◌≡◌, ℕ, zero, suc, ◌+◌, ◌-◌, ◌<◌, ◌≤◌, Bool, true, false, List, [], ◌∷◌, length, get_or, drop, Some, None, refl, ap, ◌∙◌, arith}
+use Rattle.std.proofs.Common.{◌≡◌, ℕ, ◌+◌, ◌-◌, ◌<◌, ◌≤◌, Bool, true, false, List, [], length, get_or, drop, Some, None, ap, ◌∙◌, arith}
 use Rattle.std.specs.Prelude.{find, slice_get}
 use Rattle.std.proofs.lemmas.List.{get_or-drop, length-drop}
 use Rattle.std.proofs.lemmas.List.Folds.{find_at}
 use Rattle.std.proofs.lemmas.List.Sums.{position_or_len_is}
-use Rattle.std.proofs.lemmas.Option.{slice_get_past}
-
-slice_get_at : {X : Type 0} (xs : List X) (i : ℕ) (d : X) → i < length xs → slice_get xs i ≡ Some (get_or xs i d)
-slice_get_at [] i d lt = absurd (omega (arith, lt))
-slice_get_at (x ∷ xs) zero d lt = refl
-slice_get_at (x ∷ xs) (suc i) d lt = slice_get_at xs i d (omega (arith, lt))
+use Rattle.std.proofs.lemmas.Option.{slice_get_past, slice_get-get_or}
 
 -- the first place that passes
 pub find_first : {X : Type 0} (p : X → Bool) (xs : List X) (d : X) (place : ℕ) → place < length xs → p (get_or xs place d) ≡ true
     → ((i : ℕ) → i < place → p (get_or xs i d) ≡ false) → find p xs ≡ Some (get_or xs place d)
 find_first p xs d place lt passes below =
-    find_at p xs ∙ ap (slice_get xs) (position_or_len_is p xs place d (omega (arith, lt)) below (λ _. passes)) ∙ slice_get_at xs place d lt
+    find_at p xs ∙ ap (slice_get xs) (position_or_len_is p xs place d (omega (arith, lt)) below (λ _. passes)) ∙ slice_get-get_or xs place d lt
 
 -- no place passes
 pub find_none : {X : Type 0} (p : X → Bool) (xs : List X) (d : X) → ((i : ℕ) → i < length xs → p (get_or xs i d) ≡ false) → find p xs ≡ None

@@ -10,4 +10,4 @@ mod order;
 mod task_set;
 
 pub use order::TaskOrder;
-pub use task_set::{MAX_TASKS, TaskSet};
+pub use task_set::TaskSet;

@@ -1,6 +1,7 @@
 //! The table of which tasks come after which.
 
-ghost use Rattle.std.specs.Prelude.{◌≡◌, ℕ, ◌+◌, ◌<◌, ◌≤◌, ◌||◌, ◌&&◌, ◌==◌, [], length, OnOk};
+ghost use Rattle.std.specs.Prelude.{◌≡◌, ℕ, ◌+◌, ◌<◌, ◌≤◌, ◌||◌, ◌&&◌, ◌==◌, [], length, OnOk, OnErr};
+ghost use Rattle.spec_model.specs.Limits.{most_tasks};
 ghost use Rattle.task_order.specs.Order.{is_in, comes_after, is_gathered, is_joined};
 
 use crate::task_set::TaskSet;
@@ -31,12 +32,14 @@ impl TaskOrder {
         }
     }
 
-    /// Makes room for a further task, before which and after which no task comes, where there is none.
+    /// Makes room for a further task, before which and after which no task comes, where there is none. Where memory
+    /// runs out, the table is as before.
     pub fn make_room(&mut self, alloc: Global, tasks: usize) -> Result<(), AllocError>
         requires { tasks ≤ length self.old + 1 }
         ensures room { OnOk result (tasks ≤ length self.new) }
         ensures kept { length self.old ≤ length self.new }
         ensures same { (a b : ℕ) → comes_after self.new a b ≡ comes_after self.old a b }
+        ensures err { OnErr result (self.new ≡ self.old) }
     {
         if tasks > self.rows.len() {
             let row = TaskSet::none(alloc)?;
@@ -48,7 +51,7 @@ impl TaskOrder {
     /// Puts a task and all that come after it into a set.
     pub fn gather(&self, set: &mut TaskSet, task: usize)
         requires there { task < length self.now }
-        requires few { task < 1024 }
+        requires few { task < most_tasks }
         ensures { (b : ℕ) → is_in set.new b ≡ is_gathered self.now set.old task b }
     {
         set.insert_all(&self.rows[task]);
@@ -58,7 +61,7 @@ impl TaskOrder {
     /// The tasks of the set come after the sender, and after each task that the sender comes after.
     pub fn join(&mut self, sender: usize, after: &TaskSet)
         requires there { sender < length self.old }
-        requires few { sender < 1024 }
+        requires few { sender < most_tasks }
         ensures kept { length self.new ≡ length self.old }
         ensures joined { (a b : ℕ) → comes_after self.new a b ≡ is_joined self.old sender after.now a b }
     {
@@ -71,7 +74,7 @@ impl TaskOrder {
 
 /// Whether a task, with the set of those after it, is the sender or comes before it.
 fn leads_to(row: &TaskSet, task: usize, sender: usize) -> bool
-    requires { sender < 1024 }
+    requires { sender < most_tasks }
     ensures { result ≡ ((task == sender) || is_in row.now sender) }
 {
     if task == sender {
@@ -82,7 +85,7 @@ fn leads_to(row: &TaskSet, task: usize, sender: usize) -> bool
 
 /// The tasks of the set come after the task, where it is the sender or comes before it.
 fn join_row(row: &mut TaskSet, task: usize, sender: usize, after: &TaskSet)
-    requires { sender < 1024 }
+    requires { sender < most_tasks }
     ensures { (b : ℕ) → is_in row.new b ≡ (is_in row.old b || (((task == sender) || is_in row.old sender) && is_in after.now b)) }
 {
     if leads_to(row, task, sender) {

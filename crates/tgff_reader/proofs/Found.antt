@@ -27,7 +27,8 @@ one_table tables name index i j d s t = elim (cases_lt i j) [
 ]
 
 -- a place that was found is the only one
-pub only_table : (tables : List Table) (name : List ℕ) (index : ℕ) (found : Option ℕ) → AreDistinct (map table_key tables) → MatchOption found (HasNoTable tables name index) (IsTableAt tables name index)
+pub only_table : (tables : List Table) (name : List ℕ) (index : ℕ) (found : Option ℕ) → AreDistinct (map table_key tables)
+    → MatchOption found (HasNoTable tables name index) (IsTableAt tables name index)
     → IfSome found (λ place. (other : ℕ) → IsTableAt tables name index other → other ≡ place)
 only_table tables name index None d t = tt
 only_table tables name index (Some place) d t = λ other u. one_table tables name index place other d t u

@@ -42,7 +42,8 @@ ranked_known b g ws (Some SoftDeadline) = ranked low (known_tests b g ws (Some S
 
 ranked_inner : (ws : Words) (own : List Test) → IsRanked low own → IsRanked low (inner_tests ws own)
 ranked_inner ws own h =
-    ranked_if low (is_closing ws) [] (if is_at (first ws) then (Unclosed, true) ∷ [] else own) tt (ranked_if low (is_at (first ws)) ((Unclosed, true) ∷ []) own (ranked low ((Unclosed, true) ∷ []) refl) h)
+    ranked_if low (is_closing ws) [] (if is_at (first ws) then (Unclosed, true) ∷ [] else own) tt (ranked_if low (is_at (first ws)) ((Unclosed, true) ∷ []) own
+    (ranked low ((Unclosed, true) ∷ []) refl) h)
 
 ranked_in : (c : Open) (b : Blocks) (ws : Words) → IsRanked low (tests_in c b ws)
 ranked_in Outside b ws =
@@ -89,7 +90,8 @@ closed_end s e = rw e refl
 pub open_end : (s : State) → is_open s.current ≡ true → first_broken (end_tests s) ≡ Some Unclosed
 open_end s e = rw e refl
 
-pub file_done : (done : List Statement) (old new : Left) (state : State) (total : Reading) → IsDone done old state total → Passes old new → new.lines ≡ [] → is_open state.current ≡ false → total ≡ Ok done
+pub file_done : (done : List Statement) (old new : Left) (state : State) (total : Reading) → IsDone done old state total → Passes old new → new.lines ≡ [] → is_open state.current ≡ false
+    → total ≡ Ok done
 file_done done old new state total d p none fine =
     ends_well later at_end done old new total p none d.so_far (ap (λ (s : State). first_broken (end_tests s)) (sym d.state_is) ∙ closed_end state fine)
 

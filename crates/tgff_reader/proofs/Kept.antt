@@ -3,8 +3,8 @@ use Rattle.std.proofs.Common.{◌≡◌, ℕ, ◌+◌, ◌<◌, ◌≤◌, ◌^�
 use Rattle.std.specs.Prelude.{sum_by, nat_le, not, ◌||◌, ◌==◌, if◌then◌else◌}
 use Rattle.std.specs.List.{list_any, list_all}
 use Rattle.std.specs.Str.{bytes_eq}
-use Rattle.std.proofs.lemmas.Bool.{cases_Bool, false≢true, leb-false, leb-true, ltb-false, eqb-false, eq-eqb}
-use Rattle.std.proofs.lemmas.List.{append-nil, map_push, get_or_append_left, get_or_push, get_or_default, get_or-map, length-map}
+use Rattle.std.proofs.lemmas.Bool.{cases_Bool, false≢true, leb-false, leb-true, ltb-false, eqb-false, eq-eqb, or_parts, not-false, and_parts, and_from}
+use Rattle.std.proofs.lemmas.List.{append-nil, map_push, get_or-map, length-map}
 use Rattle.std.proofs.lemmas.List.Elements.{All-nil, All-push, All-pop, All-weaker}
 use Rattle.std.proofs.lemmas.List.Folds.{list_any_at}
 use Rattle.std.proofs.lemmas.List.Sums.{sum_by_push}
@@ -13,14 +13,13 @@ use Rattle.std.proofs.lemmas.Bool.{cases_lt}
 use Rattle.line_words.specs.Rules.{Words, Test, first_broken}
 use Rattle.line_words.specs.Text.{is_word_byte}
 use Rattle.spec_model.specs.WellFormed.{HasCycle, AreDistinct}
-use Rattle.task_order.proofs.Sets.{and_both, and_from}
 use Rattle.line_words.specs.declared.numbers.NumberFault.{NumberFault}
 use Rattle.line_words.specs.declared.numbers.NumberFault.TheVariants.{BadNumber, TooBig}
 use Rattle.line_words.specs.declared.refusals.Why.TheVariants.{BadStatement, BadNumber, UnknownName, RepeatedName, Unclosed, StrayClose, TooBig, Cyclic, Limit}
 use Rattle.line_words.specs.declared.refusals.What.TheVariants.{NameBytes, Tasks, Messages}
-use Rattle.line_words.proofs.Whys.{neither}
 use Rattle.line_words.specs.Limits.{most_name_bytes}
 use Rattle.spec_model.specs.Limits.{most_tasks, most_messages}
+use Rattle.spec_model.proofs.Distinct.{distinct_push}
 use Rattle.file_bricks.specs.Numbers.{is_bad, is_big, read_or}
 use Rattle.file_bricks.specs.Words.{word_at}
 use Rattle.tgff_reader.specs.Words.{first, is_at}
@@ -41,23 +40,13 @@ use Rattle.tgff_reader.specs.declared.state.Blocks.{Blocks}
 use Rattle.tgff_reader.specs.declared.state.Open.{Open}
 use Rattle.tgff_reader.specs.declared.state.Open.TheVariants.{Outside, InGraph, InTable}
 use Rattle.tgff_reader.specs.declared.state.State.{State}
-use Rattle.file_bricks.proofs.Deciding.{fine_for, chosen, other, not_false}
+use Rattle.file_bricks.proofs.Deciding.{fine_for, chosen, other}
 use Rattle.file_bricks.proofs.Bounded.{decimal_small}
 use Rattle.tgff_reader.proofs.Reached.{no_cycle_more}
 use Rattle.file_bricks.proofs.Numbered.{whole_small}
 use Rattle.tgff_reader.proofs.Numbered.{index_small}
 
 -- ---- keys that are apart
-
--- no two places of a list hold the same, with one element more that isn't there
-distinct_push : {A : Type 0} (xs : List A) (x : A) → AreDistinct xs → ¬ Contains xs x → AreDistinct (xs ++ x ∷ [])
-distinct_push {A = A} xs x old new i j d l h e = elim (cases_lt j (length xs)) [
-  | inl lj ↦ old i j d l lj (sym (get_or_append_left xs (x ∷ []) d i (omega (arith, l, lj))) ∙ e ∙ get_or_append_left xs (x ∷ []) d j lj)
-  | inr gj ↦
-      let end : length xs ≡ j = omega (arith, gj, h, length-append xs (x ∷ [])) in
-      let li : i < length xs = omega (arith, l, end) in
-      new (i, li, get_or_default xs i x d li ∙ sym (get_or_append_left xs (x ∷ []) d i li) ∙ e ∙ get_or_push xs x d j end)
-]
 
 -- a key that no element passes for is new
 not_among : {X K : Type 0} (key : X → K) (p : X → Bool) (xs : List X) (x : X) → ((y : X) → key y ≡ key x → p y ≡ true) → list_any p xs ≡ false → ¬ Contains (map key xs) (key x)
@@ -66,7 +55,8 @@ not_among key p xs x sound none c =
     let same : key (get_or xs c.0 x) ≡ key x = sym (get_or-map key xs c.0 x (key x) li) ∙ c.2 in
     false≢true (sym none ∙ list_any_at p xs c.0 x li (sound (get_or xs c.0 x) same))
 
-distinct_more : {X K : Type 0} (key : X → K) (p : X → Bool) (xs : List X) (x : X) → AreDistinct (map key xs) → ((y : X) → key y ≡ key x → p y ≡ true) → list_any p xs ≡ false → AreDistinct (map key (xs ++ x ∷ []))
+distinct_more : {X K : Type 0} (key : X → K) (p : X → Bool) (xs : List X) (x : X) → AreDistinct (map key xs) → ((y : X) → key y ≡ key x → p y ≡ true) → list_any p xs ≡ false
+    → AreDistinct (map key (xs ++ x ∷ []))
 distinct_more {K = K} key p xs x old sound none =
     subst (λ (ks : List K). AreDistinct ks) (sym (map_push key xs x)) (distinct_push (map key xs) (key x) old (not_among key p xs x sound none))
 
@@ -156,7 +146,8 @@ both_same name i t e =
     let x : (t.index == i) ≡ true = eq-eqb t.index i (ap (λ (k : List ℕ × ℕ). k.1) e) in
     and_from (bytes_eq t.name name) (t.index == i) n x
 
-opens_table : (gs : List Graph) (ts : List Table) (name : List ℕ) (i : ℕ) → IsTgff (made gs ts) → IsWord name → i < 2 ^ 63 → list_any (is_table name i) ts ≡ false → IsTgff (made gs (ts ++ states.new_table name i ∷ []))
+opens_table : (gs : List Graph) (ts : List Table) (name : List ℕ) (i : ℕ) → IsTgff (made gs ts) → IsWord name → i < 2 ^ 63 → list_any (is_table name i) ts ≡ false
+    → IsTgff (made gs (ts ++ states.new_table name i ∷ []))
 opens_table gs ts name i f w l none = record {
   graphs_in = f.graphs_in;
   graphs_distinct = f.graphs_distinct;
@@ -169,7 +160,7 @@ opens_table gs ts name i f w l none = record {
 -- the name of a block is a word
 plain_rest : (w : List ℕ) → list_all is_word_byte w ≡ true → list_all is_word_byte (drop 1 w) ≡ true
 plain_rest [] h = h
-plain_rest (b ∷ bs) h = (and_both (is_word_byte b) (list_all is_word_byte bs) h).1
+plain_rest (b ∷ bs) h = (and_parts (is_word_byte b) (list_all is_word_byte bs) h).1
 
 word_rest : (w : List ℕ) → IsWord w → (length (drop 1 w) == 0) ≡ false → IsWord (drop 1 w)
 word_rest w h e = record { some = more (length (drop 1 w)) (eqb-false (length (drop 1 w)) 0 e); plain = plain_rest w h.plain }
@@ -217,7 +208,8 @@ outside_more b ws s h some e =
           = ap first_broken (sym (chosen (is_opening ws) (faults.opening_tests b name index) ((StrayClose, is_closing ws) ∷ []) t)) ∙ e in
           let tests = faults.opening_tests b name index in
           let word : IsWord name = word_rest (first ws) (h 0 [] some) (fine_for BadStatement tests tried) in
-          let next : IsState (standing now b) = opens b name (read_or 0 index) s word (index_small ws) (number_new b name index (fine_for BadNumber tests tried) (fine_for TooBig tests tried) (fine_for RepeatedName tests tried)) in
+          let next : IsState (standing now b) = opens b name (read_or 0 index) s word (index_small ws)
+          (number_new b name index (fine_for BadNumber tests tried) (fine_for TooBig tests tried) (fine_for RepeatedName tests tried)) in
           subst (λ (c : Open). IsState (standing c b)) (sym (chosen (is_opening ws) now Outside t)) next
     ]
 
@@ -272,7 +264,8 @@ few_arcs : (c : Open) (b : Blocks) → IsState (standing c b) → b.arcs ≤ mos
 few_arcs c b s = omega (arith, s.arcs_are, s.file.few_arcs)
 
 -- a change that keeps the tasks and the arcs
-same_counts : (b : Blocks) (g h : Graph) → IsState (standing (InGraph g) b) → IsGraph h → h.index ≡ g.index → length h.tasks ≡ length g.tasks → length h.arcs ≡ length g.arcs → IsState (standing (InGraph h) b)
+same_counts : (b : Blocks) (g h : Graph) → IsState (standing (InGraph g) b) → IsGraph h → h.index ≡ g.index → length h.tasks ≡ length g.tasks → length h.arcs ≡ length g.arcs
+    → IsState (standing (InGraph h) b)
 same_counts b g h s k same et ea = graph_line b b g h s refl refl k same (omega (arith, et)) (omega (arith, ea)) (few_tasks (InGraph g) b s) (few_arcs (InGraph g) b s)
 
 name_at : (ws : Words) (i : ℕ) → All IsWord ws → i < length ws → faults.is_long (word_at ws i) ≡ false → IsName (word_at ws i)
@@ -282,7 +275,18 @@ known_place : (tasks : List TgffTask) (name : List ℕ) → faults.is_unknown ta
 known_place tasks name e = leb-false (length tasks) (faults.place_of tasks name) e
 
 period_more : (g : Graph) (ws : Words) → IsGraph g → IsGraph (states.with_period g ws)
-period_more g ws f = record { index = f.index; period = decimal_small (word_at ws 1); tasks_in = f.tasks_in; tasks_distinct = f.tasks_distinct; arcs_in = f.arcs_in; arcs_distinct = f.arcs_distinct; no_cycle = f.no_cycle; deadlines_in = f.deadlines_in }
+period_more g ws f =
+    record {
+      index = f.index;
+      period = decimal_small (word_at ws 1);
+      tasks_in = f.tasks_in;
+      tasks_distinct = f.tasks_distinct;
+      arcs_in = f.arcs_in;
+      arcs_distinct = f.arcs_distinct;
+      no_cycle =
+          f.no_cycle;
+      deadlines_in = f.deadlines_in;
+    }
 
 task_more : (b : Blocks) (g : Graph) (ws : Words) → IsGraph g → All IsWord ws → first_broken (faults.task_tests b g ws) ≡ None → IsGraph (states.with_task g ws)
 task_more b g ws f h e =
@@ -291,7 +295,7 @@ task_more b g ws f h e =
     let formed : not (is_task_shape ws) ≡ false = fine_for BadStatement tests e in
     let new : list_any (faults.is_task (word_at ws 1)) g.tasks ≡ false = fine_for RepeatedName tests e in
     let short : faults.is_long (word_at ws 1) ≡ false = fine_for (Limit NameBytes) tests e in
-    let shape = and_both (nat_le 4 (length ws)) _ (not_false (is_task_shape ws) formed) in
+    let shape = and_parts (nat_le 4 (length ws)) _ (not-false (is_task_shape ws) formed) in
     let long : 4 ≤ length ws = leb-true 4 (length ws) shape.0 in
     let more = length-append g.tasks (t ∷ []) in
     record {
@@ -299,7 +303,14 @@ task_more b g ws f h e =
       period = f.period;
       tasks_in = All-push IsTask g.tasks t f.tasks_in (record { named = name_at ws 1 h (omega (arith, long)) short; kind = whole_small (word_at ws 3) });
       tasks_distinct = distinct_more task_name (faults.is_task (word_at ws 1)) g.tasks t f.tasks_distinct (λ y e. same_bytes y.name (word_at ws 1) e) new;
-      arcs_in = All-weaker (IsArc (length g.tasks)) (IsArc (length (g.tasks ++ t ∷ []))) (λ arc k. record { named = k.named; from = omega (arith, k.from, more); to = omega (arith, k.to, more); kind = k.kind }) g.arcs f.arcs_in;
+      arcs_in =
+          All-weaker (IsArc (length g.tasks)) (IsArc (length (g.tasks ++ t ∷ []))) (λ arc k. record {
+            named = k.named;
+            from = omega (arith, k.from, more);
+            to = omega (arith, k.to, more);
+            kind =
+                k.kind;
+          }) g.arcs f.arcs_in;
       arcs_distinct = f.arcs_distinct;
       no_cycle = f.no_cycle;
       deadlines_in = All-weaker (IsDeadline (length g.tasks)) (IsDeadline (length (g.tasks ++ t ∷ []))) (λ d k. record { task = omega (arith, k.task, more); at = k.at }) g.deadlines f.deadlines_in;
@@ -311,11 +322,11 @@ arc_more b g ws f h e =
     let tests = faults.arc_tests b g ws in
     let formed : not (is_arc_shape ws) ≡ false = fine_for BadStatement tests e in
     let known : (faults.is_unknown g.tasks (word_at ws 3) || faults.is_unknown g.tasks (word_at ws 5)) ≡ false = fine_for UnknownName tests e in
-    let ends = neither (faults.is_unknown g.tasks (word_at ws 3)) (faults.is_unknown g.tasks (word_at ws 5)) known in
+    let ends = or_parts (faults.is_unknown g.tasks (word_at ws 3)) (faults.is_unknown g.tasks (word_at ws 5)) known in
     let new : list_any (faults.is_arc (word_at ws 1)) g.arcs ≡ false = fine_for RepeatedName tests e in
     let open_end : faults.closes_cycle g ws ≡ false = fine_for Cyclic tests e in
     let short : faults.is_long (word_at ws 1) ≡ false = fine_for (Limit NameBytes) tests e in
-    let shape = and_both (nat_le 8 (length ws)) _ (not_false (is_arc_shape ws) formed) in
+    let shape = and_parts (nat_le 8 (length ws)) _ (not-false (is_arc_shape ws) formed) in
     let long : 8 ≤ length ws = leb-true 8 (length ws) shape.0 in
     record {
       index = f.index;
@@ -342,7 +353,8 @@ deadline_more g hard ws f e = record {
   arcs_in = f.arcs_in;
   arcs_distinct = f.arcs_distinct;
   no_cycle = f.no_cycle;
-  deadlines_in = All-push (IsDeadline (length g.tasks)) g.deadlines (states.deadline_of g.tasks hard ws) f.deadlines_in (record { task = known_place g.tasks (word_at ws 3) (fine_for UnknownName (faults.deadline_tests g ws) e); at = decimal_small (word_at ws 5) });
+  deadlines_in = All-push (IsDeadline (length g.tasks)) g.deadlines (states.deadline_of g.tasks hard ws) f.deadlines_in
+      (record { task = known_place g.tasks (word_at ws 3) (fine_for UnknownName (faults.deadline_tests g ws) e); at = decimal_small (word_at ws 5) });
 }
 
 known_more : (b : Blocks) (g : Graph) (ws : Words) (keyword : Option Keyword) → IsState (standing (InGraph g) b) → All IsWord ws → first_broken (faults.known_tests b g ws keyword) ≡ None

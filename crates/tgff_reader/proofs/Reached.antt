@@ -1,14 +1,13 @@
 -- What is reached along arcs is what chains of messages lead to, and a table of followers tells it.
 use Rattle.std.proofs.Common.{◌≡◌, ℕ, Bool, true, false, List, [], ◌∷◌, ◌++◌, get_or, refl, sym, ap, subst, ◌∙◌, arith, ◌⊎◌, inl, inr, Contains, append_assoc}
 use Rattle.std.specs.Prelude.{◌||◌, ◌&&◌, ◌==◌, ◌↔◌, map}
-use Rattle.std.proofs.lemmas.Bool.{false≢true, eqb-true, eq-eqb, cases_Bool}
+use Rattle.std.proofs.lemmas.Bool.{false≢true, eqb-true, eq-eqb, cases_Bool, and_parts, or_cases, or_left, or_right, and_from}
 use Rattle.std.proofs.lemmas.List.{append-nil, map_push}
 use Rattle.spec_model.specs.Spec.{Message}
 use Rattle.spec_model.specs.WellFormed.{Reaches, Leads, HasCycle}
 use Rattle.spec_model.proofs.Chains.{chain_cases, chain_before, reaches_cases, reaches_from_follows, follows_by, still_none}
 use Rattle.task_order.specs.Order.{is_in, comes_after, is_joined}
-use Rattle.task_order.proofs.Sets.{or_cases, or_left, or_right, and_both, and_from}
-use Rattle.tgff_reader.specs.Reaching.{is_itself, with_arc, with_arcs, reaches, message_of, messages_of, IsOrder}
+use Rattle.tgff_reader.specs.Reaching.{is_itself, with_arc, with_arcs, reaches, arc_message, messages_of, IsOrder}
 use Rattle.tgff_reader.specs.declared.file.TgffArc.{TgffArc}
 use Rattle.file_bricks.proofs.Deciding.{or_or}
 
@@ -54,21 +53,22 @@ tells_none a b = (
   λ x. elim (reaches_cases [] a b x) [ inl e ↦ eq-eqb b a (sym e) | inr f ↦ absurd (omega (arith, f.chain.1.there.1)) ],
 )
 
-among_one : (x y : ℕ) → Contains (x ∷ []) y → x ≡ y
+-- an entry of one is that one
+pub among_one : (x y : ℕ) → Contains (x ∷ []) y → x ≡ y
 among_one x y c = let z : c.0 ≡ 0 = omega (arith, c.1) in subst (λ (i : ℕ). get_or (x ∷ []) i y ≡ y) z c.2
 
-tells_more : (r : Way) (ms : List Message) (arc : TgffArc) → Tells r ms → Tells (with_arc r arc) (ms ++ message_of arc ∷ [])
+tells_more : (r : Way) (ms : List Message) (arc : TgffArc) → Tells r ms → Tells (with_arc r arc) (ms ++ arc_message arc ∷ [])
 tells_more r ms arc t a b = (to, from)
   where
     m : Message
-    m = message_of arc
+    m = arc_message arc
 
     along : (r a arc.from ≡ true) × (r arc.to b ≡ true) → Reaches (ms ++ m ∷ []) a b
     along p = reaches_from_follows (ms ++ m ∷ []) a b (follows_by ms m a b ((t a arc.from).0 p.0) (record { start = arc.to; among = (0, omega arith, refl); reaches = (t arc.to b).0 p.1 }))
 
     to_cases : (r a b ≡ true) ⊎ ((r a arc.from && r arc.to b) ≡ true) → Reaches (ms ++ m ∷ []) a b
     to_cases (inl y) = let x = (t a b).0 y in record { hops = x.hops; chain = chain_before ms m x.hops a b x.chain }
-    to_cases (inr y) = along (and_both (r a arc.from) (r arc.to b) y)
+    to_cases (inr y) = along (and_parts (r a arc.from) (r arc.to b) y)
 
     to : with_arc r arc a b ≡ true → Reaches (ms ++ m ∷ []) a b
     to h = to_cases (or_cases (r a b) (r a arc.from && r arc.to b) h)
@@ -82,9 +82,10 @@ tells_more r ms arc t a b = (to, from)
       | inr q ↦ or_right (r a b) (r a arc.from && r arc.to b) (by_arc q.0 q.1)
     ]
 
-tells_all : (r : Way) (ms : List Message) (arcs : List TgffArc) → Tells r ms → Tells (with_arcs r arcs) (ms ++ map message_of arcs)
+tells_all : (r : Way) (ms : List Message) (arcs : List TgffArc) → Tells r ms → Tells (with_arcs r arcs) (ms ++ map arc_message arcs)
 tells_all r ms [] t = subst (Tells r) (sym (append-nil ms)) t
-tells_all r ms (x ∷ arcs) t = subst (Tells (with_arcs (with_arc r x) arcs)) (append_assoc ms (message_of x ∷ []) (map message_of arcs)) (tells_all (with_arc r x) (ms ++ message_of x ∷ []) arcs (tells_more r ms x t))
+tells_all r ms (x ∷ arcs) t =
+    subst (Tells (with_arcs (with_arc r x) arcs)) (append_assoc ms (arc_message x ∷ []) (map arc_message arcs)) (tells_all (with_arc r x) (ms ++ arc_message x ∷ []) arcs (tells_more r ms x t))
 
 -- A task is reached exactly where a chain of messages leads to it.
 pub reaches_tells : (arcs : List TgffArc) → Tells (reaches arcs) (messages_of arcs)
@@ -93,7 +94,7 @@ reaches_tells arcs = tells_all is_itself [] arcs tells_none
 -- an arc whose first task isn't reached from its second one closes no cycle
 pub no_cycle_more : (arcs : List TgffArc) (arc : TgffArc) → ¬ HasCycle (messages_of arcs) → reaches arcs arc.to arc.from ≡ false → ¬ HasCycle (messages_of (arcs ++ arc ∷ []))
 no_cycle_more arcs arc none shut =
-    subst (λ (ms : List Message). ¬ HasCycle ms) (sym (map_push message_of arcs arc)) (still_none (messages_of arcs) (message_of arc) none closed)
+    subst (λ (ms : List Message). ¬ HasCycle ms) (sym (map_push arc_message arcs arc)) (still_none (messages_of arcs) (arc_message arc) none closed)
   where
     closed : ¬ Leads (messages_of arcs) (arc.to ∷ []) arc.from
     closed l =

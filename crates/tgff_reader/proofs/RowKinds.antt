@@ -1,8 +1,8 @@
 -- Rows that are found by their type.
-use Rattle.std.proofs.Common.{◌≡◌, ◌≢◌, ℕ, zero, suc, ◌+◌, ◌^◌, ◌<◌, ◌≤◌, inl, inr, true, false, ltb, List, [], ◌∷◌, ◌++◌, length, drop, get_or, Result, Ok, Err, sym, ap, subst, ◌∙◌, arith, All, Contains, append_assoc}
+use Rattle.std.proofs.Common.{◌≡◌, ◌≢◌, ℕ, zero, suc, ◌+◌, ◌^◌, ◌<◌, ◌≤◌, inl, inr, true, false, ltb, List, [], ◌∷◌, length, get_or, Result, Ok, Err, ap, subst, ◌∙◌, arith, All, Contains}
 use Rattle.std.specs.List.Sorted.{IsPermutation, IsNonDecreasingBy, IsPartitionPoint}
 use Rattle.std.proofs.lemmas.Bool.{cases_lt, eqb-true, false≢true, false_from_ne_true, ltb-true, ltb-false}
-use Rattle.std.proofs.lemmas.List.{append-nil, drop_more, drop_all, get_or_default}
+use Rattle.std.proofs.lemmas.List.{get_or_default}
 use Rattle.std.proofs.lemmas.List.Elements.{All-nil, All-append, All-cons, Contains-append_left, Contains-append_right}
 use Rattle.std.proofs.lemmas.List.Sorted.{All-permutation, Contains-permutation}
 use Rattle.line_words.specs.Numbers.{whole_of}
@@ -15,25 +15,7 @@ use Rattle.tgff_reader.specs.declared.rows.RowKind.{RowKind}
 abbrev pub entry : ℕ → ℕ → RowKind
 entry kind place = record { kind = kind; place = place }
 
-abbrev no_row : Row
-no_row = record { words = [] }
-
 -- ---- the entries of rows, one by one
-
--- one more row has its entry
-pub kinds_step : (rows : List Row) (i : ℕ) (now next all : List RowKind) (row : Row) → now ++ kinds_from i (drop i rows) ≡ all → next ≡ now ++ entry_of i (kind_in row) → row ≡ get_or rows i row → i < length rows
-    → next ++ kinds_from (i + 1) (drop (i + 1) rows) ≡ all
-kinds_step rows i now next all row so_far push is lt =
-    let more = kinds_from (i + 1) (drop (i + 1) rows) in
-    ap (λ (ks : List RowKind). ks ++ more) push
-    ∙ append_assoc now (entry_of i (kind_in row)) more
-    ∙ ap (λ (r : Row). now ++ (entry_of i (kind_in r) ++ more)) is
-    ∙ ap (λ (rs : List Row). now ++ kinds_from i rs) (sym (drop_more rows i row lt))
-    ∙ so_far
-
--- all rows have theirs
-pub kinds_end : (rows : List Row) (i : ℕ) (now all : List RowKind) → now ++ kinds_from i (drop i rows) ≡ all → length rows ≤ i → now ≡ all
-kinds_end rows i now all so_far ge = sym (append-nil now) ∙ ap (λ (rs : List Row). now ++ kinds_from i rs) (sym (drop_all i rows ge)) ∙ so_far
 
 -- ---- they are right, in whatever order
 
@@ -41,7 +23,8 @@ one_sound : (P : RowKind → Type 0) (place : ℕ) (number : Result ℕ NumberFa
 one_sound P place (Ok n) h = All-cons P (entry n place) [] (h n (search arith)) (All-nil P)
 one_sound P place (Err fault) h = All-nil P
 
-all_sound : (P : RowKind → Type 0) (place : ℕ) (rows : List Row) → ((i kind : ℕ) → i < length rows → is_of_kind kind (row_in rows i) ≡ true → P (entry kind (place + i))) → All P (kinds_from place rows)
+all_sound : (P : RowKind → Type 0) (place : ℕ) (rows : List Row) → ((i kind : ℕ) → i < length rows → is_of_kind kind (row_in rows i) ≡ true → P (entry kind (place + i)))
+    → All P (kinds_from place rows)
 all_sound P place [] h = All-nil P
 all_sound P place (row ∷ rows) h =
     All-append P (entry_of place (kind_in row)) (kinds_from (place + 1) rows)
@@ -65,8 +48,12 @@ all_complete place (row ∷ rows) (suc i) kind lt e =
 pub sorted_kinds : (rows : List Row) (kinds : List RowKind) → IsPermutation (kinds_from 0 rows) kinds → IsNonDecreasingBy order_of kinds → AreKinds kinds rows
 sorted_kinds rows kinds same rising = record {
   rising = rising;
-  sound = All-permutation (IsKind rows) (kinds_from 0 rows) kinds same (all_sound (IsKind rows) 0 rows (λ i kind lt e. subst (λ (p : ℕ). IsKind rows (entry kind p)) (omega arith) (record { there = lt; kind_is = e })));
-  complete = λ place kind lt e. Contains-permutation (kinds_from 0 rows) kinds (entry kind place) same (subst (λ (p : ℕ). Contains (kinds_from 0 rows) (entry kind p)) (omega arith) (all_complete 0 rows place kind lt e));
+  sound =
+      All-permutation (IsKind rows) (kinds_from 0 rows) kinds same (all_sound (IsKind rows) 0 rows (λ i kind lt e.
+      subst (λ (p : ℕ). IsKind rows (entry kind p)) (omega arith) (record { there = lt; kind_is = e })));
+  complete =
+      λ place kind lt e. Contains-permutation (kinds_from 0 rows) kinds (entry kind place) same (subst (λ (p : ℕ). Contains (kinds_from 0 rows) (entry kind p)) (omega arith)
+      (all_complete 0 rows place kind lt e));
 }
 
 -- ---- the search
@@ -79,7 +66,8 @@ not_before : (kinds : List RowKind) (from kind at i m : ℕ) → Point kinds fro
 not_before kinds from kind at i m point le lt is = elim (cases_lt m at) [
   | inr ge ↦ ge
   | inl before ↦
-      let small : order_of (get_or kinds m (entry kind i)) < order_of (entry kind from) = ltb-true (order_of (get_or kinds m (entry kind i))) (order_of (entry kind from)) (point.0 m (entry kind i) (omega arith) before) in
+      let small : order_of (get_or kinds m (entry kind i)) < order_of (entry kind from) = ltb-true (order_of (get_or kinds m (entry kind i))) (order_of (entry kind from))
+      (point.0 m (entry kind i) (omega arith) before) in
       let same : order_of (get_or kinds m (entry kind i)) ≡ order_of (entry kind i) = ap order_of is in
       absurd (omega (arith, small, same, le))
 ]
@@ -89,7 +77,8 @@ at_point : (kinds : List RowKind) (from kind at : ℕ) (d : RowKind) → Point k
 at_point kinds from kind at d point lt = ltb-false (order_of (get_or kinds at d)) (order_of (entry kind from)) (point.1 at d (omega arith) lt)
 
 -- a row of the type from the place on has an entry that isn't before the one at the point
-entry_past : (rows : List Row) (kinds : List RowKind) (from kind at i : ℕ) (d : RowKind) → AreKinds kinds rows → Point kinds from kind at → from ≤ i → i < length rows → is_of_kind kind (row_in rows i) ≡ true
+entry_past : (rows : List Row) (kinds : List RowKind) (from kind at i : ℕ) (d : RowKind) → AreKinds kinds rows → Point kinds from kind at → from ≤ i → i < length rows
+    → is_of_kind kind (row_in rows i) ≡ true
     → (at < length kinds) × (order_of (get_or kinds at d) ≤ order_of (entry kind i))
 entry_past rows kinds from kind at i d are point le lt e =
     let c = are.complete i kind lt e in
@@ -115,7 +104,8 @@ pub none_past : (rows : List Row) (kinds : List RowKind) (from kind at : ℕ) �
 none_past rows kinds from kind at are point ge i le lt =
     false_from_ne_true _ (λ e. let past = entry_past rows kinds from kind at i (entry 0 0) are point le lt e in omega (arith, past.0, ge))
 
-pub none_there : (rows : List Row) (kinds : List RowKind) (from kind at : ℕ) (d : RowKind) → AreKinds kinds rows → Point kinds from kind at → at < length kinds → length rows ≤ 2 ^ 64 → (get_or kinds at d).kind ≢ kind
+pub none_there : (rows : List Row) (kinds : List RowKind) (from kind at : ℕ) (d : RowKind) → AreKinds kinds rows → Point kinds from kind at → at < length kinds → length rows ≤ 2 ^ 64
+    → (get_or kinds at d).kind ≢ kind
     → HasNoneIn rows from kind
 none_there rows kinds from kind at d are point here few other i le lt =
     let s = are.sound at d here in

@@ -2,7 +2,7 @@
 use Rattle.std.specs.Prelude.{◌≡◌, ℕ, ◌≤◌, ◌⊎◌, List, [], ◌∷◌, ◌++◌, length, Bool, ◌&&◌, ◌==◌, Option, None, All, Contains, MatchOption}
 use Rattle.std.specs.List.{list_any}
 use Rattle.std.specs.HashMap.{HashMap, get}
-use Rattle.names.specs.Names.{number_of}
+use Rattle.names.specs.Names.{number_by_name}
 use Rattle.tgff_reader.specs.Looking.{is_graph, IsTableAt, HasNoTable}
 use Rattle.tgff_reader.specs.declared.file.Graph.{Graph}
 use Rattle.tgff_reader.specs.declared.file.Table.{Table}
@@ -23,7 +23,7 @@ HasAtMost old name new = (new ≡ old) ⊎ (new ≡ old ++ name ∷ [])
 -- nothing is found by any other number.
 pub record AreFound (names : List (List ℕ)) (place : ℕ × ℕ → Option ℕ) (tables : List Table) : Type 0 where
   pub named : All (λ t. Contains names t.name) tables
-  pub found : (name : List ℕ) (index : ℕ) → Contains names name → MatchOption (place (number_of names name, index)) (HasNoTable tables name index) (IsTableAt tables name index)
+  pub found : (name : List ℕ) (index : ℕ) → Contains names name → MatchOption (place (number_by_name names name, index)) (HasNoTable tables name index) (IsTableAt tables name index)
   pub none : (n index : ℕ) → length names ≤ n → place (n, index) ≡ None
 
 -- these are the indices of the graphs

@@ -22,12 +22,12 @@ abbrev pub reaches : List TgffArc → ℕ → ℕ → Bool
 reaches arcs = with_arcs is_itself arcs
 
 -- an arc as a message with one receiver
-abbrev pub message_of : TgffArc → Message
-message_of arc = record { sender = arc.from; receivers = arc.to ∷ []; limit = 0; delay = 0; quantity = 0 }
+abbrev pub arc_message : TgffArc → Message
+arc_message arc = record { sender = arc.from; receivers = arc.to ∷ []; limit = 0; delay = 0; quantity = 0 }
 
 -- arcs as messages
 abbrev pub messages_of : List TgffArc → List Message
-messages_of arcs = map message_of arcs
+messages_of arcs = map arc_message arcs
 
 -- a table of followers tells what is reached
 abbrev pub IsOrder : List (List Bool) → List TgffArc → Type 0

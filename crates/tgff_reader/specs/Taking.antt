@@ -13,7 +13,7 @@ use Rattle.file_bricks.specs.Words.{IsWord}
 use Rattle.tgff_reader.specs.Faults.{tests, known_tests, outside_tests}
 use Rattle.tgff_reader.specs.After.{open_after, graph_after, blocks_after, with_graph, with_table, after, state_of}
 use Rattle.tgff_reader.specs.Facts.{TgffValue, IsTgff}
-use Rattle.tgff_reader.specs.Tgff.{tgff_rules, stated, as_seen, value_of}
+use Rattle.tgff_reader.specs.Tgff.{tgff_rules, graphs_stated, as_seen, closed_blocks}
 use Rattle.tgff_reader.specs.declared.keyword.Keyword.{Keyword}
 use Rattle.tgff_reader.specs.declared.file.Graph.{Graph}
 use Rattle.tgff_reader.specs.declared.state.Blocks.{Blocks}
@@ -66,11 +66,11 @@ reading_of left = run tgff_rules left.number [] left.lines
 
 -- the file is refused, or there is no memory
 abbrev pub IsRefused : Reading → ReadFault → Type 0
-IsRefused total fault = Agrees {X = TgffValue} files.Tgff as_seen stated total (Err fault)
+IsRefused total fault = Agrees {X = TgffValue} files.Tgff as_seen graphs_stated total (Err fault)
 
 -- All lines of a file are taken: they break no rule, and what stands then is what they state.
 pub record TakesAll (old : Left) (state : State) : Type 0 where
   pub statements : List Statement
   pub gives : reading_of old ≡ Ok statements
   pub state_is : state ≡ state_of statements
-  pub facts : IsTgff (value_of state)
+  pub facts : IsTgff (closed_blocks state)

@@ -19,12 +19,12 @@ abbrev pub tgff_rules : Rules
 tgff_rules = text_rules later at_end
 
 -- the blocks that are closed
-abbrev pub value_of : State → TgffValue
-value_of state = record { graphs = state.blocks.graphs; tables = state.blocks.tables }
+abbrev pub closed_blocks : State → TgffValue
+closed_blocks state = record { graphs = state.blocks.graphs; tables = state.blocks.tables }
 
 -- what a file's lines state
-abbrev pub stated : List Statement → TgffValue
-stated statements = value_of (state_of statements)
+abbrev pub graphs_stated : List Statement → TgffValue
+graphs_stated statements = closed_blocks (state_of statements)
 
 -- the value as it is
 abbrev pub as_seen : TgffValue → TgffValue

@@ -57,7 +57,7 @@ impl Graphs {
     /// Puts one more graph at the end.
     pub(crate) fn push(&mut self, graph: Graph) -> Result<(), AllocError>
         ensures pushed { OnOk result (self.new ≡ self.old ++ graph ∷ []) }
-        ensures kept { OnErr result (self.new ≡ self.old) }
+        ensures err { OnErr result (self.new ≡ self.old) }
     {
         self.list.reserve(1)?;
         self.indices.insert(graph.index)?;

@@ -6,7 +6,7 @@ ghost use Rattle.line_words.specs.Limits.{most_file_bytes};
 ghost use Rattle.line_words.specs.Reads.{Reads, Agrees};
 ghost use Rattle.line_words.specs.declared.refusals.FileTag.TheVariants as files;
 ghost use Rattle.tgff_reader.specs.After.{start};
-ghost use Rattle.tgff_reader.specs.Tgff.{tgff_rules, stated, as_seen};
+ghost use Rattle.tgff_reader.specs.Tgff.{tgff_rules, graphs_stated, as_seen};
 ghost use Rattle.tgff_reader.specs.Taking.{HasRoom, TakesLine, StopsLine, TakesAll, IsRefused, reading_of};
 
 use crate::file::Tgff;
@@ -55,7 +55,7 @@ fn take_all(alloc: Global, lines: &mut Lines, state: &mut State) -> Result<(), R
 }
 
 fn read_all(alloc: Global, mut lines: Lines) -> Result<Tgff, ReadFault>
-    ensures { Agrees files.Tgff as_seen stated (reading_of lines.entry) result }
+    ensures { Agrees files.Tgff as_seen graphs_stated (reading_of lines.entry) result }
 {
     let mut state = State::start(alloc);
     match take_all(alloc, &mut lines, &mut state) {
@@ -71,7 +71,7 @@ fn read_all(alloc: Global, mut lines: Lines) -> Result<Tgff, ReadFault>
 /// rule broken there.
 pub fn read_tgff(alloc: Global, bytes: &[u8]) -> Result<Tgff, ReadFault>
     requires { length bytes.now ≤ most_file_bytes }
-    ensures { Reads files.Tgff tgff_rules as_seen stated (lines bytes.now) result }
+    ensures { Reads files.Tgff tgff_rules as_seen graphs_stated (lines bytes.now) result }
 {
     read_all(alloc, Lines::new(bytes))
 }

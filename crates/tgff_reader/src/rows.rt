@@ -169,7 +169,7 @@ impl Rows {
     /// Puts one more row at the end.
     pub(crate) fn push(&mut self, row: Row) -> Result<(), AllocError>
         ensures pushed { OnOk result (self.new ≡ self.old ++ row ∷ []) }
-        ensures kept { OnErr result (self.new ≡ self.old) }
+        ensures err { OnErr result (self.new ≡ self.old) }
     {
         self.list.push(row)?;
         self.kinds = None;

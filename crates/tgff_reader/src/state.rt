@@ -4,7 +4,7 @@ ghost use Rattle.std.specs.Prelude.{◌≡◌};
 ghost use Rattle.tgff_reader.specs.Facts.{IsTgff};
 ghost use Rattle.tgff_reader.specs.Faults.{is_open};
 ghost use Rattle.tgff_reader.specs.After.{start};
-ghost use Rattle.tgff_reader.specs.Tgff.{value_of};
+ghost use Rattle.tgff_reader.specs.Tgff.{closed_blocks};
 
 use crate::file::{Table, Tgff};
 use crate::graphs::Graphs;
@@ -64,8 +64,8 @@ impl State {
 
     /// The file of the blocks that are closed.
     pub(crate) fn into_file(self) -> Tgff
-        requires { IsTgff (value_of self) }
-        ensures { result ≡ value_of self }
+        requires { IsTgff (closed_blocks self) }
+        ensures { result ≡ closed_blocks self }
     {
         let State { current: _, blocks } = self;
         let Blocks {

@@ -88,7 +88,7 @@ impl Tables {
     /// Puts one more table at the end.
     pub(crate) fn push(&mut self, alloc: Global, table: Table) -> Result<(), AllocError>
         ensures pushed { OnOk result (self.new ≡ self.old ++ table ∷ []) }
-        ensures kept { OnErr result (self.new ≡ self.old) }
+        ensures err { OnErr result (self.new ≡ self.old) }
     {
         self.list.reserve(1)?;
         let number = number_of(alloc, &mut self.names, table.name.list())?;

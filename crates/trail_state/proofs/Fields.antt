@@ -8,16 +8,14 @@ use Rattle.pb_rules.specs.Literal.{Literal}
 use Rattle.pb_constraints.specs.declared.ConId.{ConId}
 use Rattle.trail_state.specs.Trail.{Entry, is_decision, level_of, level_in, value_in, reason_in, IsDistinct, reasoned, with_reason}
 use Rattle.trail_state.specs.Fields.{pair_up, entries_of, IsTrail}
-use Rattle.trail_state.proofs.Entries.{value_in-none, value_in-at, reason_none}
-use Rattle.trail_state.proofs.Levels.{first-at, level_of-with_reason, level_in-with_reason}
+use Rattle.trail_state.proofs.Entries.{value_in-none, value_in_at, reason_none}
+use Rattle.trail_state.proofs.Levels.{first_at, level_of-with_reason, level_in-with_reason}
 
 abbrev none_of_ℕ : Option ℕ
 none_of_ℕ = None
 
-abbrev none_of_ConId : Option ConId
-none_of_ConId = None
-
-pub pair_up-push : (ls : List Literal) (rs : List (Option ConId)) (l : Literal) (r : Option ConId) → length ls ≡ length rs → pair_up (ls ++ l ∷ []) (rs ++ r ∷ []) ≡ pair_up ls rs ++ record { lit = l; reason = r } ∷ []
+pub pair_up-push : (ls : List Literal) (rs : List (Option ConId)) (l : Literal) (r : Option ConId) → length ls ≡ length rs
+    → pair_up (ls ++ l ∷ []) (rs ++ r ∷ []) ≡ pair_up ls rs ++ record { lit = l; reason = r } ∷ []
 pair_up-push [] [] l r e = refl
 pair_up-push [] (r' ∷ rs) l r e = absurd (omega arith)
 pair_up-push (l' ∷ ls) [] l r e = absurd (omega arith)
@@ -32,7 +30,8 @@ length-pair_up (l ∷ ls) (r ∷ rs) e =
     let h : length ls ≡ length rs = omega arith in
     let g : length (pair_up ls rs) ≡ length ls = length-pair_up ls rs h in omega arith
 
-pub get_or-pair_up : (ls : List Literal) (rs : List (Option ConId)) (k : ℕ) (d : Entry) → length ls ≡ length rs → get_or (pair_up ls rs) k d ≡ record { lit = get_or ls k d.lit; reason = get_or rs k d.reason }
+pub get_or-pair_up : (ls : List Literal) (rs : List (Option ConId)) (k : ℕ) (d : Entry) → length ls ≡ length rs
+    → get_or (pair_up ls rs) k d ≡ record { lit = get_or ls k d.lit; reason = get_or rs k d.reason }
 get_or-pair_up [] [] k d e = refl
 get_or-pair_up [] (r ∷ rs) k d e = absurd (omega arith)
 get_or-pair_up (l ∷ ls) [] k d e = absurd (omega arith)
@@ -46,7 +45,8 @@ length-entries ls rs n h h' =
     let c : length (take n ls) ≡ length (take n rs) = omega arith in
     let g = length-pair_up (take n ls) (take n rs) c in omega arith
 
-pub get_or-entries : (ls : List Literal) (rs : List (Option ConId)) (n k : ℕ) (d : Entry) → n ≤ length ls → n ≤ length rs → k < n → get_or (entries_of ls rs n) k d ≡ record { lit = get_or ls k d.lit; reason = get_or rs k d.reason }
+pub get_or-entries : (ls : List Literal) (rs : List (Option ConId)) (n k : ℕ) (d : Entry) → n ≤ length ls → n ≤ length rs → k < n
+    → get_or (entries_of ls rs n) k d ≡ record { lit = get_or ls k d.lit; reason = get_or rs k d.reason }
 get_or-entries ls rs n k d h h' lt =
     let a = length-take n ls in let b = length-take n rs in
     let c : length (take n ls) ≡ length (take n rs) = omega arith in
@@ -54,7 +54,8 @@ get_or-entries ls rs n k d h h' lt =
     let r = get_or-take n rs k d.reason lt in
     get_or-pair_up (take n ls) (take n rs) k d c ∙ cc
 
-pub entries-push : (ls : List Literal) (rs : List (Option ConId)) (n : ℕ) (l : Literal) (r : Option ConId) → n < length ls → n < length rs → entries_of (set ls n l) (set rs n r) (n + 1) ≡ entries_of ls rs n ++ record { lit = l; reason = r } ∷ []
+pub entries-push : (ls : List Literal) (rs : List (Option ConId)) (n : ℕ) (l : Literal) (r : Option ConId) → n < length ls → n < length rs
+    → entries_of (set ls n l) (set rs n r) (n + 1) ≡ entries_of ls rs n ++ record { lit = l; reason = r } ∷ []
 entries-push ls rs n l r h h' =
     let a = length-take n ls in let b = length-take n rs in
     let c : length (take n ls) ≡ length (take n rs) = omega arith in
@@ -64,8 +65,9 @@ entries-push ls rs n l r h h' =
     rw (x, y) z
 
 -- one entry more, at the end
-pub entries-more : (ls : List Literal) (rs : List (Option ConId)) (m : ℕ) (d : Entry) → m < length ls → m < length rs → entries_of ls rs (m + 1) ≡ entries_of ls rs m ++ record { lit = get_or ls m d.lit; reason = get_or rs m d.reason } ∷ []
-entries-more ls rs m d h h' =
+pub entries_more : (ls : List Literal) (rs : List (Option ConId)) (m : ℕ) (d : Entry) → m < length ls → m < length rs
+    → entries_of ls rs (m + 1) ≡ entries_of ls rs m ++ record { lit = get_or ls m d.lit; reason = get_or rs m d.reason } ∷ []
+entries_more ls rs m d h h' =
     let a = length-take m ls in let b = length-take m rs in
     let c : length (take m ls) ≡ length (take m rs) = omega arith in
     let x = take_more ls m d.lit h in
@@ -89,14 +91,15 @@ room ls rs ps n level t =
     record { few = few; lits = lits; reasons = reasons; entries = length-entries ls rs n lits reasons }
 
 -- what a trail's fields say of a variable
-pub value_at : (ls : List Literal) (rs : List (Option ConId)) (ps : List (Option ℕ)) (n level : ℕ) → IsTrail ls rs ps n level → (x k : ℕ) (d : Literal) (r : Option ConId) → get_or ps x None ≡ Some k → (value_in (entries_of ls rs n) x ≡ Some (get_or ls k d).yes) × (reason_in (entries_of ls rs n) x ≡ get_or rs k r)
+pub value_at : (ls : List Literal) (rs : List (Option ConId)) (ps : List (Option ℕ)) (n level : ℕ) → IsTrail ls rs ps n level → (x k : ℕ) (d : Literal) (r : Option ConId)
+    → get_or ps x None ≡ Some k → (value_in (entries_of ls rs n) x ≡ Some (get_or ls k d).yes) × (reason_in (entries_of ls rs n) x ≡ get_or rs k r)
 value_at ls rs ps n level t x k d r e =
     let f : Entry = record { lit = d; reason = r } in
     let b = room ls rs ps n level t in
     let lt : k < n = t.within x k e in
     let len = b.entries in
     let at : get_or (entries_of ls rs n) k f ≡ record { lit = get_or ls k d; reason = get_or rs k r } = get_or-entries ls rs n k f b.lits b.reasons lt in
-    let w = value_in-at (entries_of ls rs n) x k f (omega arith) (ap (λ (g : Entry). g.lit.var) at ∙ t.same_var x k d e) (λ j g l q.
+    let w = value_in_at (entries_of ls rs n) x k f (omega arith) (ap (λ (g : Entry). g.lit.var) at ∙ t.same_var x k d e) (λ j g l q.
     let at-j = get_or-entries ls rs n j g b.lits b.reasons (omega arith) in
     let p : get_or ps (get_or ls j g.lit).var None ≡ Some j = t.placed j g.lit (omega arith) in
     let v : (get_or ls j g.lit).var ≡ x = sym (ap (λ (g : Entry). g.lit.var) at-j) ∙ q in
@@ -104,7 +107,8 @@ value_at ls rs ps n level t x k d r e =
     cc) in
     (w.0 ∙ ap (λ (g : Entry). Some g.lit.yes) at, w.1 ∙ ap (λ (g : Entry). g.reason) at)
 
-pub value_none : (ls : List Literal) (rs : List (Option ConId)) (ps : List (Option ℕ)) (n level : ℕ) → IsTrail ls rs ps n level → (x : ℕ) → get_or ps x None ≡ None → (value_in (entries_of ls rs n) x ≡ None)
+pub value_none : (ls : List Literal) (rs : List (Option ConId)) (ps : List (Option ℕ)) (n level : ℕ) → IsTrail ls rs ps n level → (x : ℕ) → get_or ps x None ≡ None
+    → (value_in (entries_of ls rs n) x ≡ None)
 value_none ls rs ps n level t x e =
     let b = room ls rs ps n level t in
     let len = b.entries in
@@ -120,7 +124,8 @@ pub value_past : (ls : List Literal) (rs : List (Option ConId)) (ps : List (Opti
 value_past ls rs ps n level t x h = value_none ls rs ps n level t x (get_or_past ps x None h)
 
 -- a variable without a value has no place
-pub place_none : (ls : List Literal) (rs : List (Option ConId)) (ps : List (Option ℕ)) (n level : ℕ) → IsTrail ls rs ps n level → (x : ℕ) (d : Literal) (r : Option ConId) → value_in (entries_of ls rs n) x ≡ None → get_or ps x None ≡ None
+pub place_none : (ls : List Literal) (rs : List (Option ConId)) (ps : List (Option ℕ)) (n level : ℕ) → IsTrail ls rs ps n level → (x : ℕ) (d : Literal) (r : Option ConId)
+    → value_in (entries_of ls rs n) x ≡ None → get_or ps x None ≡ None
 place_none ls rs ps n level t x d r h =
     elim-place (get_or ps x None) refl
   where
@@ -138,7 +143,8 @@ room_for ps x h e y =
     (omega arith, omega arith)
 
 -- a push keeps a trail's fields tied together
-pub IsTrail-push : (ls : List Literal) (rs : List (Option ConId)) (ps : List (Option ℕ)) (n level : ℕ) → IsTrail ls rs ps n level → (l : Literal) (r : Option ConId) (level' : ℕ) → l.var < length ps → value_in (entries_of ls rs n) l.var ≡ None → level' ≡ level + cond (is_none r) 1 0 → IsTrail (set ls n l) (set rs n r) (set ps l.var (Some n)) (n + 1) level'
+pub IsTrail-push : (ls : List Literal) (rs : List (Option ConId)) (ps : List (Option ℕ)) (n level : ℕ) → IsTrail ls rs ps n level → (l : Literal) (r : Option ConId) (level' : ℕ)
+    → l.var < length ps → value_in (entries_of ls rs n) l.var ≡ None → level' ≡ level + cond (is_none r) 1 0 → IsTrail (set ls n l) (set rs n r) (set ps l.var (Some n)) (n + 1) level'
 IsTrail-push ls rs ps n level t l r level' in' free e =
     let empty : get_or ps l.var None ≡ None = place_none ls rs ps n level t l.var l r free in
     let more = room_for ps l.var in' empty n in
@@ -186,10 +192,12 @@ IsTrail-push ls rs ps n level t l r level' in' free e =
             let v : get_or (set ls n l) k d ≡ get_or ls k d = get_or-set_other ls n k l d ne in
             ap (λ (m : Literal). m.var) v ∙ t.same_var x k d h')
       ];
-      level_is = e ∙ sym (ap level_of (entries-push ls rs n l r (omega arith) (omega arith)) ∙ sum_by_push (λ (f : Entry). cond (is_decision f) 1 0) (entries_of ls rs n) (record { lit = l; reason = r }) ∙ ap (λ m. m + cond (is_none r) 1 0) (sym t.level_is));
+      level_is = e ∙ sym (ap level_of (entries-push ls rs n l r (omega arith) (omega arith)) ∙ sum_by_push (λ (f : Entry). cond (is_decision f) 1 0) (entries_of ls rs n)
+          (record { lit = l; reason = r }) ∙ ap (λ m. m + cond (is_none r) 1 0) (sym t.level_is));
     }
 
-pub room_and_level : (ls : List Literal) (rs : List (Option ConId)) (ps : List (Option ℕ)) (n level : ℕ) → IsTrail ls rs ps n level → (x : ℕ) (d : Literal) (r : Option ConId) → x < length ps → value_in (entries_of ls rs n) x ≡ None → (n < length ps) × (level ≤ n)
+pub room_and_level : (ls : List Literal) (rs : List (Option ConId)) (ps : List (Option ℕ)) (n level : ℕ) → IsTrail ls rs ps n level → (x : ℕ) (d : Literal) (r : Option ConId) → x < length ps
+    → value_in (entries_of ls rs n) x ≡ None → (n < length ps) × (level ≤ n)
 room_and_level ls rs ps n level t x d r in' free =
     let empty : get_or ps x None ≡ None = place_none ls rs ps n level t x d r free in
     let more = room_for ps x in' empty n in
@@ -206,7 +214,8 @@ map-pair_up (l ∷ ls) (r ∷ rs) e =
     ap (λ (ms : List Literal). l ∷ ms) (map-pair_up ls rs h)
 
 -- taking the last literal off keeps a trail's fields tied together
-pub IsTrail-pop : (ls : List Literal) (rs : List (Option ConId)) (ps : List (Option ℕ)) (m level : ℕ) (d : Entry) → IsTrail ls rs ps (m + 1) level → (level' : ℕ) → level ≡ level' + cond (is_none (get_or rs m d.reason)) 1 0 → IsTrail ls rs (set ps (get_or ls m d.lit).var None) m level'
+pub IsTrail-pop : (ls : List Literal) (rs : List (Option ConId)) (ps : List (Option ℕ)) (m level : ℕ) (d : Entry) → IsTrail ls rs ps (m + 1) level → (level' : ℕ)
+    → level ≡ level' + cond (is_none (get_or rs m d.reason)) 1 0 → IsTrail ls rs (set ps (get_or ls m d.lit).var None) m level'
 IsTrail-pop ls rs ps m level d t level' e =
     let x : ℕ = (get_or ls m d.lit).var in
     let here : get_or ps x None ≡ Some m = t.placed m d.lit (omega arith) in
@@ -220,7 +229,7 @@ IsTrail-pop ls rs ps m level d t level' e =
     let lits_room = t.lits_room in
     let reasons_room = t.reasons_room in
     let few = t.few in
-    let more = entries-more ls rs m d (omega arith) (omega arith) in
+    let more = entries_more ls rs m d (omega arith) (omega arith) in
     record {
       few = omega arith;
       lits_room = omega arith;
@@ -244,36 +253,25 @@ IsTrail-pop ls rs ps m level d t level' e =
         | inr q ↦ (let o = get_or-set_other ps x y None None q in t.same_var y k f (sym o ∙ h))
       ];
       level_is =
-          let count : level_of (entries_of ls rs (m + 1)) ≡ level_of (entries_of ls rs m) + cond (is_none (get_or rs m d.reason)) 1 0 = ap level_of more ∙ sum_by_push (λ (f : Entry). cond (is_decision f) 1 0) (entries_of ls rs m) (record { lit = get_or ls m d.lit; reason = get_or rs m d.reason }) in
+          let count : level_of (entries_of ls rs (m + 1)) ≡ level_of (entries_of ls rs m) + cond (is_none (get_or rs m d.reason)) 1 0 = ap level_of more
+          ∙ sum_by_push (λ (f : Entry). cond (is_decision f) 1 0) (entries_of ls rs m) (record { lit = get_or ls m d.lit; reason = get_or rs m d.reason }) in
           let level_is = t.level_is in omega arith;
     }
 
 -- copies of one value, read anywhere, where it is the default too
-pub same-at : {T : Type 0} → (v : T) → (n x : ℕ) → get_or (replicate n v) x v ≡ v
-same-at v zero x = refl
-same-at v (suc n) zero = refl
-same-at v (suc n) (suc x) = same-at v n x
-
--- fields without a place
-pub IsTrail-empty : IsTrail [] [] [] 0 0
-IsTrail-empty = record {
-  few = omega arith;
-  lits_room = omega arith;
-  reasons_room = omega arith;
-  counted = refl;
-  in_range = λ k d h. absurd (omega arith);
-  placed = λ k d h. absurd (omega arith);
-  within = λ x k h. absurd (cc);
-  same_var = λ x k d h. absurd (cc);
-  level_is = refl;
-}
+pub same_at : {T : Type 0} → (v : T) → (n x : ℕ) → get_or (replicate n v) x v ≡ v
+same_at v zero x = refl
+same_at v (suc n) zero = refl
+same_at v (suc n) (suc x) = same_at v n x
 
 abbrev record_at : Literal → Option ConId → Entry
 record_at m o = record { lit = m; reason = o }
 
 -- the same from the code's side: l and r are what was read at the last place
-pub IsTrail-pop_read : (ls : List Literal) (rs : List (Option ConId)) (ps : List (Option ℕ)) (n level : ℕ) → 0 < n → IsTrail ls rs ps n level → (l : Literal) (r : Option ConId) → l ≡ get_or ls (n - 1) l → r ≡ get_or rs (n - 1) r →
-    (entries_of ls rs n ≡ entries_of ls rs (n - 1) ++ record { lit = l; reason = r } ∷ []) × (cond (is_none r) 1 0 ≤ level) × ((level' : ℕ) → level ≡ level' + cond (is_none r) 1 0 → IsTrail ls rs (set ps l.var None) (n - 1) level')
+pub IsTrail-pop_read : (ls : List Literal) (rs : List (Option ConId)) (ps : List (Option ℕ)) (n level : ℕ) → 0 < n → IsTrail ls rs ps n level → (l : Literal) (r : Option ConId)
+    → l ≡ get_or ls (n - 1) l → r ≡ get_or rs (n - 1) r →
+    (entries_of ls rs n ≡ entries_of ls rs (n - 1) ++ record { lit = l; reason = r } ∷ []) × (cond (is_none r) 1 0 ≤ level)
+    × ((level' : ℕ) → level ≡ level' + cond (is_none r) 1 0 → IsTrail ls rs (set ps l.var None) (n - 1) level')
 IsTrail-pop_read ls rs ps n level pos t l r el er =
     let d : Entry = record { lit = l; reason = r } in
     let u : n ≡ (n - 1) + 1 = omega arith in
@@ -282,10 +280,12 @@ IsTrail-pop_read ls rs ps n level pos t l r el er =
     let b = room ls rs ps n level t in
     let lits = b.lits in
     let reasons = b.reasons in
-    let more : entries_of ls rs ((n - 1) + 1) ≡ entries_of ls rs (n - 1) ++ record { lit = get_or ls (n - 1) l; reason = get_or rs (n - 1) r } ∷ [] = entries-more ls rs (n - 1) d (omega arith) (omega arith) in
+    let more : entries_of ls rs ((n - 1) + 1) ≡ entries_of ls rs (n - 1) ++ record { lit = get_or ls (n - 1) l; reason = get_or rs (n - 1) r } ∷ [] =
+    entries_more ls rs (n - 1) d (omega arith) (omega arith) in
     let read : record_at (get_or ls (n - 1) l) (get_or rs (n - 1) r) ≡ record_at l r = cc in
     let more' : entries_of ls rs n ≡ entries_of ls rs (n - 1) ++ record_at l r ∷ [] = ap (entries_of ls rs) u ∙ more ∙ ap (λ (e : Entry). entries_of ls rs (n - 1) ++ e ∷ []) read in
-    let count : level_of (entries_of ls rs n) ≡ level_of (entries_of ls rs (n - 1)) + cond (is_none r) 1 0 = ap level_of more' ∙ sum_by_push (λ (f : Entry). cond (is_decision f) 1 0) (entries_of ls rs (n - 1)) (record_at l r) in
+    let count : level_of (entries_of ls rs n) ≡ level_of (entries_of ls rs (n - 1)) + cond (is_none r) 1 0 = ap level_of more'
+    ∙ sum_by_push (λ (f : Entry). cond (is_decision f) 1 0) (entries_of ls rs (n - 1)) (record_at l r) in
     let level_is = t.level_is in (
       more',
       omega arith,
@@ -299,7 +299,8 @@ IsTrail-pop_read ls rs ps n level pos t l r el er =
 pub used_positive : (ls : List Literal) (rs : List (Option ConId)) (ps : List (Option ℕ)) (n level : ℕ) → IsTrail ls rs ps n level → 0 < length (entries_of ls rs n) → 0 < n
 used_positive ls rs ps n level t h = omega (arith, (room ls rs ps n level t).entries)
 
-pub entries_in_range : (ls : List Literal) (rs : List (Option ConId)) (ps : List (Option ℕ)) (n level : ℕ) → IsTrail ls rs ps n level → (k : ℕ) (d : Entry) → k < length (entries_of ls rs n) → (get_or (entries_of ls rs n) k d).lit.var < length ps
+pub entries_in_range : (ls : List Literal) (rs : List (Option ConId)) (ps : List (Option ℕ)) (n level : ℕ) → IsTrail ls rs ps n level → (k : ℕ) (d : Entry) → k < length (entries_of ls rs n)
+    → (get_or (entries_of ls rs n) k d).lit.var < length ps
 entries_in_range ls rs ps n level t k d h =
     let b = room ls rs ps n level t in
     let len = b.entries in
@@ -330,8 +331,9 @@ distinct ls rs ps n level t k d h =
     omega arith)
 
 -- before the last place its variable has no value
-pub none-before_last : (ls : List Literal) (rs : List (Option ConId)) (ps : List (Option ℕ)) (n level : ℕ) → 0 < n → IsTrail ls rs ps n level → (l : Literal) (r : Option ConId) → l ≡ get_or ls (n - 1) l → r ≡ get_or rs (n - 1) r → value_in (entries_of ls rs (n - 1)) l.var ≡ None
-none-before_last ls rs ps n level pos t l r el er =
+pub none_before_last : (ls : List Literal) (rs : List (Option ConId)) (ps : List (Option ℕ)) (n level : ℕ) → 0 < n → IsTrail ls rs ps n level → (l : Literal) (r : Option ConId)
+    → l ≡ get_or ls (n - 1) l → r ≡ get_or rs (n - 1) r → value_in (entries_of ls rs (n - 1)) l.var ≡ None
+none_before_last ls rs ps n level pos t l r el er =
     let e : Entry = record { lit = l; reason = r } in
     let es : List Entry = entries_of ls rs n in
     let fs : List Entry = entries_of ls rs (n - 1) in
@@ -346,7 +348,8 @@ none-before_last ls rs ps n level pos t l r el er =
     ap (λ (us : List Entry). value_in us l.var) (sym first) ∙ ap (λ (f : Entry). value_in (take (n - 1) es) f.lit.var) (sym last) ∙ distinct ls rs ps n level t (n - 1) e (omega arith)
 
 -- other lists of literals and reasons with the same entries and room
-pub IsTrail-room : (ls ls' : List Literal) (rs rs' : List (Option ConId)) (ps : List (Option ℕ)) (n level : ℕ) → IsTrail ls rs ps n level → length ps ≤ length ls' → length ps ≤ length rs' → take n ls' ≡ take n ls → take n rs' ≡ take n rs → IsTrail ls' rs' ps n level
+pub IsTrail-room : (ls ls' : List Literal) (rs rs' : List (Option ConId)) (ps : List (Option ℕ)) (n level : ℕ) → IsTrail ls rs ps n level → length ps ≤ length ls' → length ps ≤ length rs'
+    → take n ls' ≡ take n ls → take n rs' ≡ take n rs → IsTrail ls' rs' ps n level
 IsTrail-room ls ls' rs rs' ps n level t room-ls room-rs same-ls same-rs =
     let at : (k : ℕ) (d : Literal) → k < n → get_or ls' k d ≡ get_or ls k d = λ k d h. sym (get_or-take n ls' k d h) ∙ ap (λ (ms : List Literal). get_or ms k d) same-ls ∙ get_or-take n ls k d h in
     record {
@@ -374,7 +377,8 @@ resized xs ys d n m len l e h h' =
     (ap length e ∙ all, ap (take n) e ∙ take-append-le n (take m xs) (replicate (m - len) d) (omega arith) ∙ take-take n m xs h)
 
 -- more places, all empty, keep a trail's fields tied together
-pub IsTrail-places : (ls : List Literal) (rs : List (Option ConId)) (ps : List (Option ℕ)) (n level m : ℕ) → IsTrail ls rs ps n level → length ps + m < 2 ^ 62 → length ps + m ≤ length ls → length ps + m ≤ length rs → IsTrail ls rs (ps ++ replicate m none_of_ℕ) n level
+pub IsTrail-places : (ls : List Literal) (rs : List (Option ConId)) (ps : List (Option ℕ)) (n level m : ℕ) → IsTrail ls rs ps n level → length ps + m < 2 ^ 62 → length ps + m ≤ length ls
+    → length ps + m ≤ length rs → IsTrail ls rs (ps ++ replicate m none_of_ℕ) n level
 IsTrail-places ls rs ps n level m t few room-ls room-rs =
     let qs : List (Option ℕ) = ps ++ replicate m none_of_ℕ in
     let len : length qs ≡ length ps + m = (let a = length-append ps (replicate m none_of_ℕ) in let b = length-replicate m none_of_ℕ in omega arith) in
@@ -395,12 +399,13 @@ IsTrail-places ls rs ps n level m t few room-ls room-rs =
     }
   where
     past : (ps : List (Option ℕ)) (m x : ℕ) → get_or (ps ++ replicate m none_of_ℕ) x None ≡ get_or ps x None
-    past [] m x = same-at none_of_ℕ m x
+    past [] m x = same_at none_of_ℕ m x
     past (p ∷ ps) m zero = refl
     past (p ∷ ps) m (suc x) = past ps m x
 
 -- places that were filled up or, where memory was refused, are as before
-pub IsTrail-grown : (ls : List Literal) (rs : List (Option ConId)) (ps qs : List (Option ℕ)) (n level m len : ℕ) (b : Bool) → len ≡ length ps → IsTrail ls rs ps n level → len ≤ m → m < 2 ^ 62 → m ≤ length ls → m ≤ length rs → qs ≡ cond b (take m ps ++ replicate (m - len) none_of_ℕ) ps → IsTrail ls rs qs n level
+pub IsTrail-grown : (ls : List Literal) (rs : List (Option ConId)) (ps qs : List (Option ℕ)) (n level m len : ℕ) (b : Bool) → len ≡ length ps → IsTrail ls rs ps n level → len ≤ m → m < 2 ^ 62
+    → m ≤ length ls → m ≤ length rs → qs ≡ cond b (take m ps ++ replicate (m - len) none_of_ℕ) ps → IsTrail ls rs qs n level
 IsTrail-grown ls rs ps qs n level m len true l t more few room-ls room-rs e =
     let P : List (Option ℕ) → Type 0 = λ us. IsTrail ls rs us n level in
     let all : take m ps ≡ ps = take_all m ps (omega arith) in
@@ -410,12 +415,14 @@ IsTrail-grown ls rs ps qs n level m len false l t more few room-ls room-rs e =
     subst P (sym e) t
 
 -- a variable with a reason has a place
-pub place_some : (ls : List Literal) (rs : List (Option ConId)) (ps : List (Option ℕ)) (n level : ℕ) → IsTrail ls rs ps n level → (x : ℕ) → is_none (reason_in (entries_of ls rs n) x) ≡ false → get_or ps x None ≡ None → ⊥
+pub place_some : (ls : List Literal) (rs : List (Option ConId)) (ps : List (Option ℕ)) (n level : ℕ) → IsTrail ls rs ps n level → (x : ℕ) → is_none (reason_in (entries_of ls rs n) x) ≡ false
+    → get_or ps x None ≡ None → ⊥
 place_some ls rs ps n level t x some e =
     let r = reason_none (entries_of ls rs n) x (value_none ls rs ps n level t x e) in
     let s = rw r at some in cc
 
-pub place_there : (ls : List Literal) (rs : List (Option ConId)) (ps : List (Option ℕ)) (n level : ℕ) → IsTrail ls rs ps n level → (x : ℕ) → is_none (reason_in (entries_of ls rs n) x) ≡ false → x < length ps
+pub place_there : (ls : List Literal) (rs : List (Option ConId)) (ps : List (Option ℕ)) (n level : ℕ) → IsTrail ls rs ps n level → (x : ℕ) → is_none (reason_in (entries_of ls rs n) x) ≡ false
+    → x < length ps
 place_there ls rs ps n level t x some =
     elim (cases_lt x (length ps)) [
       | inl l ↦ l
@@ -423,7 +430,8 @@ place_there ls rs ps n level t x some =
     ]
 
 -- the entries with another reason at the place of a variable
-pub entries-reason : (ls : List Literal) (rs : List (Option ConId)) (ps : List (Option ℕ)) (n level : ℕ) → IsTrail ls rs ps n level → (x k : ℕ) (r : ConId) → get_or ps x None ≡ Some k → entries_of ls (set rs k (Some r)) n ≡ with_reason x r (entries_of ls rs n)
+pub entries-reason : (ls : List Literal) (rs : List (Option ConId)) (ps : List (Option ℕ)) (n level : ℕ) → IsTrail ls rs ps n level → (x k : ℕ) (r : ConId) → get_or ps x None ≡ Some k
+    → entries_of ls (set rs k (Some r)) n ≡ with_reason x r (entries_of ls rs n)
 entries-reason ls rs ps n level t x k r e =
     let b = room ls rs ps n level t in
     let d : Entry = record { lit = record { var = x; yes = true }; reason = None } in
@@ -439,7 +447,8 @@ entries-reason ls rs ps n level t x k r e =
     let mapped = get_or-map (reasoned x r) (entries_of ls rs n) i d d (omega (arith, b.entries)) in
     new ∙ at i lt ∙ ap (reasoned x r) (sym old) ∙ sym mapped)
   where
-    at : (i : ℕ) → i < n → record_at (get_or ls i (record { var = x; yes = true })) (get_or (set rs k (Some r)) i None) ≡ reasoned x r (record_at (get_or ls i (record { var = x; yes = true })) (get_or rs i None))
+    at : (i : ℕ) → i < n → record_at (get_or ls i (record { var = x; yes = true })) (get_or (set rs k (Some r)) i None)
+        ≡ reasoned x r (record_at (get_or ls i (record { var = x; yes = true })) (get_or rs i None))
     at i lt =
         let d : Literal = record { var = x; yes = true } in
         let b = room ls rs ps n level t in
@@ -456,19 +465,22 @@ entries-reason ls rs ps n level t x k r e =
         ]
 
 -- no entry of a variable that has a reason is a decision
-was-pushed : (ls : List Literal) (rs : List (Option ConId)) (ps : List (Option ℕ)) (n level : ℕ) → IsTrail ls rs ps n level → (x : ℕ) → is_none (reason_in (entries_of ls rs n) x) ≡ false → (j : ℕ) (d : Entry) → j < length (entries_of ls rs n) → (get_or (entries_of ls rs n) j d).lit.var ≡ x → is_decision (get_or (entries_of ls rs n) j d) ≡ false
-was-pushed ls rs ps n level t x some j d h v =
+was_pushed : (ls : List Literal) (rs : List (Option ConId)) (ps : List (Option ℕ)) (n level : ℕ) → IsTrail ls rs ps n level → (x : ℕ) → is_none (reason_in (entries_of ls rs n) x) ≡ false
+    → (j : ℕ) (d : Entry) → j < length (entries_of ls rs n) → (get_or (entries_of ls rs n) j d).lit.var ≡ x → is_decision (get_or (entries_of ls rs n) j d) ≡ false
+was_pushed ls rs ps n level t x some j d h v =
     let es : List Entry = entries_of ls rs n in
     let P : ℕ → Type 0 = λ y. value_in (take j es) y ≡ None in
-    let first = first-at es x j d h v (subst P v (distinct ls rs ps n level t j d h)) in
+    let first = first_at es x j d h v (subst P v (distinct ls rs ps n level t j d h)) in
     ap is_none (sym first.reason) ∙ some
 
-pub levels-reason : (ls : List Literal) (rs : List (Option ConId)) (ps : List (Option ℕ)) (n level : ℕ) → IsTrail ls rs ps n level → (x k : ℕ) (r : ConId) → get_or ps x None ≡ Some k → is_none (reason_in (entries_of ls rs n) x) ≡ false → (y : ℕ) → level_in (entries_of ls (set rs k (Some r)) n) y ≡ level_in (entries_of ls rs n) y
-levels-reason ls rs ps n level t x k r e some y =
-    ap (λ (es : List Entry). level_in es y) (entries-reason ls rs ps n level t x k r e) ∙ level_in-with_reason x r (entries_of ls rs n) y (was-pushed ls rs ps n level t x some)
+pub levels_reason : (ls : List Literal) (rs : List (Option ConId)) (ps : List (Option ℕ)) (n level : ℕ) → IsTrail ls rs ps n level → (x k : ℕ) (r : ConId) → get_or ps x None ≡ Some k
+    → is_none (reason_in (entries_of ls rs n) x) ≡ false → (y : ℕ) → level_in (entries_of ls (set rs k (Some r)) n) y ≡ level_in (entries_of ls rs n) y
+levels_reason ls rs ps n level t x k r e some y =
+    ap (λ (es : List Entry). level_in es y) (entries-reason ls rs ps n level t x k r e) ∙ level_in-with_reason x r (entries_of ls rs n) y (was_pushed ls rs ps n level t x some)
 
 -- another reason for a literal that has one keeps a trail's fields tied together
-pub IsTrail-reason : (ls : List Literal) (rs : List (Option ConId)) (ps : List (Option ℕ)) (n level : ℕ) → IsTrail ls rs ps n level → (x k : ℕ) (r : ConId) → get_or ps x None ≡ Some k → is_none (reason_in (entries_of ls rs n) x) ≡ false → IsTrail ls (set rs k (Some r)) ps n level
+pub IsTrail-reason : (ls : List Literal) (rs : List (Option ConId)) (ps : List (Option ℕ)) (n level : ℕ) → IsTrail ls rs ps n level → (x k : ℕ) (r : ConId) → get_or ps x None ≡ Some k
+    → is_none (reason_in (entries_of ls rs n) x) ≡ false → IsTrail ls (set rs k (Some r)) ps n level
 IsTrail-reason ls rs ps n level t x k r e some =
     let len-rs = length-set rs k (Some r) in
     let es : List Entry = entries_of ls rs n in
@@ -481,15 +493,17 @@ IsTrail-reason ls rs ps n level t x k r e some =
       placed = t.placed;
       within = t.within;
       same_var = t.same_var;
-      level_is = t.level_is ∙ sym (ap level_of (entries-reason ls rs ps n level t x k r e) ∙ level_of-with_reason x r es (was-pushed ls rs ps n level t x some));
+      level_is = t.level_is ∙ sym (ap level_of (entries-reason ls rs ps n level t x k r e) ∙ level_of-with_reason x r es (was_pushed ls rs ps n level t x some));
     }
 
 -- a variable with a place is among the first entries where its place is
-pub among_first : (ls : List Literal) (rs : List (Option ConId)) (ps : List (Option ℕ)) (n level : ℕ) → IsTrail ls rs ps n level → (x k count : ℕ) → get_or ps x None ≡ Some k → ltb k count ≡ is_some (value_in (take count (entries_of ls rs n)) x)
+pub among_first : (ls : List Literal) (rs : List (Option ConId)) (ps : List (Option ℕ)) (n level : ℕ) → IsTrail ls rs ps n level → (x k count : ℕ) → get_or ps x None ≡ Some k
+    → ltb k count ≡ is_some (value_in (take count (entries_of ls rs n)) x)
 among_first ls rs ps n level t x k count e = elim (cases_lt k count) [
   | inl lt ↦ (
       let at : get_or (take count es) k f ≡ get_or es k f = get_or-take count es k f lt in
-      let w = value_in-at (take count es) x k f (omega (arith, length-take count es, here)) (ap (λ (g : Entry). g.lit.var) at ∙ var-is f) (λ j g l q. only j g (omega (arith, length-take count es, l)) (sym (ap (λ (g : Entry). g.lit.var) (get_or-take count es j g (omega (arith, length-take count es, l)))) ∙ q)) in
+      let w = value_in_at (take count es) x k f (omega (arith, length-take count es, here)) (ap (λ (g : Entry). g.lit.var) at ∙ var-is f)
+      (λ j g l q. only j g (omega (arith, length-take count es, l)) (sym (ap (λ (g : Entry). g.lit.var) (get_or-take count es j g (omega (arith, length-take count es, l)))) ∙ q)) in
       let test : ltb k count ≡ true = grind (arith, nat_tests) in
       test ∙ sym (ap is_some w.0))
   | inr ge ↦ (

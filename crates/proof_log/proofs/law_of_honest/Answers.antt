@@ -4,7 +4,7 @@ use Rattle.pb_rules.specs.Linear.{Linear}
 use Rattle.pb_rules.specs.Clauses.{IsClause}
 use Rattle.pb_rules.specs.Frames.{Line, derived, is_derived, with_derived, derived_from}
 use Rattle.pb_rules.specs.Honest.{AreHonest}
-use Rattle.pb_rules.proofs.Closed.{honest-push, unabsorbed-among, among-append, among-front, among-back}
+use Rattle.pb_rules.proofs.Closed.{honest_push, unabsorbed_among, among_append, among_front, among_back}
 use Rattle.pb_rules.proofs.Given.{given-push, derived-push}
 use Rattle.proof_log.proofs.law_of_honest.Goals as goal
 
@@ -24,7 +24,7 @@ returns-clause-one_more c f g h base ls ops clause honest e gives is new = recor
   derived_each = All-append IsDerived ls (derived ops ∷ []) honest.derived_each (All-cons IsDerived (derived ops) [] refl (All-nil IsDerived));
   after = with_derived h clause;
   legal = given-push f g h ls ops clause e gives;
-  honest = subst (AreHonest base) (sym (derived-push f g h ls ops clause e gives)) (honest-push base (derived_from f g ls) clause honest.honest is new);
+  honest = subst (AreHonest base) (sym (derived-push f g h ls ops clause e gives)) (honest_push base (derived_from f g ls) clause honest.honest is new);
 }
 
 pub returns-clause-part : goal.returns-clause-part
@@ -35,6 +35,7 @@ returns-clause-part c f g cs ds ls among honest = record {
   honest = record {
     clauses_each = honest.honest.clauses_each;
     unabsorbed = λ k d l. (let earlier : List Linear = take k (derived_from f g ls) in
-        unabsorbed-among (cs ++ earlier) (ds ++ earlier) _ (among-append cs earlier (ds ++ earlier) (λ x h. among-front ds earlier x (among x h)) (among-back ds earlier)) (honest.honest.unabsorbed k d l));
+        unabsorbed_among (cs ++ earlier) (ds ++ earlier) _ (among_append cs earlier (ds ++ earlier) (λ x h. among_front ds earlier x (among x h)) (among_back ds earlier))
+        (honest.honest.unabsorbed k d l));
   };
 }

@@ -6,9 +6,9 @@ use Rattle.line_words.specs.declared.refusals.FileTag.TheVariants.{Arch}
 use Rattle.line_words.specs.declared.refusals.Why.TheVariants.{NoHeader}
 use Rattle.line_words.specs.declared.refusals.Stop.TheVariants as stops_by
 use Rattle.line_words.proofs.Answering.{refused_as}
-use Rattle.arch_reader.specs.Arch.{is_header, stated, lines_in, ArchValue}
+use Rattle.arch_reader.specs.Arch.{is_header, arch_stated, lines_in, ArchValue}
 use Rattle.arch_reader.specs.Taking.{reading_of}
-use Rattle.arch_reader.proofs.Going.{count-gives, begins, no_header, no_statement, alone, at_fault}
+use Rattle.arch_reader.proofs.Going.{count_gives, begins, no_header, no_statement, alone, at_fault}
 use Rattle.arch_reader.proofs.reading.read_header.Goals as goal
 
 pub returns-in-None-clause-refused : goal.returns-in-None-clause-refused
@@ -20,7 +20,7 @@ returns-in-None-clause-refused c =
 pub returns-in-Some-Err-clause-refused : goal.returns-in-Some-Err-clause-refused
 returns-in-Some-Err-clause-refused c =
     let total : Reading = reading_of c.args.lines.now in
-    refused_as {X = ArchValue} Arch lines_in stated total c.in-Some-Err.refusal c.of_file.result c.of_file.ensures
+    refused_as {X = ArchValue} Arch lines_in arch_stated total c.in-Some-Err.refusal c.of_file.result c.of_file.ensures
     (alone c.args.lines.now c.next.new.self [] c.in-Some-Err.refusal total (rw c.in-Some-Err.field-0-is at c.in-Some-Err.ensures.line) refl)
 
 pub returns-then-is_headed-clause-begins : goal.returns-then-is_headed-clause-begins
@@ -32,7 +32,7 @@ returns-then-is_headed-clause-begins c =
     record {
       header = record { number = line.number; words = ws };
       goes = begins c.args.lines.now c.next.new.self line ws _ g c.in_ok-words.ensures.words fine refl;
-      count = count-gives c.args.lines.now c.next.new.self line g;
+      count = count_gives c.args.lines.now c.next.new.self line g;
     }
 
 pub returns-clause-refused : goal.returns-clause-refused

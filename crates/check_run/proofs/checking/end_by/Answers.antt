@@ -20,7 +20,9 @@ returns-in_ok-put_accepted-in-Accepted c = λ proof is.
         record {
           accepts = accepts;
           exact = c.law_of_fronts.ensures.values s front proof c.facts.ensures accepts;
-          says = c.said.ensures.text ∙ (c.in_ok-put_accepted-in-Accepted.ensures ∙ (ap (λ (t : List ℕ). t ++ accepted_text (length c.list.result.now)) c.new-text.ensures.items ∙ ap accepted_text entries));
+          says =
+              c.said.ensures.text ∙ (c.in_ok-put_accepted-in-Accepted.ensures ∙ (ap (λ (t : List ℕ). t ++ accepted_text (length c.list.result.now)) c.new-text.ensures.items
+              ∙ ap accepted_text entries));
         },
       );
       none_written = c.said.ensures.writes;

@@ -9,7 +9,8 @@ pub returns-in-Some-clause-verdict : goal.returns-in-Some-clause-verdict
 returns-in-Some-clause-verdict g c =
     let files = g.D.Desk.files c.args.desk.now in
     let name = c.args.name.now in
-    let told = subst (λ (f : Option Files). TakesPart f name c.loop-at.at c.min-count.result c.loop-at.lines c.take_part.new.lines c.in_ok-refused.field-0) c.loop-at.invariant.3 c.in_ok-refused.ensures.taken in
+    let told = subst (λ (f : Option Files). TakesPart f name c.loop-at.at c.min-count.result c.loop-at.lines c.take_part.new.lines c.in_ok-refused.field-0) c.loop-at.invariant.3
+    c.in_ok-refused.ensures.taken in
     let part = subst (λ (r : Option Refused). TakesPart files name c.loop-at.at c.min-count.result c.loop-at.lines c.take_part.new.lines r) c.in-Some.is told in
     refused_within files name c.loop-at.at c.min-count.result c.args.checker c.loop-at.lines c.take_part.new.lines c.in-Some.refused c.loop-at.invariant.0 part
 

@@ -5,7 +5,7 @@ use Rattle.pb_rules.specs.Partial.{is_false}
 use Rattle.constraint_store.specs.Live.{constraint_of}
 use Rattle.trail_state.specs.Trail.{value_in}
 use Rattle.conflict_graph.specs.Learning.{signs}
-use Rattle.conflict_graph.proofs.Writing.{mark-false, mark-kept, counted-join}
+use Rattle.conflict_graph.proofs.Writing.{mark_false, mark_kept, counted_join}
 use Rattle.conflict_graph.proofs.marks.mark.Goals as goal
 use Rattle.conflict_graph.proofs.marks.mark.Goals.{then-is_false, else-is_false}
 
@@ -24,10 +24,19 @@ loop-t-preserved c =
     elim c.if-is_false.branch [
       | then-is_false w ↦ (
           let f : is_false a t.lit ≡ true = sym c.is_false.ensures ∙ w.if-is_false.true in
-          let q = mark-false a ts i t start (signs c.loop-t.clause) (signs w.add_literal-count.new.clause) normal.rising c.loop-t-test.true c.t-item.is f inv.added w.add_literal-count.ensures.added in
-          record { added = λ y. ap (λ (items : List (Option Bool)). signs items y) w.clause-is ∙ q y; counted = counted-join es n (length c.loop-t.clause) c.if-is_false.count w.add_literal-count.result c.if-is_false.clause w.add_literal-count.new.clause (sym c.loop-t.auto.clause) w.count-is w.clause-is w.add_literal-count.ensures.counted })
+          let q = mark_false a ts i t start (signs c.loop-t.clause) (signs w.add_literal-count.new.clause) normal.rising c.loop-t-test.true c.t-item.is f inv.added w.add_literal-count.ensures.added in
+          record {
+            added = λ y. ap (λ (items : List (Option Bool)). signs items y) w.clause-is ∙ q y;
+            counted =
+                counted_join es n (length c.loop-t.clause) c.if-is_false.count w.add_literal-count.result c.if-is_false.clause w.add_literal-count.new.clause (sym c.loop-t.auto.clause) w.count-is
+                w.clause-is w.add_literal-count.ensures.counted;
+          })
       | else-is_false w ↦ (
           let f : is_false a t.lit ≡ false = sym c.is_false.ensures ∙ w.if-is_false.false in
-          let q = mark-kept a ts i t start (signs c.loop-t.clause) normal.rising c.loop-t-test.true c.t-item.is f inv.added in
-          record { added = λ y. ap (λ (items : List (Option Bool)). signs items y) w.clause-is ∙ q y; counted = counted-join es n n c.if-is_false.count c.loop-t.count c.if-is_false.clause c.loop-t.clause refl w.count-is w.clause-is inv.counted })
+          let q = mark_kept a ts i t start (signs c.loop-t.clause) normal.rising c.loop-t-test.true c.t-item.is f inv.added in
+          record {
+            added = λ y. ap (λ (items : List (Option Bool)). signs items y) w.clause-is ∙ q y;
+            counted =
+                counted_join es n n c.if-is_false.count c.loop-t.count c.if-is_false.clause c.loop-t.clause refl w.count-is w.clause-is inv.counted;
+          })
     ]

@@ -33,7 +33,8 @@ loop-place-preserved c =
           let here : get_or ss l.place empty_span ≡ Some s = sym (get_or_read ss l.place c.index.result.now h c.index.ensures empty_span) ∙ w.in-Some.is in
           let r = read_within l.end (length ts) ss l.place c.index.result.now s h c.index.ensures w.in-Some.is l.invariant.rest in
           rw (w.terms-is, w.spans-is, w.used-is, w.end-is) (record {
-            live = close_more c.args.terms.now.items ts w.move_down.new.terms.items c.args.spans.now.items ss l.used l.place l.end s w.move_down.result h l.invariant.within here m.start m.count m.degree m.proof_id m.moved m.below m.behind l.invariant.front l.invariant.rest l.invariant.live;
+            live = close_more c.args.terms.now.items ts w.move_down.new.terms.items c.args.spans.now.items ss l.used l.place l.end s w.move_down.result h l.invariant.within here m.start m.count
+                m.degree m.proof_id m.moved m.below m.behind l.invariant.front l.invariant.rest l.invariant.live;
             front = close_front ss l.used l.end s.count w.move_down.result (omega (arith, l.invariant.within)) m.start m.count l.invariant.front;
             rest = close_rest ss l.used l.place l.end (length ts) (length w.move_down.new.terms.items) s w.move_down.result l.invariant.within r.0 (sym m.as_long) r.1;
             within = omega (arith, l.invariant.within);
@@ -56,4 +57,5 @@ loop-place-preserved c =
 pub returns-clause-live : goal.returns-clause-live
 returns-clause-live c =
     let l = c.loop-place in
-    closed_live c.args.terms.now.items l.terms.items c.truncate-2.new.self.items c.args.spans.now.items l.spans.items c.truncate.new.self.items l.used l.place l.end (omega (arith, l.invariant.as_many)) l.invariant.front l.invariant.live c.truncate-2.ensures.items c.truncate.ensures.items
+    closed_live c.args.terms.now.items l.terms.items c.truncate-2.new.self.items c.args.spans.now.items l.spans.items c.truncate.new.self.items l.used l.place l.end
+    (omega (arith, l.invariant.as_many)) l.invariant.front l.invariant.live c.truncate-2.ensures.items c.truncate.ensures.items

@@ -1,23 +1,26 @@
 use Rattle.std.proofs.Common.{◌≡◌, ◌<◌, ◌∙◌, ◌+◌, ◌-◌, ℕ, None, take, length, get_or, sym, ap, arith}
 use Rattle.std.proofs.lemmas.List.{get_or_read}
 use Rattle.constraint_store.specs.Spans.{live_from}
-use Rattle.constraint_store.proofs.LiveSpans.{empty_span, live_from-less}
+use Rattle.constraint_store.proofs.LiveSpans.{empty_span, live_from_less}
 use Rattle.constraint_store.proofs.Parts.{follow_taken}
 use Rattle.constraint_store.proofs.spans.drop_empty.Goals as goal
 
 pub overflow_add-result : goal.overflow_add-result
 overflow_add-result c =
-    let f = follow_taken c.args.end c.args.spans.now.items c.loop-filled.spans.items c.loop-filled.filled c.index.result.now c.in-Some.span (omega arith) c.loop-filled.invariant.within c.loop-filled.invariant.same c.index.ensures c.in-Some.is c.requires in
+    let f = follow_taken c.args.end c.args.spans.now.items c.loop-filled.spans.items c.loop-filled.filled c.index.result.now c.in-Some.span (omega arith) c.loop-filled.invariant.within
+    c.loop-filled.invariant.same c.index.ensures c.in-Some.is c.requires in
     omega (arith, f.1)
 
 pub returns-in-Some-clause-follow : goal.returns-in-Some-clause-follow
 returns-in-Some-clause-follow c =
-    let f = follow_taken c.args.end c.args.spans.now.items c.loop-filled.spans.items c.loop-filled.filled c.index.result.now c.in-Some.span (omega arith) c.loop-filled.invariant.within c.loop-filled.invariant.same c.index.ensures c.in-Some.is c.requires in
+    let f = follow_taken c.args.end c.args.spans.now.items c.loop-filled.spans.items c.loop-filled.filled c.index.result.now c.in-Some.span (omega arith) c.loop-filled.invariant.within
+    c.loop-filled.invariant.same c.index.ensures c.in-Some.is c.requires in
     rw c.truncate.ensures.items f.0
 
 pub returns-in-Some-clause-within : goal.returns-in-Some-clause-within
 returns-in-Some-clause-within c =
-    (follow_taken c.args.end c.args.spans.now.items c.loop-filled.spans.items c.loop-filled.filled c.index.result.now c.in-Some.span (omega arith) c.loop-filled.invariant.within c.loop-filled.invariant.same c.index.ensures c.in-Some.is c.requires).1
+    (follow_taken c.args.end c.args.spans.now.items c.loop-filled.spans.items c.loop-filled.filled c.index.result.now c.in-Some.span (omega arith) c.loop-filled.invariant.within
+    c.loop-filled.invariant.same c.index.ensures c.in-Some.is c.requires).1
 
 pub loop-filled-preserved : goal.loop-filled-preserved
 loop-filled-preserved c =
@@ -30,5 +33,5 @@ loop-filled-preserved c =
     record {
       within = omega arith;
       same = c.loop-filled.invariant.same;
-      live = λ ts. live_from-less ts ss n h none ∙ ap (λ (k : ℕ). live_from ts 0 (take k ss)) back ∙ c.loop-filled.invariant.live ts;
+      live = λ ts. live_from_less ts ss n h none ∙ ap (λ (k : ℕ). live_from ts 0 (take k ss)) back ∙ c.loop-filled.invariant.live ts;
     }

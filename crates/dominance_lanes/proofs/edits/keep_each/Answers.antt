@@ -19,4 +19,5 @@ loop-column-preserved c =
     let old = map vec_items c.args.columns.now in
     let same : length c.loop-column.columns ≡ length old = omega (arith, length-map c.args.columns.now vec_items, c.loop-column.auto.columns) in
     let inside : c.loop-column.column-index < length c.loop-column.columns = omega (arith, c.loop-column.auto.columns) in
-    changed_more vec_items (unmarked c.args.marks.now) c.loop-column.columns old c.loop-column.column-index c.column-item.result c.keep_in.new.column [] inside same c.column-item.is c.keep_in.ensures c.loop-column.invariant
+    changed_more vec_items (unmarked c.args.marks.now) c.loop-column.columns old c.loop-column.column-index c.column-item.result c.keep_in.new.column [] inside same c.column-item.is
+    c.keep_in.ensures c.loop-column.invariant

@@ -15,4 +15,5 @@ loop-j-preserved c =
     let old = map vec_items c.args.columns.now in
     let made = push_made c.push.result _ _ _ c.push.ensures.items (sym c.if-is_err.false ∙ c.is_err.ensures.value) in
     let same : length c.loop-j.columns ≡ length old = omega (arith, length-map c.args.columns.now vec_items, c.loop-j.auto.columns) in
-    row_more vec_items c.loop-j.columns old c.args.v.now c.loop-j.j c.index-columns-j.result c.push.new.self (omega (arith, c.loop-j.auto.columns)) same c.loop-j-test.true c.index-columns-j.is made c.loop-j.invariant
+    row_more vec_items c.loop-j.columns old c.args.v.now c.loop-j.j c.index-columns-j.result c.push.new.self (omega (arith, c.loop-j.auto.columns)) same c.loop-j-test.true c.index-columns-j.is
+    made c.loop-j.invariant

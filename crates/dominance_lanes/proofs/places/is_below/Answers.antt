@@ -7,12 +7,14 @@ use Rattle.dominance_lanes.proofs.places.is_below.Goals as goal
 pub returns-then-index-v : goal.returns-then-index-v
 returns-then-index-v c =
     let row = row_at (map vec_items c.args.columns.now) c.args.k in
-    let read = read_at c.args.columns.now c.loop-j.j c.args.k c.index-columns-j.result c.index.result.now c.loop-j-test.true c.index-columns-j.is (c.requires.room c.loop-j.j c.index-columns-j.result c.loop-j-test.true) c.index.ensures in
+    let read = read_at c.args.columns.now c.loop-j.j c.args.k c.index-columns-j.result c.index.result.now c.loop-j-test.true c.index-columns-j.is
+    (c.requires.room c.loop-j.j c.index-columns-j.result c.loop-j-test.true) c.index.ensures in
     let inside : c.loop-j.j < length c.args.v.now = omega arith in
     sym (fails (length c.args.v.now) c.loop-j.j row c.args.v.now inside (lt-ltb _ _ (omega (arith, read, c.if-index-v.true))))
 
 pub loop-j-preserved : goal.loop-j-preserved
 loop-j-preserved c =
     let row = row_at (map vec_items c.args.columns.now) c.args.k in
-    let read = read_at c.args.columns.now c.loop-j.j c.args.k c.index-columns-j.result c.index.result.now c.loop-j-test.true c.index-columns-j.is (c.requires.room c.loop-j.j c.index-columns-j.result c.loop-j-test.true) c.index.ensures in
+    let read = read_at c.args.columns.now c.loop-j.j c.args.k c.index-columns-j.result c.index.result.now c.loop-j-test.true c.index-columns-j.is
+    (c.requires.room c.loop-j.j c.index-columns-j.result c.loop-j-test.true) c.index.ensures in
     goes_on c.loop-j.j row c.args.v.now (le-ltb _ _ (omega (arith, read, c.if-index-v.false))) ∙ c.loop-j.invariant

@@ -16,4 +16,6 @@ returns-in-Some c =
     first_found (map vec_items c.args.columns.now) c.args.v.now c.args.len c.in-Some.k (length-map c.args.columns.now vec_items ∙ c.requires.width) (omega (arith, found.to)) found.here found.before
 
 pub returns-in-None : goal.returns-in-None
-returns-in-None c = found_or_none (map vec_items c.args.columns.now) c.args.v.now (c.args.len / 8 * 8) c.args.len c.first_in_rest.result (length-map c.args.columns.now vec_items ∙ c.requires.width) c.in-None.ensures c.first_in_rest.ensures
+returns-in-None c =
+    found_or_none (map vec_items c.args.columns.now) c.args.v.now (c.args.len / 8 * 8) c.args.len c.first_in_rest.result (length-map c.args.columns.now vec_items ∙ c.requires.width)
+    c.in-None.ensures c.first_in_rest.ensures

@@ -7,4 +7,6 @@ use Rattle.dse_run.specs.Searching.{evidence_value}
 use Rattle.dse_run.proofs.decode.decode_spec.Goals as goal
 
 pub returns-in-Ok : goal.returns-in-Ok
-returns-in-Ok c = λ world third. subst (λ (read : Result SpecValue ReadFault). GoesOn read (DecodesSpec (evidence_value c.args.wanted) world) c.decode_with.result) (sym c.in-Ok.is) (c.decode_with.ensures world third)
+returns-in-Ok c =
+    λ world third. subst (λ (read : Result SpecValue ReadFault). GoesOn read (DecodesSpec (evidence_value c.args.wanted) world) c.decode_with.result) (sym c.in-Ok.is)
+    (c.decode_with.ensures world third)

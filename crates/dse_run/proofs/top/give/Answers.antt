@@ -1,11 +1,11 @@
 use Rattle.std.proofs.Common.{◌≡◌, Option, ap, subst, sym}
 use Rattle.desk_io.specs.Files.{Files}
-use Rattle.desk_io.proofs.HeldLemmas.{on_err}
 use Rattle.file_writes.specs.Writes.{AreWritten, ArePartlyWritten, Leaves}
 use Rattle.file_writes.proofs.Rewriting.{leaves_then}
 use Rattle.file_writes.proofs.Written.{whole}
 use Rattle.dse_run.specs.Run.{ReplyValue}
 use Rattle.dse_run.proofs.top.give.Goals as goal
+use Rattle.plain_lists.proofs.Results.{on_err}
 
 pub returns-clause-part : goal.returns-clause-part
 returns-clause-part g c =

@@ -1,4 +1,4 @@
-use Rattle.std.proofs.Common.{◌≡◌, ◌∙◌, ℕ, Option, Some, ap, arith, length, map, option_map, string_bytes, subst, sym, vec_len}
+use Rattle.std.proofs.Common.{◌≡◌, ◌∙◌, ℕ, Some, ap, arith, length, map, option_map, string_bytes, subst, sym, vec_len}
 use Rattle.std.proofs.lemmas.List.{length-map}
 use Rattle.run_words.specs.Fit.{IsFit}
 use Rattle.run_words.specs.Requests.{request}

@@ -18,7 +18,9 @@ loop-v-preserved c =
     let below_model : v < length model = omega (arith, design_variables-le c.args.spec.now, c.requires.variables) in
     record {
       bits = ap length c.set.ensures ∙ (length-set d v (get_or model v false) ∙ c.loop-v.invariant.bits);
-      same = ap (take (v + 1)) c.set.ensures ∙ (take_more_set d v (get_or model v false) below_design ∙ (ap (λ (xs : List Bool). xs ++ get_or model v false ∷ []) c.loop-v.invariant.same ∙ sym (take_more model v false below_model)));
+      same =
+          ap (take (v + 1)) c.set.ensures ∙ (take_more_set d v (get_or model v false) below_design ∙ (ap (λ (xs : List Bool). xs ++ get_or model v false ∷ []) c.loop-v.invariant.same
+          ∙ sym (take_more model v false below_model)));
     }
 
 pub returns-clause-valid : goal.returns-clause-valid

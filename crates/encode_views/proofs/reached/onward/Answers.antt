@@ -18,8 +18,11 @@ loop-a-preserved c =
     let s = c.args.spec.now in
     let f = bits_of c.args.design.now in
     elim c.if-leaves_from.branch [
-      | then-leaves_from w ↦ hop_more s f c.args.m.0 c.loop-a.a c.args.before.now c.loop-a.bits.items c.if-leaves_from.bits.items c.loop-a.invariant (omega (arith, w.arc.ensures.head, w.arc.ensures.head_there)) (sym c.leaves_from.ensures ∙ w.if-leaves_from.true) (ap (λ v. v.items) w.bits-is ∙ ap (λ (i : ℕ). set c.loop-a.bits.items i true) w.arc.ensures.head)
-      | else-leaves_from w ↦ hop_same s f c.args.m.0 c.loop-a.a c.args.before.now c.loop-a.bits.items c.if-leaves_from.bits.items c.loop-a.invariant (sym c.leaves_from.ensures ∙ w.if-leaves_from.false) (ap (λ v. v.items) w.bits-is)
+      | then-leaves_from w ↦ hop_more s f c.args.m.0 c.loop-a.a c.args.before.now c.loop-a.bits.items c.if-leaves_from.bits.items c.loop-a.invariant
+          (omega (arith, w.arc.ensures.head, w.arc.ensures.head_there)) (sym c.leaves_from.ensures ∙ w.if-leaves_from.true)
+          (ap (λ v. v.items) w.bits-is ∙ ap (λ (i : ℕ). set c.loop-a.bits.items i true) w.arc.ensures.head)
+      | else-leaves_from w ↦ hop_same s f c.args.m.0 c.loop-a.a c.args.before.now c.loop-a.bits.items c.if-leaves_from.bits.items c.loop-a.invariant
+          (sym c.leaves_from.ensures ∙ w.if-leaves_from.false) (ap (λ v. v.items) w.bits-is)
     ]
 
 pub returns : goal.returns

@@ -19,7 +19,8 @@ loop-t-preserved c =
     let row = reached_row s f c.args.m.0 in
     let t = c.loop-t.t in
     let before : c.index.result.now ≡ row t =
-    c.index.ensures ∙ (ap (λ (xs : List (List Bool)). get_or xs t c.index.result.now) c.loop-t.invariant ∙ get_or-map-range_with_len row 0 (t + 1) t t c.index.result.now (omega arith) (omega arith)) in
+    c.index.ensures ∙ (ap (λ (xs : List (List Bool)). get_or xs t c.index.result.now) c.loop-t.invariant
+    ∙ get_or-map-range_with_len row 0 (t + 1) t t c.index.result.now (omega arith) (omega arith)) in
     let next : c.in_ok-next.next ≡ row (t + 1) = c.in_ok-next.ensures ∙ (ap (next_row s f c.args.m.0) before ∙ onward_row s f c.args.m.0 t c.facts.ensures) in
     c.in_ok-push-2.ensures.items
     ∙ (ap (λ (xs : List (List Bool)). xs ++ c.in_ok-next.next ∷ []) c.loop-t.invariant

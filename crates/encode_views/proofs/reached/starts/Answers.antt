@@ -22,8 +22,11 @@ loop-o-preserved c =
     let f = bits_of c.args.design.now in
     let sender = ap (λ (t : ℕ). is_chosen_for s f t c.loop-o.o) (sym c.sender-sender.ensures.sender) ∙ sym c.is_chosen_for.ensures in
     elim c.if-is_chosen_for.branch [
-      | then-is_chosen_for w ↦ start_more s f (sender_of s c.args.m.0) c.loop-o.o c.loop-o.bits.items c.if-is_chosen_for.bits.items c.loop-o.invariant (omega (arith, w.option.ensures.resource, w.option.ensures.resource_there)) (sender ∙ w.if-is_chosen_for.true) (ap (λ v. v.items) w.bits-is ∙ ap (λ (i : ℕ). set c.loop-o.bits.items i true) w.option.ensures.resource)
-      | else-is_chosen_for w ↦ start_same s f (sender_of s c.args.m.0) c.loop-o.o c.loop-o.bits.items c.if-is_chosen_for.bits.items c.loop-o.invariant (sender ∙ w.if-is_chosen_for.false) (ap (λ v. v.items) w.bits-is)
+      | then-is_chosen_for w ↦ start_more s f (sender_of s c.args.m.0) c.loop-o.o c.loop-o.bits.items c.if-is_chosen_for.bits.items c.loop-o.invariant
+          (omega (arith, w.option.ensures.resource, w.option.ensures.resource_there)) (sender ∙ w.if-is_chosen_for.true)
+          (ap (λ v. v.items) w.bits-is ∙ ap (λ (i : ℕ). set c.loop-o.bits.items i true) w.option.ensures.resource)
+      | else-is_chosen_for w ↦ start_same s f (sender_of s c.args.m.0) c.loop-o.o c.loop-o.bits.items c.if-is_chosen_for.bits.items c.loop-o.invariant (sender ∙ w.if-is_chosen_for.false)
+          (ap (λ v. v.items) w.bits-is)
     ]
 
 pub returns : goal.returns

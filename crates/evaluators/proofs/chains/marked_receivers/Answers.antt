@@ -23,6 +23,7 @@ loop-m-preserved c =
           let same : c.if-marks-sender.next.items ≡ c.loop-m.next.items = ap (λ v. v.items) w.next-is in
           record {
             long = ap length same ∙ c.loop-m.invariant.long;
-            marked = λ t. ap (λ ms. is_marked ms t) same ∙ sent_same c.args.spec.now c.args.marks.now c.loop-m.next.items c.loop-m.m (sender_is c.args.spec.now c.args.marks.now c.loop-m.m _ _ c.sender.ensures.sender w.if-marks-sender.false) c.loop-m.invariant.marked t;
+            marked = λ t. ap (λ ms. is_marked ms t) same ∙ sent_same c.args.spec.now c.args.marks.now c.loop-m.next.items c.loop-m.m
+                (sender_is c.args.spec.now c.args.marks.now c.loop-m.m _ _ c.sender.ensures.sender w.if-marks-sender.false) c.loop-m.invariant.marked t;
           }
     ]

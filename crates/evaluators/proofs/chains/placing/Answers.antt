@@ -13,7 +13,9 @@ loop-d-preserved c =
     let are : AreDepths s c.deref.result.now = subst (AreDepths s) (sym c.deref.ensures.value) c.in_ok-depths.ensures in
     record {
       order = c.in_ok-add_of_depth.ensures.added s are ∙ (ap (λ (xs : List ℕ). xs ++ tasks_of_depth s c.loop-d.d) c.loop-d.invariant.order ∙ sym (flat_map-below_more (tasks_of_depth s) c.loop-d.d));
-      tasks = subst (λ (n : ℕ). All (IsBelow n) c.add_of_depth.new.order.items) are.each (c.add_of_depth.ensures.tasks (subst (λ (n : ℕ). All (IsBelow n) c.loop-d.order.items) (sym are.each) c.loop-d.invariant.tasks));
+      tasks =
+          subst (λ (n : ℕ). All (IsBelow n) c.add_of_depth.new.order.items) are.each (c.add_of_depth.ensures.tasks
+          (subst (λ (n : ℕ). All (IsBelow n) c.loop-d.order.items) (sym are.each) c.loop-d.invariant.tasks));
     }
 
 pub returns-clause-few : goal.returns-clause-few

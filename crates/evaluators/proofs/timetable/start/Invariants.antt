@@ -6,6 +6,7 @@ use Rattle.evaluators.proofs.timetable.start.Given as goal
 
 abbrev pub invariant-loop-m : goal.invariant-loop-m
 invariant-loop-m l = record {
-  time : (slots : List Slot) → ArePlaced l.spec slots l.table → l.start ≡ max (free_from slots l.r.0) (greatest (map (arrival l.spec (bits_of l.design) slots l.r.0) (those (goes_to l.spec l.t.0) l.m)));
+  time : (slots : List Slot) → ArePlaced l.spec slots l.table → l.start ≡ max (free_from slots l.r.0)
+      (greatest (map (arrival l.spec (bits_of l.design) slots l.r.0) (those (goes_to l.spec l.t.0) l.m)));
   small : (time : ℕ) → EndsBy time l.table → l.start ≤ time + 2 ^ 48;
 }

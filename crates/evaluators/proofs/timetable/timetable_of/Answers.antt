@@ -10,7 +10,8 @@ pub place-requires-clause-room : goal.place-requires-clause-room
 place-requires-clause-room c = ends_later (c.loop-i.i * 2 ^ 49) (2 ^ 60) c.loop-i.table (omega (arith, c.in_ok-order.ensures.few, c.facts.ensures.plan.few_tasks)) c.loop-i.invariant.small
 
 pub returns-clause-placed : goal.returns-clause-placed
-returns-clause-placed c = subst (λ (slots : List Slot). ArePlaced c.args.spec.now slots c.loop-i.table) (slots_all c.args.spec.now (bits_of c.args.design.now) c.in_ok-order.order.items c.loop-i.i c.in_ok-order.ensures.order (omega arith)) c.loop-i.invariant.placed
+returns-clause-placed c = subst (λ (slots : List Slot). ArePlaced c.args.spec.now slots c.loop-i.table)
+    (slots_all c.args.spec.now (bits_of c.args.design.now) c.in_ok-order.order.items c.loop-i.i c.in_ok-order.ensures.order (omega arith)) c.loop-i.invariant.placed
 
 pub loop-i-preserved : goal.loop-i-preserved
 loop-i-preserved c =

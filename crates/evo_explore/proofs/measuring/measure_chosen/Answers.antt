@@ -13,11 +13,14 @@ pub returns-in_err-push-clause-values : goal.returns-in_err-push-clause-values
 returns-in_err-push-clause-values g c s d = c.measure_at.ensures.values s d ∙ c.loop-place.invariant.values s d
 
 pub returns-in_err-push-clause-at_most : goal.returns-in_err-push-clause-at_most
-returns-in_err-push-clause-at_most g c = rose_at_most _ _ _ (c.loop-place.place-index + 1) (rose_more _ _ _ _ _ _ c.loop-place-test.true refl (place_below _ _ _ c.loop-place.place-index c.loop-place-test.true c.requires.within (omega arith)) c.in_ok-number.ensures.counted c.loop-place.invariant.rose)
+returns-in_err-push-clause-at_most g c = rose_at_most _ _ _ (c.loop-place.place-index + 1) (rose_more _ _ _ _ _ _ c.loop-place-test.true refl
+    (place_below _ _ _ c.loop-place.place-index c.loop-place-test.true c.requires.within (omega arith)) c.in_ok-number.ensures.counted c.loop-place.invariant.rose)
 
 pub loop-place-preserved : goal.loop-place-preserved
 loop-place-preserved g c = record {
-  rose = rose_more _ _ _ _ _ _ c.loop-place-test.true refl (place_below _ _ _ c.loop-place.place-index c.loop-place-test.true c.requires.within (omega arith)) c.in_ok-number.ensures.counted c.loop-place.invariant.rose;
+  rose =
+      rose_more _ _ _ _ _ _ c.loop-place-test.true refl (place_below _ _ _ c.loop-place.place-index c.loop-place-test.true c.requires.within (omega arith)) c.in_ok-number.ensures.counted
+      c.loop-place.invariant.rose;
   len = search rules;
   tags = c.measure_at.ensures.tags ∙ c.loop-place.invariant.tags;
   values = λ s d. c.measure_at.ensures.values s d ∙ c.loop-place.invariant.values s d;

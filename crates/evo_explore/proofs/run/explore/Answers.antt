@@ -34,8 +34,12 @@ round-requires g c =
       same_spec = i.spec_is;
       genes = i.genes;
       width = omega (arith, i.width, ap length same);
-      within = subst (λ (ps : List ℕ). All (λ (p : ℕ). p < vec_len c.loop-round.tools) ps) (sym same) (subst (λ (n : ℕ). All (λ (p : ℕ). p < n) c.args.params.now.chosen.items) (sym i.len) c.requires.within);
-      room = subst (λ (ps : List ℕ). HasRoom 1 ps (map (λ t. (goal.Evaluator-dyn g (t.vtable, t.value)).calls t.value) c.loop-round.tools.items)) (sym same) (round_room _ _ _ _ _ c.loop-round-test.true i.rose c.requires.room);
+      within =
+          subst (λ (ps : List ℕ). All (λ (p : ℕ). p < vec_len c.loop-round.tools) ps) (sym same) (subst (λ (n : ℕ). All (λ (p : ℕ). p < n) c.args.params.now.chosen.items) (sym i.len)
+          c.requires.within);
+      room =
+          subst (λ (ps : List ℕ). HasRoom 1 ps (map (λ t. (goal.Evaluator-dyn g (t.vtable, t.value)).calls t.value) c.loop-round.tools.items)) (sym same)
+          (round_room _ _ _ _ _ c.loop-round-test.true i.rose c.requires.room);
     }
 
 pub loop-round-preserved : goal.loop-round-preserved
@@ -56,7 +60,9 @@ loop-round-preserved g c =
       ready = ap (λ (v : DecoderValue). v.spent) x.same ∙ i.ready;
       genes = x.genes;
       width = x.width ∙ i.width;
-      rose = round_more _ _ _ _ _ i.rose (subst (λ (b : Bool). CountsSay c.args.params.now.chosen.items mid new b) c.if-not-more.false (subst (λ (ps : List ℕ). CountsSay ps mid new c.in_ok-more.more) same x.counted));
+      rose =
+          round_more _ _ _ _ _ i.rose (subst (λ (b : Bool). CountsSay c.args.params.now.chosen.items mid new b) c.if-not-more.false
+          (subst (λ (ps : List ℕ). CountsSay ps mid new c.in_ok-more.more) same x.counted));
       len = c.round.ensures.len ∙ i.len;
       tags = c.round.ensures.tags ∙ i.tags;
       values = λ t f. c.round.ensures.values t f ∙ i.values t f;
@@ -104,7 +110,8 @@ returns-then-not-more-clause-infeasible g c =
     infeasible_so s g.W.Words.gives g.W.Words.after old _ _ _ _ _ _ c.ended.result.end c.ended.ensures.end found
 
 pub returns-then-not-more-clause-log : goal.returns-then-not-more-clause-log
-returns-then-not-more-clause-log g c = subst (λ (t : SpecValue). IsLogOf t c.ended.result.log) (ap (λ (v : DecoderValue). v.spec) c.in_ok-more.ensures.same ∙ c.loop-round.invariant.spec_is) c.ended.ensures.log_of
+returns-then-not-more-clause-log g c =
+    subst (λ (t : SpecValue). IsLogOf t c.ended.result.log) (ap (λ (v : DecoderValue). v.spec) c.in_ok-more.ensures.same ∙ c.loop-round.invariant.spec_is) c.ended.ensures.log_of
 
 pub returns-then-not-more-clause-counted : goal.returns-then-not-more-clause-counted
 returns-then-not-more-clause-counted g c =
@@ -116,7 +123,8 @@ returns-then-not-more-clause-counted g c =
     let mid : List ℕ = map (λ t. (goal.Evaluator-dyn g (t.vtable, t.value)).calls t.value) c.loop-round.tools.items in
     let new : List ℕ = map (λ t. (goal.Evaluator-dyn g (t.vtable, t.value)).calls t.value) c.round.new.tools.items in
     let same = subst (λ (b : Bool). CountsSay c.deref.result.now mid new b) c.if-not-more.true c.in_ok-more.ensures.counted in
-    counted_none s g.W.Words.gives g.W.Words.after old _ _ _ _ c.ended.result.history _ _ _ _ _ _ (c.ended.ensures.history ∙ found.no_history) found.refuted.none_valid c.loop-round.invariant.found c.loop-round.invariant.rose same
+    counted_none s g.W.Words.gives g.W.Words.after old _ _ _ _ c.ended.result.history _ _ _ _ _ _ (c.ended.ensures.history ∙ found.no_history) found.refuted.none_valid c.loop-round.invariant.found
+    c.loop-round.invariant.rose same
 
 pub returns-then-not-more-clause-at_most : goal.returns-then-not-more-clause-at_most
 returns-then-not-more-clause-at_most g c =
@@ -134,7 +142,8 @@ returns-clause-run g c =
     let s = c.args.spec.now in
     let old : Bits → List ℕ = λ f. picked (map (λ t. (goal.Evaluator-dyn g (t.vtable, t.value)).value t.value s f) c.args.tools.now.items) c.args.params.now.chosen.items in
     let all : c.loop-round._round ≡ c.args.params.now.rounds = omega (arith, c.loop-round-test.false, c.loop-round.auto._round-end) in
-    let found = subst (λ (n : ℕ). IsFound s g.W.Words.gives g.W.Words.after old c.args.words.now c.loop-round.words c.loop-round.decoder.log c.loop-round.found.history c.loop-round.found.archive.members n) all c.loop-round.invariant.found in
+    let found = subst (λ (n : ℕ). IsFound s g.W.Words.gives g.W.Words.after old c.args.words.now c.loop-round.words c.loop-round.decoder.log c.loop-round.found.history
+    c.loop-round.found.archive.members n) all c.loop-round.invariant.found in
     let e = c.ended-2.ensures in
     done_run s g.W.Words.gives g.W.Words.after old _ _ _ c.ended-2.result _ c.loop-round.found e.history e.archive e.log e.end found
 
@@ -143,7 +152,8 @@ returns-clause-infeasible g c =
     let s = c.args.spec.now in
     let old : Bits → List ℕ = λ f. picked (map (λ t. (goal.Evaluator-dyn g (t.vtable, t.value)).value t.value s f) c.args.tools.now.items) c.args.params.now.chosen.items in
     let all : c.loop-round._round ≡ c.args.params.now.rounds = omega (arith, c.loop-round-test.false, c.loop-round.auto._round-end) in
-    let found = subst (λ (n : ℕ). IsFound s g.W.Words.gives g.W.Words.after old c.args.words.now c.loop-round.words c.loop-round.decoder.log c.loop-round.found.history c.loop-round.found.archive.members n) all c.loop-round.invariant.found in
+    let found = subst (λ (n : ℕ). IsFound s g.W.Words.gives g.W.Words.after old c.args.words.now c.loop-round.words c.loop-round.decoder.log c.loop-round.found.history
+    c.loop-round.found.archive.members n) all c.loop-round.invariant.found in
     done_not s g.W.Words.gives g.W.Words.after old _ _ _ _ _ _ c.ended-2.result.end c.ended-2.ensures.end found
 
 pub returns-clause-log : goal.returns-clause-log

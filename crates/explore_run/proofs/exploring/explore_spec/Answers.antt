@@ -15,4 +15,5 @@ returns-in-Ok-clause-comes g c =
       calls = map (λ t. (goal.Evaluator-dyn g (t.vtable, t.value)).calls t.value) items;
       values = λ s f. map (λ t. (goal.Evaluator-dyn g (t.vtable, t.value)).value t.value s f) items;
     } in
-    subst (λ (read : Result SpecValue ReadFault). GoesOn read (ExploresSpec (wanted_value c.args.wanted) tools (map (λ t. (goal.Evaluator-dyn g (t.vtable, t.value)).calls t.value) c.explore_with.new.tools.items)) c.explore_with.result) (sym c.in-Ok.is) c.explore_with.ensures.comes
+    subst (λ (read : Result SpecValue ReadFault). GoesOn read (ExploresSpec (wanted_value c.args.wanted) tools
+    (map (λ t. (goal.Evaluator-dyn g (t.vtable, t.value)).calls t.value) c.explore_with.new.tools.items)) c.explore_with.result) (sym c.in-Ok.is) c.explore_with.ensures.comes

@@ -20,6 +20,7 @@ returns-clause-finds g c =
     } in
     finds_from c.law_of_files.ensures.legal c.law_of_logs.ensures c.args.spec.now (c.law_of_frames.ensures.frame c.args.spec.now c.facts.ensures)
     (wanted_value c.args.wanted) tools _ c.in_ok-params.params.rounds c.in_ok-params.params.chosen.items _ c.seed_from_u64-words.result c.explore.new.words run c.in_ok-outcome.outcome
-    c.in_ok-params.ensures.rounds c.in_ok-params.ensures.chosen (ap (λ ts. map (λ t. (goal.Evaluator-dyn g (t.vtable, t.value)).text t.value) ts) c.deref.ensures.value ∙ c.in_ok-run.ensures.tags) c.seed_from_u64-words.ensures
+    c.in_ok-params.ensures.rounds c.in_ok-params.ensures.chosen (ap (λ ts. map (λ t. (goal.Evaluator-dyn g (t.vtable, t.value)).text t.value) ts) c.deref.ensures.value ∙ c.in_ok-run.ensures.tags)
+    c.seed_from_u64-words.ensures
     c.in_ok-run.ensures.run c.in_ok-run.ensures.infeasible c.in_ok-run.ensures.log c.in_ok-run.ensures.counted
     c.in_ok-outcome.ensures.ending c.in_ok-outcome.ensures.says c.in_ok-outcome.ensures.writes

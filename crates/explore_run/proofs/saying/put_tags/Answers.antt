@@ -11,9 +11,11 @@ loop-i-preserved g c =
     let tag : slice_index_or tags (get_or c.args.chosen.now c.loop-i.i 0) [] ≡ get_or (tags_at tags c.args.chosen.now) c.loop-i.i [] =
     sym (get_or-map (λ (p : ℕ). slice_index_or tags p []) c.args.chosen.now c.loop-i.i 0 [] there) in
     let push = c.in_ok-put_tag.ensures ∙ ap (λ (w : List ℕ). c.loop-i.out.items ++ 32 ∷ w) tag in
-    word_more c.args.out.now.items c.loop-i.out.items c.put_tag.new.out.items (tags_at tags c.args.chosen.now) c.loop-i.i c.loop-i.invariant push (omega (arith, there, length-map c.args.chosen.now (λ (p : ℕ). slice_index_or tags p [])))
+    word_more c.args.out.now.items c.loop-i.out.items c.put_tag.new.out.items (tags_at tags c.args.chosen.now) c.loop-i.i c.loop-i.invariant push
+    (omega (arith, there, length-map c.args.chosen.now (λ (p : ℕ). slice_index_or tags p [])))
 
 pub returns : goal.returns
 returns g c =
     let tags = map (λ t. (goal.Evaluator-dyn g (t.vtable, t.value)).text t.value) c.args.tools.now in
-    words_whole c.args.out.now.items c.loop-i.out.items (tags_at tags c.args.chosen.now) c.loop-i.i (omega (arith, length-map c.args.chosen.now (λ (p : ℕ). slice_index_or tags p []))) c.loop-i.invariant
+    words_whole c.args.out.now.items c.loop-i.out.items (tags_at tags c.args.chosen.now) c.loop-i.i (omega (arith, length-map c.args.chosen.now (λ (p : ℕ). slice_index_or tags p [])))
+    c.loop-i.invariant

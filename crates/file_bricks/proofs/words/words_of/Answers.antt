@@ -7,7 +7,9 @@ use Rattle.file_bricks.proofs.Said.{words_plain}
 use Rattle.file_bricks.proofs.words.words_of.Goals as goal
 
 pub each-preserved : goal.each-preserved
-each-preserved c = rw c.in_ok-push.ensures.items (collected_more c.each.found.items c.in-Some.word.text c.each.words c.next.new.self (piece c.in-Some.word) (texts (words_in c.args.line.now.content)) c.each.invariant c.in-Some.ensures.steps refl)
+each-preserved c =
+    rw c.in_ok-push.ensures.items (collected_more c.each.found.items c.in-Some.word.text c.each.words c.next.new.self (piece c.in-Some.word) (texts (words_in c.args.line.now.content))
+    c.each.invariant c.in-Some.ensures.steps refl)
 
 pub returns-clause-words : goal.returns-clause-words
 returns-clause-words c = collected_all c.each.found.items c.each.words (texts (words_in c.args.line.now.content)) c.each.invariant c.in_default.ensures.steps.0

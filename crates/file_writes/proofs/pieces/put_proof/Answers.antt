@@ -1,10 +1,10 @@
 use Rattle.std.proofs.Common.{◌≡◌, ◌∙◌, ◌+◌, List, ℕ, arith, length, refl, subst, sym}
 use Rattle.std.proofs.lemmas.Result.{on_ok_weaker, on_err_weaker}
 use Rattle.desk_io.specs.Files.{Edits, Appends, AppendsPrefix}
-use Rattle.desk_io.proofs.HeldLemmas.{on_err}
-use Rattle.file_writes.proofs.Filling.{IsFilled, filled_line, filled_on, filled_whole, filled_part, filled_cut, none_gained}
+use Rattle.file_writes.proofs.Filling.{IsFilled, filled_line, filled_on, filled_whole, filled_part, filled_cut}
 use Rattle.file_writes.proofs.pieces.put_proof.Goals.{then-len-ge-PIECE_BYTES+in_ok-append, else-len-ge-PIECE_BYTES}
 use Rattle.file_writes.proofs.pieces.put_proof.Goals as goal
+use Rattle.plain_lists.proofs.Results.{on_err}
 
 pub returns-in_err-step_text-clause-err : goal.returns-in_err-step_text-clause-err
 returns-in_err-step_text-clause-err g c =
@@ -52,7 +52,8 @@ returns-clause-ok g c =
     let lines = c.args.log.now.lines in
     let piece = c.loop-i.piece.items in
     on_ok_weaker c.append-2.result
-    (λ edits. filled_whole start now new name lines c.loop-i.i piece (omega (arith, c.loop-i-test.false, c.steps-i-end.ensures)) c.loop-i.invariant.0 (subst (λ (p : List ℕ). Edits now new name (Appends p)) c.deref-2.ensures.value edits))
+    (λ edits. filled_whole start now new name lines c.loop-i.i piece (omega (arith, c.loop-i-test.false, c.steps-i-end.ensures)) c.loop-i.invariant.0
+    (subst (λ (p : List ℕ). Edits now new name (Appends p)) c.deref-2.ensures.value edits))
     c.append-2.ensures.ok
 
 pub returns-clause-err : goal.returns-clause-err

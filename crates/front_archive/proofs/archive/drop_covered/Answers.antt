@@ -33,10 +33,12 @@ returns-clause-items c before m is =
     let end : last + 1 ≡ length items = omega (arith, long, c.args.members.now.ok.0) in
     let count : length c.mark_above.new.marks ≡ length items = omega (arith, c.mark_above.auto.marks, c.args.members.now.ok.0) in
     let read = c.index.ensures ∙ ap (λ (xs : List Member). get_or xs last c.index.result.now) is ∙ get_or_at before m [] c.index.result.now last at in
-    c.drop_marked.ensures ∙ drops_covered items before m c.args.columns.now c.numbers.result.now c.mark_above.new.marks last c.requires.same is (c.numbers.ensures ∙ ap (λ (x : Member). x.vector) read) count end c.mark_above.ensures
+    c.drop_marked.ensures ∙ drops_covered items before m c.args.columns.now c.numbers.result.now c.mark_above.new.marks last c.requires.same is
+    (c.numbers.ensures ∙ ap (λ (x : Member). x.vector) read) count end c.mark_above.ensures
 
 pub returns-clause-same : goal.returns-clause-same
 returns-clause-same c =
     let marks = set c.mark_above.new.marks (c.len-last.result - 1) false in
     subst (λ cs. AreColumnsOf c.drop_marked.new.members.items cs) (sym c.keep.ensures)
-    (subst (λ xs. AreColumnsOf xs (record c.args.columns.now { vectors = unmarked marks c.args.columns.now.vectors })) (sym c.drop_marked.ensures) (keeps_columns c.args.members.now.items c.args.columns.now marks c.requires.same))
+    (subst (λ xs. AreColumnsOf xs (record c.args.columns.now { vectors = unmarked marks c.args.columns.now.vectors })) (sym c.drop_marked.ensures)
+    (keeps_columns c.args.members.now.items c.args.columns.now marks c.requires.same))

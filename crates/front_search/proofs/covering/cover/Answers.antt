@@ -43,25 +43,33 @@ returns-clause-searching c =
     let old = c.args.solver.now in
     let found = c.args.found.now in
     let h = c.requires.searching in
-    let blocks : c.deref.result.now ≡ block_of s (length (covers_of old.log.lines) + 1) v = c.deref.ensures.value ∙ (c.in_ok-block.ensures.value ∙ ap (λ (n : ℕ). block_of s (n + 1) v) (sym (covers_many s found old h))) in
-    let x = covered_by s v c.in_ok-first.first _ old c.cover.new.self c.add_variables.new.self c.add_all.new.solver c.deref.result.now c.in_ok-first.ensures.ok c.in_ok-add_variables.ensures.ok c.in_ok-add_all.ensures c.objectives.ensures.count c.in_ok-first.ensures.id (block_small old.log c.cover.new.self.log v c.in_ok-first.first (ap (λ (sv : SolverValue). sv.log) c.in_ok-first.ensures.ok) c.in_ok-first.ensures.id c.in_ok-first.ensures.room) blocks in
-    searching_covered s (seen found) (as_seen c.args.entry.now) c.in_ok-first.first old c.add_all.new.solver c.facts.ensures h c.requires.next (subst (λ (w : List ℕ). HasCovered s w c.in_ok-first.first old c.add_all.new.solver) c.numbers-v.ensures x)
+    let blocks : c.deref.result.now ≡ block_of s (length (covers_of old.log.lines) + 1) v = c.deref.ensures.value
+    ∙ (c.in_ok-block.ensures.value ∙ ap (λ (n : ℕ). block_of s (n + 1) v) (sym (covers_many s found old h))) in
+    let x = covered_by s v c.in_ok-first.first _ old c.cover.new.self c.add_variables.new.self c.add_all.new.solver c.deref.result.now c.in_ok-first.ensures.ok c.in_ok-add_variables.ensures.ok
+    c.in_ok-add_all.ensures c.objectives.ensures.count c.in_ok-first.ensures.id (block_small old.log c.cover.new.self.log v c.in_ok-first.first
+    (ap (λ (sv : SolverValue). sv.log) c.in_ok-first.ensures.ok) c.in_ok-first.ensures.id c.in_ok-first.ensures.room) blocks in
+    searching_covered s (seen found) (as_seen c.args.entry.now) c.in_ok-first.first old c.add_all.new.solver c.facts.ensures h c.requires.next
+    (subst (λ (w : List ℕ). HasCovered s w c.in_ok-first.first old c.add_all.new.solver) c.numbers-v.ensures x)
 
 pub returns-clause-unfinished : goal.returns-clause-unfinished
 returns-clause-unfinished c budget u =
     let old = c.args.solver.now in
     let a = c.requires.searching.agrees in
-    let log = ap (λ (sv : SolverValue). sv.log.lines) c.in_ok-add_all.ensures ∙ (ap (λ (sv : SolverValue). sv.log.lines) c.in_ok-add_variables.ensures.ok ∙ ap (λ (sv : SolverValue). sv.log.lines) c.in_ok-first.ensures.ok) in
-    let small = subst (λ (w : List ℕ). list_all small_number w ≡ true) (sym c.numbers-v.ensures) (small_vector c.args.spec.now (vectors_in (seen c.args.found.now)) (as_seen c.args.entry.now) c.facts.ensures c.requires.next) in
+    let log = ap (λ (sv : SolverValue). sv.log.lines) c.in_ok-add_all.ensures ∙ (ap (λ (sv : SolverValue). sv.log.lines) c.in_ok-add_variables.ensures.ok
+    ∙ ap (λ (sv : SolverValue). sv.log.lines) c.in_ok-first.ensures.ok) in
+    let small = subst (λ (w : List ℕ). list_all small_number w ≡ true) (sym c.numbers-v.ensures) (small_vector c.args.spec.now (vectors_in (seen c.args.found.now)) (as_seen c.args.entry.now)
+    c.facts.ensures c.requires.next) in
     unfinished_covered c.args.spec.now budget c.numbers-v.result.now old.log.lines c.add_all.new.solver.log.lines a.given small a.legal log u
 
 pub returns-clause-starts : goal.returns-clause-starts
 returns-clause-starts c =
-    let log = ap (λ (sv : SolverValue). sv.log.lines) c.in_ok-add_all.ensures ∙ (ap (λ (sv : SolverValue). sv.log.lines) c.in_ok-add_variables.ensures.ok ∙ ap (λ (sv : SolverValue). sv.log.lines) c.in_ok-first.ensures.ok) in
+    let log = ap (λ (sv : SolverValue). sv.log.lines) c.in_ok-add_all.ensures ∙ (ap (λ (sv : SolverValue). sv.log.lines) c.in_ok-add_variables.ensures.ok
+    ∙ ap (λ (sv : SolverValue). sv.log.lines) c.in_ok-first.ensures.ok) in
     inr (c.args.solver.now.log.lines, c.numbers-v.result.now, log)
 
 pub returns-clause-bounded : goal.returns-clause-bounded
 returns-clause-bounded c h =
     let old = c.args.solver.now.log.lines in
-    let log = ap (λ (sv : SolverValue). sv.log.lines) c.in_ok-add_all.ensures ∙ (ap (λ (sv : SolverValue). sv.log.lines) c.in_ok-add_variables.ensures.ok ∙ ap (λ (sv : SolverValue). sv.log.lines) c.in_ok-first.ensures.ok) in
+    let log = ap (λ (sv : SolverValue). sv.log.lines) c.in_ok-add_all.ensures ∙ (ap (λ (sv : SolverValue). sv.log.lines) c.in_ok-add_variables.ensures.ok
+    ∙ ap (λ (sv : SolverValue). sv.log.lines) c.in_ok-first.ensures.ok) in
     omega (arith, count_covered old c.add_all.new.solver.log.lines c.numbers-v.result.now log, most_covered c.args.spec.now (length (seen c.args.found.now)) (derived_count old) h)

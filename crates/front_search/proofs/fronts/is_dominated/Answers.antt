@@ -28,6 +28,7 @@ loop-k-preserved c =
       | inl before ↦ c.loop-k.invariant j d before h
       | inr g ↦
           let at : j ≡ k = omega (arith, l, g) in
-          let here : Dominates e.vector v = subst (λ (u : List ℕ). Dominates u v) (vector_at es k e d (omega arith) c.index-found-k.is) (subst (λ (n : ℕ). Dominates (get_or (vectors_in (seen es)) n d) v) at h) in
+          let here : Dominates e.vector v = subst (λ (u : List ℕ). Dominates u v) (vector_at es k e d (omega arith) c.index-found-k.is)
+          (subst (λ (n : ℕ). Dominates (get_or (vectors_in (seen es)) n d) v) at h) in
           dominates_along c.numbers.result.now e.vector v c.dominates.result c.numbers.ensures c.if-dominates.false c.dominates.ensures.1 here
     ]

@@ -23,5 +23,6 @@ returns c early h new =
     let free : IsUndominated (vectors_in found) e.vector = subst (IsUndominated (vectors_in found)) c.numbers.ensures (c.is_dominated.ensures.no c.if-is_dominated.false) in
     let place : IsPlaceFor (vectors_in (seen items)) e.vector k = subst (λ (es : List Entry). IsPlaceFor (vectors_in (seen es)) e.vector k) c.deref.ensures.value
     (subst (λ (v : List ℕ). IsPlaceFor (vectors_in (seen c.deref.result.now)) v k) c.numbers-2.ensures c.place_for-place.ensures) in
-    let grown : seen c.insert.new.self.items ≡ insert (seen items) k e = ap seen c.in_ok-insert.ensures.items ∙ (seen-insert items k c.in_ok-copied.copied ∙ ap (λ (x : Entry). insert (seen items) k (as_seen x)) c.in_ok-copied.ensures) in
+    let grown : seen c.insert.new.self.items ≡ insert (seen items) k e = ap seen c.in_ok-insert.ensures.items
+    ∙ (seen-insert items k c.in_ok-copied.copied ∙ ap (λ (x : Entry). insert (seen items) k (as_seen x)) c.in_ok-copied.ensures) in
     subst (AreKeptOf found (early ++ e ∷ [])) (sym grown) (kept_more found early (seen items) e k h c.requires.front_long new c.requires.there free place)

@@ -4,7 +4,7 @@ use Rattle.result_text.specs.Answers.{EntryValue}
 use Rattle.front_lists.specs.Lists.{AreLong, vectors_in}
 use Rattle.front_search.specs.Searches.{seen}
 use Rattle.front_search.specs.Turns.{AreKeptOf}
-use Rattle.front_search.proofs.Places.{long_at, seen-more, front_long, vector_new, kept_all}
+use Rattle.front_search.proofs.Places.{long_at, seen_more, front_long, vector_new, kept_all}
 use Rattle.front_search.proofs.fronts.undominated.Goals as goal
 
 pub keep-requires-clause-long : goal.keep-requires-clause-long
@@ -26,7 +26,7 @@ loop-entry-preserved c =
     let e = c.entry-item.result in
     let new = vector_new es i e c.requires.distinct (omega arith) c.entry-item.is in
     let kept = c.in_ok-keep.ensures (seen (take i es)) c.loop-entry.invariant new in
-    subst (λ (early : List EntryValue). AreKeptOf (seen es) early (seen c.keep.new.front.items)) (sym (seen-more es i e (omega arith) c.entry-item.is)) kept
+    subst (λ (early : List EntryValue). AreKeptOf (seen es) early (seen c.keep.new.front.items)) (sym (seen_more es i e (omega arith) c.entry-item.is)) kept
 
 pub returns : goal.returns
 returns c =

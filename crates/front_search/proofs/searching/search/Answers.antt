@@ -18,7 +18,8 @@ loop-found-init c =
     let s = c.args.spec.now in
     let e = c.in_ok-solver.ensures in
     let lines = ap (λ (v : SolverValue). v.log.lines) e.ok in
-    let start = starts_searching s c.in_ok-set.set.variables c.in_ok-set.set.constraints c.in_ok-solver.solver c.facts.ensures c.in_ok-set.ensures.variables c.in_ok-set.ensures.constraints e.few e.ok in
+    let start = starts_searching s c.in_ok-set.set.variables c.in_ok-set.set.constraints c.in_ok-solver.solver c.facts.ensures c.in_ok-set.ensures.variables c.in_ok-set.ensures.constraints e.few
+    e.ok in
     record {
       searching = subst (λ (es : List Entry). IsSearching s (seen es) c.in_ok-solver.solver) (sym c.new-found.ensures.items) start;
       unfinished = starts_unfinished s c.args.budget c.in_ok-solver.solver.log.lines c.requires.some lines;
@@ -35,10 +36,14 @@ loop-found-preserved c =
     let pushed = c.in_ok-push-in-Found.ensures.items in
     let long : seen c.push.new.self.items ≡ seen c.loop-found.found.items ++ as_seen c.in-Found.entry ∷ [] = ap seen pushed ∙ map-append as_seen c.loop-found.found.items (c.in-Found.entry ∷ []) in
     record {
-      searching = subst (λ (es : List EntryValue). IsSearching s es c.cover.new.solver) (sym (long)) (subst (λ (es : List Entry). IsSearching s (seen es ++ as_seen c.in-Found.entry ∷ []) c.cover.new.solver) c.deref-in-Found.ensures.value x.searching);
+      searching = subst (λ (es : List EntryValue). IsSearching s es c.cover.new.solver) (sym (long))
+          (subst (λ (es : List Entry). IsSearching s (seen es ++ as_seen c.in-Found.entry ∷ []) c.cover.new.solver) c.deref-in-Found.ensures.value x.searching);
       unfinished = x.unfinished c.args.budget says.unfinished;
       starts = x.starts;
-      bounded = subst (λ (b : ℕ). derived_count c.cover.new.solver.log.lines ≤ most_lines s b b) (ap (λ (es : List Entry). length (seen es) + 1) c.deref-in-Found.ensures.value ∙ (sym (length_push (seen c.loop-found.found.items) (as_seen c.in-Found.entry)) ∙ sym (ap length long))) (x.bounded (subst (λ (es : List Entry). derived_count c.next_turn.new.solver.log.lines ≤ most_lines s (length (seen es) + 1) (length (seen es))) (sym c.deref-in-Found.ensures.value) (subst (λ (es : List Entry). derived_count c.next_turn.new.solver.log.lines ≤ most_lines s (length (seen es) + 1) (length (seen es))) c.deref.ensures.value says.bounded)));
+      bounded = subst (λ (b : ℕ). derived_count c.cover.new.solver.log.lines ≤ most_lines s b b) (ap (λ (es : List Entry). length (seen es) + 1) c.deref-in-Found.ensures.value
+          ∙ (sym (length_push (seen c.loop-found.found.items) (as_seen c.in-Found.entry)) ∙ sym (ap length long)))
+          (x.bounded (subst (λ (es : List Entry). derived_count c.next_turn.new.solver.log.lines ≤ most_lines s (length (seen es) + 1) (length (seen es))) (sym c.deref-in-Found.ensures.value)
+          (subst (λ (es : List Entry). derived_count c.next_turn.new.solver.log.lines ≤ most_lines s (length (seen es) + 1) (length (seen es))) c.deref.ensures.value says.bounded)));
       few = omega (arith, x.few, ap length pushed, length_push c.loop-found.found.items c.in-Found.entry, ap length c.deref-in-Found.ensures.value);
     }
 
@@ -75,8 +80,10 @@ returns-in-Ended-clause-end c =
     let turn = c.in_ok-entry.ensures in
     let found : r.searched.found ≡ seen c.deref.result.now = x.found ∙ sym (ap seen c.deref.ensures.value) in
     let said = subst (TurnSays s c.args.budget (seen c.deref.result.now) c.next_turn.new.solver.log.lines) c.in-Ended.is turn.says in
-    let by_found : EndSays s c.args.budget r.searched.found c.next_turn.new.solver.log.lines c.in-Ended.end = subst (λ (es : List EntryValue). EndSays s c.args.budget es c.next_turn.new.solver.log.lines c.in-Ended.end) (sym found) said in
-    let by_log : EndSays s c.args.budget r.searched.found r.searched.log.lines c.in-Ended.end = subst (λ (log : LogValue). EndSays s c.args.budget r.searched.found log.lines c.in-Ended.end) (sym x.log) by_found in
+    let by_found : EndSays s c.args.budget r.searched.found c.next_turn.new.solver.log.lines c.in-Ended.end =
+    subst (λ (es : List EntryValue). EndSays s c.args.budget es c.next_turn.new.solver.log.lines c.in-Ended.end) (sym found) said in
+    let by_log : EndSays s c.args.budget r.searched.found r.searched.log.lines c.in-Ended.end = subst (λ (log : LogValue). EndSays s c.args.budget r.searched.found log.lines c.in-Ended.end)
+    (sym x.log) by_found in
     let says : EndSays s c.args.budget r.searched.found r.searched.log.lines r.searched.end = subst (EndSays s c.args.budget r.searched.found r.searched.log.lines) (sym x.end) by_log in
     says
 
@@ -88,10 +95,13 @@ returns-in-Ended-clause-exact c is =
     let turn = c.in_ok-entry.ensures in
     let found : r.searched.found ≡ seen c.deref.result.now = x.found ∙ sym (ap seen c.deref.ensures.value) in
     let said = subst (TurnSays s c.args.budget (seen c.deref.result.now) c.next_turn.new.solver.log.lines) c.in-Ended.is turn.says in
-    let by_found : EndSays s c.args.budget r.searched.found c.next_turn.new.solver.log.lines c.in-Ended.end = subst (λ (es : List EntryValue). EndSays s c.args.budget es c.next_turn.new.solver.log.lines c.in-Ended.end) (sym found) said in
-    let by_log : EndSays s c.args.budget r.searched.found r.searched.log.lines c.in-Ended.end = subst (λ (log : LogValue). EndSays s c.args.budget r.searched.found log.lines c.in-Ended.end) (sym x.log) by_found in
+    let by_found : EndSays s c.args.budget r.searched.found c.next_turn.new.solver.log.lines c.in-Ended.end =
+    subst (λ (es : List EntryValue). EndSays s c.args.budget es c.next_turn.new.solver.log.lines c.in-Ended.end) (sym found) said in
+    let by_log : EndSays s c.args.budget r.searched.found r.searched.log.lines c.in-Ended.end = subst (λ (log : LogValue). EndSays s c.args.budget r.searched.found log.lines c.in-Ended.end)
+    (sym x.log) by_found in
     let says : EndSays s c.args.budget r.searched.found r.searched.log.lines r.searched.end = subst (EndSays s c.args.budget r.searched.found r.searched.log.lines) (sym x.end) by_log in
-    exact s c.args.budget r.searched.found (front_of r.searched.front) r.searched.log.lines r.searched.end c.facts.ensures (subst (FoundPrefix s) (sym found) turn.searching.prefix) x.front x.complete says is
+    exact s c.args.budget r.searched.found (front_of r.searched.front) r.searched.log.lines r.searched.end c.facts.ensures (subst (FoundPrefix s) (sym found) turn.searching.prefix) x.front
+    x.complete says is
 
 pub returns-in-Ended-clause-accepted : goal.returns-in-Ended-clause-accepted
 returns-in-Ended-clause-accepted c is =
@@ -101,10 +111,13 @@ returns-in-Ended-clause-accepted c is =
     let turn = c.in_ok-entry.ensures in
     let found : r.searched.found ≡ seen c.deref.result.now = x.found ∙ sym (ap seen c.deref.ensures.value) in
     let said = subst (TurnSays s c.args.budget (seen c.deref.result.now) c.next_turn.new.solver.log.lines) c.in-Ended.is turn.says in
-    let by_found : EndSays s c.args.budget r.searched.found c.next_turn.new.solver.log.lines c.in-Ended.end = subst (λ (es : List EntryValue). EndSays s c.args.budget es c.next_turn.new.solver.log.lines c.in-Ended.end) (sym found) said in
-    let by_log : EndSays s c.args.budget r.searched.found r.searched.log.lines c.in-Ended.end = subst (λ (log : LogValue). EndSays s c.args.budget r.searched.found log.lines c.in-Ended.end) (sym x.log) by_found in
+    let by_found : EndSays s c.args.budget r.searched.found c.next_turn.new.solver.log.lines c.in-Ended.end =
+    subst (λ (es : List EntryValue). EndSays s c.args.budget es c.next_turn.new.solver.log.lines c.in-Ended.end) (sym found) said in
+    let by_log : EndSays s c.args.budget r.searched.found r.searched.log.lines c.in-Ended.end = subst (λ (log : LogValue). EndSays s c.args.budget r.searched.found log.lines c.in-Ended.end)
+    (sym x.log) by_found in
     let says : EndSays s c.args.budget r.searched.found r.searched.log.lines r.searched.end = subst (EndSays s c.args.budget r.searched.found r.searched.log.lines) (sym x.end) by_log in
-    accepted s c.args.budget r.searched.found (front_of r.searched.front) r.searched.log.lines r.searched.end c.facts.ensures (subst (FoundPrefix s) (sym found) turn.searching.prefix) x.front x.complete says is
+    accepted s c.args.budget r.searched.found (front_of r.searched.front) r.searched.log.lines r.searched.end c.facts.ensures (subst (FoundPrefix s) (sym found) turn.searching.prefix) x.front
+    x.complete says is
 
 pub returns-in-Ended-clause-shaped : goal.returns-in-Ended-clause-shaped
 returns-in-Ended-clause-shaped c =

@@ -37,7 +37,8 @@ returns-then-not-is_headed c =
     let w = said c.in_ok-words.words.items in
     let same : is_header w ≡ c.is_headed.result = sym (c.is_headed.ensures ∙ ap (λ (ws : List (Bor (List ℕ))). is_header (said ws)) c.deref.ensures.value) in
     stopped Genotype as_seen (genes_of c.args.n) _ line.number (Some NoHeader) (Broken NoHeader) c.at_line-then-not-is_headed.result (rw c.number.ensures at c.at_line-then-not-is_headed.ensures) refl
-    (λ why is. stops_here (statement c.args.n) end [] c.args.lines c.next.new.self line w _ why (rw c.in-Some-Ok.field-0-is at c.in-Some-Ok.ensures.line) c.in_ok-words.ensures.words refl (header_wrong is_header (later c.args.n) w (same ∙ c.if-not-is_headed.true) ∙ is))
+    (λ why is. stops_here (statement c.args.n) end [] c.args.lines c.next.new.self line w _ why (rw c.in-Some-Ok.field-0-is at c.in-Some-Ok.ensures.line) c.in_ok-words.ensures.words refl
+    (header_wrong is_header (later c.args.n) w (same ∙ c.if-not-is_headed.true) ∙ is))
 
 pub lines-init : goal.lines-init
 lines-init c =
@@ -46,7 +47,8 @@ lines-init c =
     let same : is_header w ≡ c.is_headed.result = sym (c.is_headed.ensures ∙ ap (λ (ws : List (Bor (List ℕ))). is_header (said ws)) c.deref.ensures.value) in (
       record { number = line.number; words = w },
       [],
-      goes_on (statement c.args.n) end [] c.args.lines c.next.new.self line w _ (rw c.in-Some-Ok.field-0-is at c.in-Some-Ok.ensures.line) c.in_ok-words.ensures.words refl (header_right is_header (later c.args.n) w (same ∙ c.if-not-is_headed.false)),
+      goes_on (statement c.args.n) end [] c.args.lines c.next.new.self line w _ (rw c.in-Some-Ok.field-0-is at c.in-Some-Ok.ensures.line) c.in_ok-words.ensures.words refl
+          (header_right is_header (later c.args.n) w (same ∙ c.if-not-is_headed.false)),
       refl,
       c.in_ok-natural.ensures,
       ap length c.in_ok-natural.ensures ∙ length-replicate c.args.n plain_gene,
@@ -68,8 +70,10 @@ returns-in-Err-take c =
     let w = said c.in_ok-words-2.words.items in
     let form : stated_of (said c.deref-in-Some.result.now) ≡ stated_of w = ap (λ (ws : List (Bor (List ℕ))). stated_of (said ws)) c.deref-in-Some.ensures.value in
     let t = rw form at c.in-Err-take.ensures in
-    stopped Genotype as_seen (genes_of c.args.n) _ line.number (fault_of c.args.n c.lines.seen.least w) (Broken c.in-Err-take.why) c.at_line-in-Err-take.result (rw c.number-in-Err-take.ensures at c.at_line-in-Err-take.ensures) t
-    (λ why e. stops_here (statement c.args.n) end (i.0 ∷ i.1) c.lines.lines c.next-in-lines.new.self line w _ why (rw c.in-Ok.is at c.in-Some.ensures.line) c.in_ok-words-2.ensures.words i.2 (ap (λ (least : ℕ). fault_of c.args.n least w) (sym i.3) ∙ e))
+    stopped Genotype as_seen (genes_of c.args.n) _ line.number (fault_of c.args.n c.lines.seen.least w) (Broken c.in-Err-take.why) c.at_line-in-Err-take.result
+    (rw c.number-in-Err-take.ensures at c.at_line-in-Err-take.ensures) t
+    (λ why e. stops_here (statement c.args.n) end (i.0 ∷ i.1) c.lines.lines c.next-in-lines.new.self line w _ why (rw c.in-Ok.is at c.in-Some.ensures.line) c.in_ok-words-2.ensures.words i.2
+    (ap (λ (least : ℕ). fault_of c.args.n least w) (sym i.3) ∙ e))
 
 pub lines-preserved : goal.lines-preserved
 lines-preserved c =
@@ -81,7 +85,8 @@ lines-preserved c =
     let s : Statement = record { number = line.number; words = w } in (
       i.0,
       i.1 ++ s ∷ [],
-      goes_on (statement c.args.n) end (i.0 ∷ i.1) c.lines.lines c.next-in-lines.new.self line w _ (rw c.in-Ok.is at c.in-Some.ensures.line) c.in_ok-words-2.ensures.words i.2 (ap (λ (least : ℕ). fault_of c.args.n least w) (sym i.3) ∙ t.0),
+      goes_on (statement c.args.n) end (i.0 ∷ i.1) c.lines.lines c.next-in-lines.new.self line w _ (rw c.in-Ok.is at c.in-Some.ensures.line) c.in_ok-words-2.ensures.words i.2
+          (ap (λ (least : ℕ). fault_of c.args.n least w) (sym i.3) ∙ t.0),
       t.1 ∙ ap (λ (least : ℕ). least_after least (stated_of w)) i.3 ∙ sym (least_from-push 0 i.1 s),
       t.2 ∙ ap (λ (genes : List GeneValue). with_stated genes (stated_of w)) i.4 ∙ sym (with_all-push (natural c.args.n) i.1 s),
       ap length t.2 ∙ length-with_stated c.lines.seen.genotype (stated_of w) ∙ i.5,

@@ -14,4 +14,5 @@ add_task-requires-clause-new c =
     let tasks = c.list-tasks.result.now in
     let distinct : AreDistinct (map task_name tasks) = subst (λ (ts : List TgffTask). AreDistinct (map task_name ts)) (sym c.list-tasks.ensures) c.requires.graph.tasks_distinct in
     subst (λ (p : SpecValue). Contains p.tasks (task_in g.index task) → ⊥) (sym c.loop-task.invariant)
-    (new_name task_name (task_in g.index) g.index c.args.plan.now.tasks tasks c.loop-task.task-index task (λ t. refl) c.requires.graph.index c.requires.room.new_tasks distinct (omega arith) c.task-item.is)
+    (new_name task_name (task_in g.index) g.index c.args.plan.now.tasks tasks c.loop-task.task-index task (λ t. refl) c.requires.graph.index c.requires.room.new_tasks distinct (omega arith)
+    c.task-item.is)

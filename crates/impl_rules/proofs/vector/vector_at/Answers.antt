@@ -12,7 +12,8 @@ loop-v-preserved c =
     let s = c.args.spec.now in
     let f = bits_of c.args.design.now in
     elim c.if-get.branch [
-      | then-get w ↦ sum_more_true s f c.args.j c.loop-v.v c.loop-v.sum c.if-get.sum _ c.loop-v.invariant (sym c.get.ensures ∙ w.if-get.true) w.weight-sum.ensures.weight w.weight-sum.ensures.small w.sum-is
+      | then-get w ↦ sum_more_true s f c.args.j c.loop-v.v c.loop-v.sum c.if-get.sum _ c.loop-v.invariant (sym c.get.ensures ∙ w.if-get.true) w.weight-sum.ensures.weight w.weight-sum.ensures.small
+          w.sum-is
       | else-get w ↦ sum_more_false s f c.args.j c.loop-v.v c.loop-v.sum c.if-get.sum c.loop-v.invariant (sym c.get.ensures ∙ w.if-get.false) w.sum-is
     ]
 

@@ -10,5 +10,7 @@ with_digits-value-requires-2-clause-digits c = AllDigits-take _ c.args.parts.now
 
 pub returns : goal.returns
 returns c =
-    assembled (parts_of c.args.parts.now) c.with_digits-exponent.result c.kept-keep.result c.min-from_whole.result c.min-from_fraction.result c.with_digits-value.result c.with_digits-value-2.result c.saturating_sub.result c.with_zeros.result
-    c.requires.whole c.requires.fraction c.with_digits-exponent.ensures c.requires.short c.kept-keep.ensures c.min-from_whole.ensures c.min-from_fraction.ensures c.with_digits-value.ensures c.with_digits-value-2.ensures c.saturating_sub.ensures c.with_zeros.ensures
+    assembled (parts_of c.args.parts.now) c.with_digits-exponent.result c.kept-keep.result c.min-from_whole.result c.min-from_fraction.result c.with_digits-value.result
+    c.with_digits-value-2.result c.saturating_sub.result c.with_zeros.result
+    c.requires.whole c.requires.fraction c.with_digits-exponent.ensures c.requires.short c.kept-keep.ensures c.min-from_whole.ensures c.min-from_fraction.ensures c.with_digits-value.ensures
+    c.with_digits-value-2.ensures c.saturating_sub.ensures c.with_zeros.ensures

@@ -32,7 +32,8 @@ returns-clause-fault c =
     let bad : c.front_of-front.result.has_bad_byte ≡ has_bad_byte (line_of bytes) =
     c.front_of-front.ensures.bad ∙ ap (λ (n : ℕ). list_any is_bad (take n bytes)) c.front_of-front.ensures.len ∙ ap (list_any is_bad) (sym (content-line_of bytes)) in
     let len : c.front_of-front.result.len + c.len_before_lf.result ≡ length (line_of bytes) =
-    whole_len bytes c.split_at.result.1.now c.front_of-front.result.len c.len_before_lf.result c.front_of-front.ensures.len c.split_at.ensures.back c.len_before_lf.ensures.value ∙ sym (length-prefix_len _ bytes) in
+    whole_len bytes c.split_at.result.1.now c.front_of-front.result.len c.len_before_lf.result c.front_of-front.ensures.len c.split_at.ensures.back c.len_before_lf.ensures.value
+    ∙ sym (length-prefix_len _ bytes) in
     c.fault_of.ensures ∙ ap (λ (b : Bool). first_broken ((BadByte, b) ∷ (LongLine, nat_lt most_line_bytes (c.front_of-front.result.len + c.len_before_lf.result)) ∷ [])) bad
     ∙ ap (λ (n : ℕ). first_broken ((BadByte, has_bad_byte (line_of bytes)) ∷ (LongLine, nat_lt most_line_bytes n) ∷ [])) len
 

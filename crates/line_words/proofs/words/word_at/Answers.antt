@@ -4,7 +4,8 @@ use Rattle.line_words.proofs.Runs.{word_here, no_word_here}
 use Rattle.line_words.proofs.words.word_at.Goals as goal
 
 pub returns-clause-end : goal.returns-clause-end
-returns-clause-end c = λ e. no_word_here c.args.bytes.now c.args.at c.blank_len.result c.word_len.result (rw take_rest at c.blank_len.ensures.value) (rw take_rest at c.word_len.ensures.value) (omega arith)
+returns-clause-end c =
+    λ e. no_word_here c.args.bytes.now c.args.at c.blank_len.result c.word_len.result (rw take_rest at c.blank_len.ensures.value) (rw take_rest at c.word_len.ensures.value) (omega arith)
 
 pub returns-clause-word : goal.returns-clause-word
 returns-clause-word c = λ lt.

@@ -15,12 +15,16 @@ loop-p-preserved c =
     elim c.if-var.branch [
       | then-var+in_ok-close w ↦
           record {
-            grouping = at_next c.args.parts.now c.loop-p.p-index c.loop-p.groups.items c.if-var.groups.items c.loop-p.var c.if-var.var _ _ c.p-item.result _ _ c.loop-p.invariant.grouping (omega arith) c.p-item.is (omega (arith, c.loop-p.invariant.next c.p-item.result (omega arith), ap var_of c.p-item.is)) (omega arith) (omega arith) (omega (arith, ints)) (ap (λ (v : Vec Group Global). v.items) w.groups-is ∙ w.in_ok-close.ensures) (omega arith) w.sum-is (omega (arith, ints)) (omega (arith, ints)) (omega (arith, ints));
+            grouping = at_next c.args.parts.now c.loop-p.p-index c.loop-p.groups.items c.if-var.groups.items c.loop-p.var c.if-var.var _ _ c.p-item.result _ _ c.loop-p.invariant.grouping
+                (omega arith) c.p-item.is (omega (arith, c.loop-p.invariant.next c.p-item.result (omega arith), ap var_of c.p-item.is)) (omega arith) (omega arith) (omega (arith, ints))
+                (ap (λ (v : Vec Group Global). v.items) w.groups-is ∙ w.in_ok-close.ensures) (omega arith) w.sum-is (omega (arith, ints)) (omega (arith, ints)) (omega (arith, ints));
             next = at_order c.args.parts.now c.loop-p.p-index c.p-item.result c.if-var.var c.requires c.p-item.is (omega arith);
           }
       | else-var w ↦
           record {
-            grouping = at_same c.args.parts.now c.loop-p.p-index c.loop-p.groups.items c.if-var.groups.items c.loop-p.var c.if-var.var _ _ c.p-item.result _ c.loop-p.invariant.grouping (omega arith) c.p-item.is (omega arith) (ap (λ (v : Vec Group Global). v.items) w.groups-is) (omega arith) w.sum-is (omega (arith, ints, c.loop-p.invariant.grouping.bound, length-take-le c.loop-p.p-index c.args.parts.now (omega arith))) (omega (arith, ints)) (omega (arith, ints));
+            grouping = at_same c.args.parts.now c.loop-p.p-index c.loop-p.groups.items c.if-var.groups.items c.loop-p.var c.if-var.var _ _ c.p-item.result _ c.loop-p.invariant.grouping
+                (omega arith) c.p-item.is (omega arith) (ap (λ (v : Vec Group Global). v.items) w.groups-is) (omega arith) w.sum-is
+                (omega (arith, ints, c.loop-p.invariant.grouping.bound, length-take-le c.loop-p.p-index c.args.parts.now (omega arith))) (omega (arith, ints)) (omega (arith, ints));
             next = at_order c.args.parts.now c.loop-p.p-index c.p-item.result c.if-var.var c.requires c.p-item.is (omega arith);
           }
     ]

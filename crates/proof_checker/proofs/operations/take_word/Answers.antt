@@ -24,7 +24,9 @@ pub returns-in-Some-FarAxiom : goal.returns-in-Some-FarAxiom
 returns-in-Some-FarAxiom c =
     let f = c.in-Some-FarAxiom in
     let text = c.in-Ok.text.now in
-    let is : op_of text ≡ Some (Axiom (record { var = f.var; yes = f.field-0-1 })) = sym c.read_op.ensures.value ∙ (ap (option_map op_in) f.is ∙ ap (λ (w : WordOp). option_map op_in (Some w)) f.field-0-is) in
+    let is : op_of text ≡ Some (Axiom (record { var = f.var; yes = f.field-0-1 })) = sym c.read_op.ensures.value
+    ∙ (ap (option_map op_in) f.is ∙ ap (λ (w : WordOp). option_map op_in (Some w)) f.field-0-is) in
     let far : 2 ^ 62 ≤ f.var = subst IsFarWhereSaid f.field-0-is f.ensures.far in
     let same : text ≡ c.args.word.now = c.in-Ok.ensures.cases.0 in
-    far_unknown c.args.given.now c.args.stack.now c.args.known f.var f.field-0-1 c.args.word.now (subst (λ (w : List ℕ). op_of w ≡ Some (Axiom (record { var = f.var; yes = f.field-0-1 }))) same is) c.requires.known (omega (arith, c.requires.few, far))
+    far_unknown c.args.given.now c.args.stack.now c.args.known f.var f.field-0-1 c.args.word.now (subst (λ (w : List ℕ). op_of w ≡ Some (Axiom (record { var = f.var; yes = f.field-0-1 }))) same
+    is) c.requires.known (omega (arith, c.requires.few, far))

@@ -18,8 +18,10 @@ returns-in-Err c =
     let s = c.args.spec.now in
     let i = c.loop-rest.invariant in
     let piece = c.first_piece.result.0.now in
-    stopped files.Front front_of (front_in s) _ c.loop-rest.number (first_broken (front_line_tests s (front_state c.loop-rest.seen) piece)) c.in-Err.stop c.at_line.result c.at_line.ensures c.in-Err.ensures
-    (λ why e. front_stops_here s c.loop-rest.number i.0 (front_state c.loop-rest.seen) piece (pieces c.first_piece.result.1.now) (pieces c.loop-rest.rest.now) _ why i.1 c.first_piece.ensures.pieces i.2 e)
+    stopped files.Front front_of (front_in s) _ c.loop-rest.number (first_broken (front_line_tests s (front_state c.loop-rest.seen) piece)) c.in-Err.stop c.at_line.result c.at_line.ensures
+    c.in-Err.ensures
+    (λ why e. front_stops_here s c.loop-rest.number i.0 (front_state c.loop-rest.seen) piece (pieces c.first_piece.result.1.now) (pieces c.loop-rest.rest.now) _ why i.1
+    c.first_piece.ensures.pieces i.2 e)
 
 pub loop-rest-preserved : goal.loop-rest-preserved
 loop-rest-preserved c =

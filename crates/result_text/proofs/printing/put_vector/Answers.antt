@@ -7,4 +7,5 @@ pub loop-number-preserved : goal.loop-number-preserved
 loop-number-preserved c =
     let v = c.args.vector.now in
     let i = c.loop-number.number-index in
-    word_more decimal (codes "vector") c.args.text.now.items c.loop-number.text.items c.put_number.new.text.items v i 0 (get_or v i 0) c.loop-number.invariant c.in_ok-put_number.ensures refl (omega arith)
+    word_more decimal (codes "vector") c.args.text.now.items c.loop-number.text.items c.put_number.new.text.items v i 0 (get_or v i 0) c.loop-number.invariant c.in_ok-put_number.ensures refl
+    (omega arith)

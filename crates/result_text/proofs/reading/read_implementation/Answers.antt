@@ -18,4 +18,5 @@ returns-clause-printed c = printed c.args.spec.now c.facts.ensures c.args.bytes.
 pub returns-clause-back : goal.returns-clause-back
 returns-clause-back c = λ e is.
     let names = c.facts_of_names.ensures in
-    back c.args.spec.now c.facts.ensures (record { tasks = names.tasks; messages = names.messages; resources = names.resources; links = names.links }) c.args.bytes.now c.read_all.result (returns-clause-reads c) e is
+    back c.args.spec.now c.facts.ensures (record { tasks = names.tasks; messages = names.messages; resources = names.resources; links = names.links }) c.args.bytes.now c.read_all.result
+    (returns-clause-reads c) e is

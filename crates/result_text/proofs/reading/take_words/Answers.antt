@@ -9,7 +9,8 @@ use Rattle.result_text.proofs.reading.take_words.Goals as goal
 
 pub returns-in-Err : goal.returns-in-Err
 returns-in-Err c =
-    item_line c.args.spec.now (state_of c.args.seen.now) (said c.args.words.now) c.in-Err.why (sym c.is_some.ensures ∙ c.if-is_some.false) (sym c.has_empty.ensures ∙ c.if-has_empty.false) (sym c.is_vector.ensures ∙ c.if-is_vector.false) c.in-Err.ensures
+    item_line c.args.spec.now (state_of c.args.seen.now) (said c.args.words.now) c.in-Err.why (sym c.is_some.ensures ∙ c.if-is_some.false) (sym c.has_empty.ensures ∙ c.if-has_empty.false)
+    (sym c.is_vector.ensures ∙ c.if-is_vector.false) c.in-Err.ensures
 
 pub overflow_add-seen : goal.overflow_add-seen
 overflow_add-seen c =

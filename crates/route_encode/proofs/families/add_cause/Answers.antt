@@ -16,10 +16,13 @@ pub overflow_add-t : goal.overflow_add-t
 overflow_add-t c = omega (arith, limit_small c.args.index.now c.spec.result.now c.args.m c.args.t c.spec.ensures c.facts.ensures c.requires.message c.requires.step)
 
 pub add-requires-clause-rising : goal.add-requires-clause-rising
-add-requires-clause-rising c = (cause_shape c.args.index.now c.spec.result.now c.args.m c.args.q c.args.t c.args.out.now.variables c.deref-2.result.now c.spec.ensures c.facts.ensures c.requires.message c.requires.resource c.requires.step c.requires.variables (first_of (search rules, grind (arith, common_steps)))).0
+add-requires-clause-rising c = (cause_shape c.args.index.now c.spec.result.now c.args.m c.args.q c.args.t c.args.out.now.variables c.deref-2.result.now c.spec.ensures c.facts.ensures
+    c.requires.message c.requires.resource c.requires.step c.requires.variables (first_of (search rules, grind (arith, common_steps)))).0
 
 pub add-requires-clause-few : goal.add-requires-clause-few
 add-requires-clause-few c = few_of _ c.args.index.now _ (first_of (search rules, grind (arith, common_steps))) c.spec.ensures c.facts.ensures
 
 pub returns : goal.returns
-returns c = subst (λ (x : Linear). OnOk c.add.result (Adds c.args.out.now c.add.new.out (x ∷ []))) ((cause_shape c.args.index.now c.spec.result.now c.args.m c.args.q c.args.t c.args.out.now.variables c.deref-2.result.now c.spec.ensures c.facts.ensures c.requires.message c.requires.resource c.requires.step c.requires.variables (first_of (search rules, grind (arith, common_steps)))).1) c.add.ensures
+returns c = subst (λ (x : Linear). OnOk c.add.result (Adds c.args.out.now c.add.new.out (x ∷ []))) ((cause_shape c.args.index.now c.spec.result.now c.args.m c.args.q c.args.t
+    c.args.out.now.variables c.deref-2.result.now c.spec.ensures c.facts.ensures c.requires.message c.requires.resource c.requires.step c.requires.variables
+    (first_of (search rules, grind (arith, common_steps)))).1) c.add.ensures

@@ -12,7 +12,10 @@ pub uses-requires-clause-arcs : goal.uses-requires-clause-arcs
 uses-requires-clause-arcs c = those_below (leaves c.args.index.now c.args.r) (length c.args.index.now.arcs) _ c.arcs_from.ensures
 
 pub add-requires-clause-rising : goal.add-requires-clause-rising
-add-requires-clause-rising c = rising_of _ _ c.args.index.now (positives (receiver_options c.args.index.now c.args.m c.args.r) ++ positives (arc_vars c.args.index.now c.args.m (arcs_from c.args.index.now c.args.r)) ++ positive (step_var c.args.index.now c.args.m c.args.r 0) ∷ (negative (covered_var c.args.index.now c.args.m c.args.r) ∷ [])) (end_literals c.args.index.now c.args.m c.requires.message c.args.r c.requires.resource) (first_of (search rules, grind (arith, common_steps))) (first_of (search rules, grind (arith, common_steps)))
+add-requires-clause-rising c = rising_of _ _ c.args.index.now (positives (receiver_options c.args.index.now c.args.m c.args.r)
+    ++ positives (arc_vars c.args.index.now c.args.m (arcs_from c.args.index.now c.args.r)) ++ positive (step_var c.args.index.now c.args.m c.args.r 0)
+    ∷ (negative (covered_var c.args.index.now c.args.m c.args.r) ∷ [])) (end_literals c.args.index.now c.args.m c.requires.message c.args.r c.requires.resource)
+    (first_of (search rules, grind (arith, common_steps))) (first_of (search rules, grind (arith, common_steps)))
 
 pub add-requires-clause-few : goal.add-requires-clause-few
 add-requires-clause-few c = few_of _ c.args.index.now _ (first_of (search rules, grind (arith, common_steps))) c.spec.ensures c.facts.ensures

@@ -1,4 +1,4 @@
-use Rattle.std.proofs.Common.{◌≡◌, ◌≤◌, ◌∙◌, ℕ, List, length, Result, Ok, Err, inr, sym, ap, subst}
+use Rattle.std.proofs.Common.{◌≡◌, ◌≤◌, ℕ, List, length, Result, Ok, Err, inr, sym, subst}
 use Rattle.line_words.specs.Text.{lines}
 use Rattle.line_words.specs.Rules.{HasNoFault}
 use Rattle.line_words.specs.declared.refusals.ReadFault.{ReadFault}
@@ -6,25 +6,18 @@ use Rattle.line_words.specs.declared.refusals.ReadFault.TheVariants as faults
 use Rattle.spec_model.specs.Spec.{SpecValue}
 use Rattle.tgff_reader.specs.Facts.{TgffValue}
 use Rattle.arch_reader.specs.Arch.{ArchValue, arch_rules}
-use Rattle.arch_reader.specs.declared.statement.ArchLine.{ArchLine}
 use Rattle.spec_join.specs.Reading.{JoinReads}
 use Rattle.line_words.specs.Limits.{most_file_bytes}
 use Rattle.run_base.specs.Reading.{file_of, ReadsArch}
+use Rattle.run_base.proofs.ArchFiles.{same_file}
 use Rattle.run_base.proofs.reading.read_joined.Goals as goal
 
 -- what joining answers to a file that isn't too long and breaks no rule of its own
-joins_as : (tgff : TgffValue) (bytes : List ℕ) (reading : Result SpecValue ReadFault) → length bytes ≤ most_file_bytes → HasNoFault arch_rules (lines bytes) → JoinReads tgff (file_of bytes) reading → ReadsArch bytes tgff reading
+joins_as : (tgff : TgffValue) (bytes : List ℕ) (reading : Result SpecValue ReadFault) → length bytes ≤ most_file_bytes → HasNoFault arch_rules (lines bytes)
+    → JoinReads tgff (file_of bytes) reading → ReadsArch bytes tgff reading
 joins_as tgff bytes (Ok spec) short none h = record { file = record { short = short; unbroken = none }; joined = h }
 joins_as tgff bytes (Err (faults.Refused r)) short none h = inr (inr (record { file = record { short = short; unbroken = none }; refused = h }))
 joins_as tgff bytes (Err faults.NoMemory) short none h = tt
-
--- the file of some statements and an end line
-abbrev made : List ArchLine → ℕ → ArchValue
-made ls n = record { lines = ls; end_line = n }
-
--- a file is told by its statements and its end line
-same_file : (a b : ArchValue) → a.lines ≡ b.lines → a.end_line ≡ b.end_line → a ≡ b
-same_file a b e f = ap (λ (ls : List ArchLine). made ls a.end_line) e ∙ ap (made b.lines) f
 
 pub returns : goal.returns
 returns c = λ bytes loaded.

@@ -27,8 +27,8 @@ in-range b (suc (suc k)) d l = absurd (omega arith)
 forces : (a : ConId) → Forces (value_in (take 1 (entries a))) (either true) (record { var = 1; yes = true })
 forces a = record { unassigned = refl; coef = 1; there = (1, omega arith, refl); beyond = omega arith }
 
-in-conflict : (a : ConId) → InConflict (value_in (entries a)) (either false)
-in-conflict a = omega arith
+in_conflict : (a : ConId) → InConflict (value_in (entries a)) (either false)
+in_conflict a = omega arith
 
 current : (a : ConId) → HasCurrent (entries a) (either false).terms
 current a = record { term = record { coef = 1; lit = record { var = 0; yes = true } }; there = (0, omega arith, refl); false_there = refl; current = refl }
@@ -48,9 +48,11 @@ decided l = record { lit = l; reason = None } ∷ []
 abbrev implied : ConId → Literal → List Entry
 implied a l = record { lit = l; reason = Some a } ∷ []
 
-built : (t0 t1 t2 : List Entry) (l m : Literal) (a : ConId) → t0 ≡ [] → t1 ≡ t0 ++ decided l → t2 ≡ t1 ++ implied a m → l ≡ record { var = 0; yes = false } → m ≡ record { var = 1; yes = true } → t2 ≡ entries a
+built : (t0 t1 t2 : List Entry) (l m : Literal) (a : ConId) → t0 ≡ [] → t1 ≡ t0 ++ decided l → t2 ≡ t1 ++ implied a m → l ≡ record { var = 0; yes = false } → m ≡ record { var = 1; yes = true }
+    → t2 ≡ entries a
 built t0 t1 t2 l m a e f g h k =
-    g ∙ ap (λ (es : List Entry). es ++ implied a m) f ∙ ap (λ (es : List Entry). (es ++ decided l) ++ implied a m) e ∙ ap (λ (l : Literal). decided l ++ implied a m) h ∙ ap (λ (m : Literal). decided (record { var = 0; yes = false }) ++ implied a m) k
+    g ∙ ap (λ (es : List Entry). es ++ implied a m) f ∙ ap (λ (es : List Entry). (es ++ decided l) ++ implied a m) e ∙ ap (λ (l : Literal). decided l ++ implied a m) h
+    ∙ ap (λ (m : Literal). decided (record { var = 0; yes = false }) ++ implied a m) k
 
 usable : (live : List Live) (a : ConId) (b : Bool) → is_live live a ≡ true → constraint_of live a ≡ either b → IsUsable live 2 a
 usable live a b l e =
@@ -64,7 +66,8 @@ record Meets (live : List Live) (n : ℕ) (es : List Entry) (b : ConId) : Type 0
   pub current : HasCurrent es (constraint_of live b).terms
   pub forced : AllForced live n es
 
-meets : (live : List Live) (n : ℕ) (es : List Entry) (a b : ConId) → n ≡ 2 → es ≡ entries a → is_live live a ≡ true → is_live live b ≡ true → constraint_of live a ≡ either true → constraint_of live b ≡ either false → Meets live n es b
+meets : (live : List Live) (n : ℕ) (es : List Entry) (a b : ConId) → n ≡ 2 → es ≡ entries a → is_live live a ≡ true → is_live live b ≡ true → constraint_of live a ≡ either true
+    → constraint_of live b ≡ either false → Meets live n es b
 meets live n es a b en ee la lb ca cb =
     let P : ℕ → Type 0 = λ n. Meets live n es b in
     let Q : List Entry → Type 0 = λ es. Meets live 2 es b in
@@ -72,19 +75,31 @@ meets live n es a b en ee la lb ca cb =
     let H : Linear → Type 0 = λ k. HasCurrent (entries a) k.terms in
     subst P (sym en) (subst Q (sym ee) (record {
       usable = usable live b false lb cb;
-      conflict = subst C (sym cb) (in-conflict a);
+      conflict = subst C (sym cb) (in_conflict a);
       current = subst H (sym cb) (current a);
       forced = forced live a (usable live a true la ca) ca;
     }))
 
 pub analyse-requires-clause-usable : goal.analyse-requires-clause-usable
-analyse-requires-clause-usable c = (meets c.args.store.now c.push.new.self.variables c.push.new.self.entries c.args.forcing c.args.conflict (c.push.ensures.variables ∙ c.decide.ensures.variables ∙ ap (λ (t : TrailView). t.variables) c.in_ok-trail.ensures) (built c.in_ok-trail.trail.entries c.decide.new.self.entries c.push.new.self.entries c.no.result c.yes.result c.args.forcing (ap (λ (t : TrailView). t.entries) c.in_ok-trail.ensures) c.decide.ensures.entries c.push.ensures.entries c.no.ensures c.yes.ensures) c.requires.forcing_live c.requires.conflict_live c.requires.forcing c.requires.conflict).usable
+analyse-requires-clause-usable c = (meets c.args.store.now c.push.new.self.variables c.push.new.self.entries c.args.forcing c.args.conflict
+    (c.push.ensures.variables ∙ c.decide.ensures.variables ∙ ap (λ (t : TrailView). t.variables) c.in_ok-trail.ensures)
+    (built c.in_ok-trail.trail.entries c.decide.new.self.entries c.push.new.self.entries c.no.result c.yes.result c.args.forcing (ap (λ (t : TrailView). t.entries) c.in_ok-trail.ensures)
+    c.decide.ensures.entries c.push.ensures.entries c.no.ensures c.yes.ensures) c.requires.forcing_live c.requires.conflict_live c.requires.forcing c.requires.conflict).usable
 
 pub analyse-requires-clause-conflict : goal.analyse-requires-clause-conflict
-analyse-requires-clause-conflict c = (meets c.args.store.now c.push.new.self.variables c.push.new.self.entries c.args.forcing c.args.conflict (c.push.ensures.variables ∙ c.decide.ensures.variables ∙ ap (λ (t : TrailView). t.variables) c.in_ok-trail.ensures) (built c.in_ok-trail.trail.entries c.decide.new.self.entries c.push.new.self.entries c.no.result c.yes.result c.args.forcing (ap (λ (t : TrailView). t.entries) c.in_ok-trail.ensures) c.decide.ensures.entries c.push.ensures.entries c.no.ensures c.yes.ensures) c.requires.forcing_live c.requires.conflict_live c.requires.forcing c.requires.conflict).conflict
+analyse-requires-clause-conflict c = (meets c.args.store.now c.push.new.self.variables c.push.new.self.entries c.args.forcing c.args.conflict
+    (c.push.ensures.variables ∙ c.decide.ensures.variables ∙ ap (λ (t : TrailView). t.variables) c.in_ok-trail.ensures)
+    (built c.in_ok-trail.trail.entries c.decide.new.self.entries c.push.new.self.entries c.no.result c.yes.result c.args.forcing (ap (λ (t : TrailView). t.entries) c.in_ok-trail.ensures)
+    c.decide.ensures.entries c.push.ensures.entries c.no.ensures c.yes.ensures) c.requires.forcing_live c.requires.conflict_live c.requires.forcing c.requires.conflict).conflict
 
 pub analyse-requires-clause-current : goal.analyse-requires-clause-current
-analyse-requires-clause-current c = λ _. (meets c.args.store.now c.push.new.self.variables c.push.new.self.entries c.args.forcing c.args.conflict (c.push.ensures.variables ∙ c.decide.ensures.variables ∙ ap (λ (t : TrailView). t.variables) c.in_ok-trail.ensures) (built c.in_ok-trail.trail.entries c.decide.new.self.entries c.push.new.self.entries c.no.result c.yes.result c.args.forcing (ap (λ (t : TrailView). t.entries) c.in_ok-trail.ensures) c.decide.ensures.entries c.push.ensures.entries c.no.ensures c.yes.ensures) c.requires.forcing_live c.requires.conflict_live c.requires.forcing c.requires.conflict).current
+analyse-requires-clause-current c = λ _. (meets c.args.store.now c.push.new.self.variables c.push.new.self.entries c.args.forcing c.args.conflict
+    (c.push.ensures.variables ∙ c.decide.ensures.variables ∙ ap (λ (t : TrailView). t.variables) c.in_ok-trail.ensures)
+    (built c.in_ok-trail.trail.entries c.decide.new.self.entries c.push.new.self.entries c.no.result c.yes.result c.args.forcing (ap (λ (t : TrailView). t.entries) c.in_ok-trail.ensures)
+    c.decide.ensures.entries c.push.ensures.entries c.no.ensures c.yes.ensures) c.requires.forcing_live c.requires.conflict_live c.requires.forcing c.requires.conflict).current
 
 pub analyse-requires-clause-forced : goal.analyse-requires-clause-forced
-analyse-requires-clause-forced c = (meets c.args.store.now c.push.new.self.variables c.push.new.self.entries c.args.forcing c.args.conflict (c.push.ensures.variables ∙ c.decide.ensures.variables ∙ ap (λ (t : TrailView). t.variables) c.in_ok-trail.ensures) (built c.in_ok-trail.trail.entries c.decide.new.self.entries c.push.new.self.entries c.no.result c.yes.result c.args.forcing (ap (λ (t : TrailView). t.entries) c.in_ok-trail.ensures) c.decide.ensures.entries c.push.ensures.entries c.no.ensures c.yes.ensures) c.requires.forcing_live c.requires.conflict_live c.requires.forcing c.requires.conflict).forced
+analyse-requires-clause-forced c = (meets c.args.store.now c.push.new.self.variables c.push.new.self.entries c.args.forcing c.args.conflict
+    (c.push.ensures.variables ∙ c.decide.ensures.variables ∙ ap (λ (t : TrailView). t.variables) c.in_ok-trail.ensures)
+    (built c.in_ok-trail.trail.entries c.decide.new.self.entries c.push.new.self.entries c.no.result c.yes.result c.args.forcing (ap (λ (t : TrailView). t.entries) c.in_ok-trail.ensures)
+    c.decide.ensures.entries c.push.ensures.entries c.no.ensures c.yes.ensures) c.requires.forcing_live c.requires.conflict_live c.requires.forcing c.requires.conflict).forced

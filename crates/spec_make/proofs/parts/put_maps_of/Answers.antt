@@ -1,5 +1,5 @@
 use Rattle.std.proofs.Common.{◌≡◌, ◌+◌, ◌%◌, ◌∙◌, ap, ap₂}
-use Rattle.genotype.specs.Draws.{below as draw, after_words}
+use Rattle.genotype.specs.Draws.{draw, after_words}
 use Rattle.spec_make.specs.Streams.{stream_of}
 use Rattle.spec_make.specs.Mesh.{resources_of}
 use Rattle.spec_make.specs.Made.{option_words}

@@ -20,16 +20,21 @@ loop-e-preserved g c =
     let inside : e < length numbered = omega (arith, length-enumerate_from 0 items) in
     let zero_more : e ≡ 0 + e = omega arith in
     let is = get_or-enumerate_from 0 items e (0, ends 0 0) c.loop-e-test.true in
-    let put : c.put_link_of.new.text.items ≡ c.loop-e.text.items ++ flat_map spelled (link_lines (stream_of g.W.Words.gives g.W.Words.after c.loop-e.words) (e, get_or items e (ends 0 0))) = c.in_ok-put_link_of.ensures.text in
+    let put : c.put_link_of.new.text.items ≡ c.loop-e.text.items ++ flat_map spelled (link_lines (stream_of g.W.Words.gives g.W.Words.after c.loop-e.words) (e, get_or items e (ends 0 0))) =
+    c.in_ok-put_link_of.ensures.text in
     let item : (e, get_or items e (ends 0 0)) ≡ get_or numbered e (0, ends 0 0) = ap (λ (n : ℕ). (n, get_or items e (ends 0 0))) zero_more ∙ sym is in
-    written_all g.W.Words.gives g.W.Words.after 1 link_lines c.args.words.now c.args.text.now.items _ (take (e + 1) numbered) c.put_link_of.new.text.items c.put_link_of.new.words (sym (take_more numbered e (0, ends 0 0) inside))
-    (written_next g.W.Words.gives g.W.Words.after 1 link_lines c.args.words.now c.args.text.now.items (take e numbered) (get_or numbered e (0, ends 0 0)) c.loop-e.text.items c.put_link_of.new.text.items c.loop-e.words c.put_link_of.new.words c.loop-e.invariant (put ∙ ap (λ x. c.loop-e.text.items ++ flat_map spelled (link_lines (stream_of g.W.Words.gives g.W.Words.after c.loop-e.words) x)) item) c.in_ok-put_link_of.ensures.words)
+    written_all g.W.Words.gives g.W.Words.after 1 link_lines c.args.words.now c.args.text.now.items _ (take (e + 1) numbered) c.put_link_of.new.text.items c.put_link_of.new.words
+    (sym (take_more numbered e (0, ends 0 0) inside))
+    (written_next g.W.Words.gives g.W.Words.after 1 link_lines c.args.words.now c.args.text.now.items (take e numbered) (get_or numbered e (0, ends 0 0)) c.loop-e.text.items
+    c.put_link_of.new.text.items c.loop-e.words c.put_link_of.new.words c.loop-e.invariant (put ∙ ap
+    (λ x. c.loop-e.text.items ++ flat_map spelled (link_lines (stream_of g.W.Words.gives g.W.Words.after c.loop-e.words) x)) item) c.in_ok-put_link_of.ensures.words)
 
 pub returns : goal.returns
 returns g c =
     let numbered = enumerate_from 0 c.args.all.now in
     let all = take_all c.loop-e.e numbered (omega (arith, length-enumerate_from 0 c.args.all.now)) in
-    let so = written_all g.W.Words.gives g.W.Words.after 1 link_lines c.args.words.now c.args.text.now.items (take c.loop-e.e numbered) numbered c.loop-e.text.items c.loop-e.words all c.loop-e.invariant in record {
+    let so = written_all g.W.Words.gives g.W.Words.after 1 link_lines c.args.words.now c.args.text.now.items (take c.loop-e.e numbered) numbered c.loop-e.text.items c.loop-e.words all
+    c.loop-e.invariant in record {
       text = so.put;
       words = drawn_singly g.W.Words.after (length numbered) (length c.args.all.now) c.args.words.now c.loop-e.words (length-enumerate_from 0 c.args.all.now) so.drawn;
     }

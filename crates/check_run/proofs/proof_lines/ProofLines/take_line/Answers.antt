@@ -18,7 +18,8 @@ returns-in-Err c =
     let body = c.args.body.now in
     let whole = c.deref.ensures.value ∙ (c.in_ok-push.ensures.items ∙ ap (λ (t : List ℕ). t ++ 10 ∷ []) c.in_ok-extend_from_slice.ensures.items) in
     let line = whole ∙ append_assoc held body (10 ∷ []) in
-    fault_taken (Unit {0}) c.args.self.now (record { checker = c.line.new.self; held = c.push.new.self }) body c.line.new.self c.in-Err.fault c.law_of_taking.ensures.stays c.requires.held c.requires.body
+    fault_taken (Unit {0}) c.args.self.now (record { checker = c.line.new.self; held = c.push.new.self }) body c.line.new.self c.in-Err.fault c.law_of_taking.ensures.stays c.requires.held
+    c.requires.body
     (subst (λ (t : List ℕ). Takes {T = Unit {0}} c.args.self.now.checker t c.line.new.self (Err c.in-Err.fault)) line c.in-Err.ensures)
 
 pub returns-in-Ok : goal.returns-in-Ok

@@ -1,10 +1,10 @@
 use Rattle.std.proofs.Common.{◌≡◌, ◌∙◌, ◌<◌, List, ℕ, ap, arith, length, map, string_bytes, subst, sym}
 use Rattle.desk_io.specs.Files.{Files, HasDistinctNames}
-use Rattle.desk_io.proofs.HeldLemmas.{on_err}
 use Rattle.file_writes.specs.Writes.{ArePartlyWritten, Becomes, KeepsOrBecomesPart, Leaves, Rewrites, bytes_of, file_of}
 use Rattle.file_writes.specs.declared.writes.Write.{Write}
 use Rattle.file_writes.proofs.Steps.{writes_on, writes_cut}
 use Rattle.file_writes.proofs.writes.Writes.write.Goals as goal
+use Rattle.plain_lists.proofs.Results.{on_err}
 
 pub returns-in_err-write_file-clause-err : goal.returns-in_err-write_file-clause-err
 returns-in_err-write_file-clause-err g c =

@@ -9,13 +9,14 @@ use Rattle.line_words.specs.declared.lines.Line.{Line}
 use Rattle.line_words.specs.declared.refusals.Refusal1.{Refusal1}
 use Rattle.line_words.proofs.FirstLine.{lines-nil, fine_bytes}
 use Rattle.line_words.proofs.Passing.{passes_one, gives_one, refuses_one, again_end, again_line, again_refused}
-use Rattle.line_words.proofs.Spans.{words_from-no_word}
+use Rattle.line_words.proofs.Spans.{words_from_no_word}
 use Rattle.line_words.proofs.lines.Lines.next.Goals as goal
 
 pub returns-in-Some-clause-again : goal.returns-in-Some-clause-again
 returns-in-Some-clause-again c = λ refusal s.
     let first = c.first_line-first.ensures in
-    let refused = refuses_one c.args.self.now _ (line_of c.loop-self.self-inside.rest.now) (lines c.first_line-first.result.rest.now) c.in-Some.why c.loop-self.invariant.passes first.lines (sym first.fault ∙ c.in-Some.is) in
+    let refused = refuses_one c.args.self.now _ (line_of c.loop-self.self-inside.rest.now) (lines c.first_line-first.result.rest.now) c.in-Some.why c.loop-self.invariant.passes first.lines
+    (sym first.fault ∙ c.in-Some.is) in
     let same = again_refused c.args.self.now _ refusal _ s refused in
     let answer : Refusal1 → Option (Result Line Refusal1) = λ r. Some (Err r) in
     (ap answer same.0, same.1)
@@ -23,7 +24,8 @@ returns-in-Some-clause-again c = λ refusal s.
 pub returns-then-first-clause-line : goal.returns-then-first-clause-line
 returns-then-first-clause-line c =
     let first = c.first_line-first.ensures in
-    gives_one c.args.self.now _ (line_of c.loop-self.self-inside.rest.now) (lines c.first_line-first.result.rest.now) _ c.loop-self.invariant.passes first.lines (sym first.fault ∙ c.in_default.is) first.content refl (sym first.word ∙ c.if-first.true)
+    gives_one c.args.self.now _ (line_of c.loop-self.self-inside.rest.now) (lines c.first_line-first.result.rest.now) _ c.loop-self.invariant.passes first.lines (sym first.fault ∙ c.in_default.is)
+    first.content refl (sym first.word ∙ c.if-first.true)
 
 pub returns-then-first-clause-again : goal.returns-then-first-clause-again
 returns-then-first-clause-again c = λ refusal s. absurd (again_line c.args.self.now _ refusal _ s (returns-then-first-clause-line c))
@@ -32,9 +34,11 @@ pub loop-self-preserved : goal.loop-self-preserved
 loop-self-preserved c =
     let first = c.first_line-first.ensures in
     let line = line_of c.loop-self.self-inside.rest.now in
-    let no_word : words line ≡ [] = words_from-no_word (content line) 0 (sym first.word ∙ c.if-first.false) in
+    let no_word : words line ≡ [] = words_from_no_word (content line) 0 (sym first.word ∙ c.if-first.false) in
     record {
-      passes = passes_one c.args.self.now _ line (lines c.first_line-first.result.rest.now) (c.loop-self.self-inside.number + 1) c.loop-self.invariant.passes first.lines refl (sym first.fault ∙ c.in_default.is) no_word;
+      passes =
+          passes_one c.args.self.now _ line (lines c.first_line-first.result.rest.now) (c.loop-self.self-inside.number + 1) c.loop-self.invariant.passes first.lines refl
+          (sym first.fault ∙ c.in_default.is) no_word;
       small = omega (arith, first.shorter, c.loop-self.invariant.small);
     }
 

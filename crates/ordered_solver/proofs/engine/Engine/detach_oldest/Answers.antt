@@ -1,8 +1,8 @@
 use Rattle.std.proofs.Common.{◌≡◌, ◌∙◌, ap, take}
 use Rattle.propagate.specs.Attached.{Drops}
 use Rattle.propagate.specs.Propagator.{PropagatorView, IsCounted}
-use Rattle.ordered_solver.proofs.Loading.{counted-same}
-use Rattle.ordered_solver.proofs.Leaving.{drops-parts, leaving-all}
+use Rattle.ordered_solver.proofs.Loading.{counted_same}
+use Rattle.ordered_solver.proofs.Leaving.{drops_parts, leaving_all}
 use Rattle.ordered_solver.proofs.engine.Engine.detach_oldest.Goals as goal
 
 pub returns-clause-leaving : goal.returns-clause-leaving
@@ -18,7 +18,8 @@ returns-clause-leaving c =
     let r : PropagatorView = c.detach_each-2.new.self in
     let a = c.detach_each.ensures in
     let b = c.detach_each-2.ensures in
-    let drops : Drops (take many all) p.attached r.attached = drops-parts front back all many first p.attached q.attached r.attached c.as_slices.ensures.items c.min-first.ensures a.attached b.attached in
+    let drops : Drops (take many all) p.attached r.attached = drops_parts front back all many first p.attached q.attached r.attached c.as_slices.ensures.items c.min-first.ensures a.attached
+    b.attached in
     let same : r.variables ≡ p.variables = ap (λ (x : PropagatorView). x.variables) b.same ∙ ap (λ (x : PropagatorView). x.variables) a.same in
-    let counted : IsCounted r s.trail = counted-same q r s.trail b.same (counted-same p q s.trail a.same c.requires.idle.loaded.ready.counted) in
-    leaving-all s.store p r s.trail (take many all) c.requires.idle.loaded drops same counted
+    let counted : IsCounted r s.trail = counted_same q r s.trail b.same (counted_same p q s.trail a.same c.requires.idle.loaded.ready.counted) in
+    leaving_all s.store p r s.trail (take many all) c.requires.idle.loaded drops same counted

@@ -3,7 +3,7 @@ use Rattle.proof_log.specs.Log.{LogValue}
 use Rattle.ordered_solver.specs.Engines.{HasKeptIds, AreLeaving}
 use Rattle.ordered_solver.specs.Lessons.{HasDropped}
 use Rattle.ordered_solver.specs.Solver.{kept_limit}
-use Rattle.ordered_solver.proofs.Dropping.{dropped-more}
+use Rattle.ordered_solver.proofs.Dropping.{dropped_more}
 use Rattle.ordered_solver.proofs.engine.Engine.drop_oldest.Goals as goal
 
 pub loop-self-preserved : goal.loop-self-preserved
@@ -21,7 +21,7 @@ loop-self-preserved c =
     let left : length l.kept.items - kept_limit ≡ n + 1 = omega (arith, l.kept.ok) in
     let L : ℕ → Type 0 = λ m. AreLeaving l.store l.propagator l.trail (take m l.kept.items) in
     record {
-      dropped = dropped-more s.log s.store l.store w.store i.dropped (subst (λ (v : LogValue). HasDropped v l.store w.store) i.log d.dropped);
+      dropped = dropped_more s.log s.store l.store w.store i.dropped (subst (λ (v : LogValue). HasDropped v l.store w.store) i.log d.dropped);
       leaving = d.leaving n (subst L left i.leaving);
       listed = subst (λ (v : LogValue). HasKeptIds w.store w.kept.items v) (d.log ∙ i.log) d.listed;
       count = omega (arith, l.kept.ok);

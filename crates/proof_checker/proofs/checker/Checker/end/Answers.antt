@@ -12,7 +12,8 @@ returns-then-closed-clause-exact c =
     let i = c.self.inside in
     let p = progress_of i.constraints.items i.covers i.lines i.closed i.refused in
     λ e. subst (λ (x : CheckerValue). IsFrontOf x.spec x.front) c.self.view_is
-    (reached_is_front i.spec.now (front_of i.front.now) p c.facts.ensures h.claim h.reached (accepted_by i.constraints.items i.covers i.lines i.closed i.refused c.in_default.is c.if-lines-eq0.false c.if-closed.true))
+    (reached_is_front i.spec.now (front_of i.front.now) p c.facts.ensures h.claim h.reached (accepted_by i.constraints.items i.covers i.lines i.closed i.refused c.in_default.is
+    c.if-lines-eq0.false c.if-closed.true))
 
 pub overflow_add-result : goal.overflow_add-result
 overflow_add-result c = omega (arith, c.self.invariant.lines)

@@ -8,4 +8,5 @@ use Rattle.proof_checker.proofs.checker.Checker.new.Goals as goal
 
 pub invariant_of-result : goal.invariant_of-result
 invariant_of-result c =
-    new_checker c.args.spec.now (front_of c.args.front.now) (progress_of c.in_ok-constraints.constraints.items 0 0 false None) c.facts.ensures c.in_default.ensures.claim (ap (λ (cs : List Linear). progress_of cs 0 0 false None) c.in_ok-constraints.ensures)
+    new_checker c.args.spec.now (front_of c.args.front.now) (progress_of c.in_ok-constraints.constraints.items 0 0 false None) c.facts.ensures c.in_default.ensures.claim
+    (ap (λ (cs : List Linear). progress_of cs 0 0 false None) c.in_ok-constraints.ensures)

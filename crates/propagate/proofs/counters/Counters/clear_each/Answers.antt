@@ -5,9 +5,9 @@ use Rattle.propagate.specs.declared.counters.Counters.{Counters}
 use Rattle.propagate.specs.Ranked.{wholes}
 use Rattle.propagate.specs.Counters.{attached_in}
 use Rattle.propagate.proofs.Attaching.{empty}
-use Rattle.propagate.proofs.Attachments.{changes-put}
-use Rattle.propagate.proofs.Dropping.{drops-more}
-use Rattle.propagate.proofs.Emptying.{cleared-more}
+use Rattle.propagate.proofs.Attachments.{changes_put}
+use Rattle.propagate.proofs.Dropping.{drops_more}
+use Rattle.propagate.proofs.Emptying.{cleared_more}
 use Rattle.propagate.proofs.counters.Counters.clear_each.Goals as goal
 
 abbrev none : ConId
@@ -25,10 +25,10 @@ loop-c-preserved c =
     let e = c.clear.ensures in
     let id = get_or ids k none in
     let own : id ≡ get_or ids k id = get_or_default ids k none id h in
-    let put = changes-put (wholes m.slots.items) (wholes n.slots.items) id empty e.slots in
+    let put = changes_put (wholes m.slots.items) (wholes n.slots.items) id empty e.slots in
     let with_slots : Counters → Counters = λ v. record { variables = v.variables; slots = n.slots; rooms = n.rooms; limits = v.limits; occurrences = v.occurrences; lits = v.lits; used = v.used; waiting = v.waiting } in
     record {
-      attached = drops-more ids k id (attached_in s) (attached_in m) (attached_in n) h own p.attached put;
-      cleared = cleared-more s.slots.items m.slots.items n.slots.items s.rooms.items m.rooms.items n.rooms.items p.cleared e.cleared;
+      attached = drops_more ids k id (attached_in s) (attached_in m) (attached_in n) h own p.attached put;
+      cleared = cleared_more s.slots.items m.slots.items n.slots.items s.rooms.items m.rooms.items n.rooms.items p.cleared e.cleared;
       same = e.same ∙ ap with_slots p.same;
     }

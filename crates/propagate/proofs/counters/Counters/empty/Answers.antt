@@ -1,7 +1,7 @@
 use Rattle.std.proofs.Common.{◌≡◌, ◌∙◌, ◌<◌, None, Option, List, length, take, sym, ap, subst, arith}
 use Rattle.pb_rules.specs.Literal.{Literal}
 use Rattle.propagate.specs.Ranked.{RankedView, wholes}
-use Rattle.propagate.specs.Counters.{value_of, counted_of, parts_of, IsInStep, IsPut}
+use Rattle.propagate.specs.Counters.{value_given, counted_of, parts_of, IsInStep, IsPut}
 use Rattle.propagate.proofs.Watching.{step-but}
 use Rattle.propagate.proofs.Keeping.{put-out}
 use Rattle.propagate.proofs.counters.Counters.empty.Goals as goal
@@ -11,10 +11,10 @@ returns-clause-step c =
     let s = c.args.self.now in
     let d = c.take_out-out.new.self in
     let e = c.take_out-out.ensures in
-    let q = value_of (counted_of s) in
+    let q = value_given (counted_of s) in
     let r = e.step q (step-but c.args.slot s.variables (parts_of s) s.rooms.items s.waiting (counted_of s) q c.requires.step) in
     let counted : counted_of d ≡ counted_of s = ap (λ v. take d.used v.items) e.lits ∙ ap (λ n. take n s.lits.items) e.used in
-    let P : List Literal → Type 0 = λ ls. IsInStep d.variables (parts_of d) d.rooms.items d.waiting (counted_of d) (value_of ls) in
+    let P : List Literal → Type 0 = λ ls. IsInStep d.variables (parts_of d) d.rooms.items d.waiting (counted_of d) (value_given ls) in
     subst P (sym counted) r
 
 pub returns-clause-slots : goal.returns-clause-slots

@@ -3,7 +3,7 @@ use Rattle.propagate.specs.Ranked.{RankedView, parts}
 use Rattle.propagate.specs.declared.occurrences.Occurrence.{Occurrence}
 use Rattle.propagate.specs.declared.counters.Counters.{Counters}
 use Rattle.propagate.specs.Counters.{AreBuilt, parts_of, is_filled}
-use Rattle.propagate.proofs.Emptying.{built-cleared}
+use Rattle.propagate.proofs.Emptying.{built_cleared}
 use Rattle.propagate.proofs.Watching.{cleared-parts, kept-cleared, parts-length}
 use Rattle.propagate.proofs.counters.Counters.empty_each.Goals as goal
 
@@ -24,7 +24,7 @@ returns-clause-built c =
     let is : new ≡ kept d.slots.items s.occurrences = c.keep_filled.ensures ∙ ap (λ slots. kept slots d.occurrences) c.deref.ensures.value ∙ ap (λ (v : Counters). kept d.slots.items v.occurrences) e.same in
     let P : Counters → Type 0 = λ v. AreBuilt (record { variables = v.variables; slots = d.slots; rooms = d.rooms; limits = v.limits; occurrences = new; lits = v.lits; used = v.used; waiting = v.waiting }) in
     subst P (sym e.same) (record {
-      built = built-cleared s.variables (parts_of s) (parts_of d) s.limits.items s.rooms.items d.rooms.items s.occurrences new b.built cleared is;
+      built = built_cleared s.variables (parts_of s) (parts_of d) s.limits.items s.rooms.items d.rooms.items s.occurrences new b.built cleared is;
       room = record { has_rooms = omega arith; has_limits = omega arith; can_wait = omega arith };
       kept = kept-cleared s.variables s.slots.items d.slots.items s.rooms.items d.rooms.items e.cleared b.kept;
       lits = b.lits;

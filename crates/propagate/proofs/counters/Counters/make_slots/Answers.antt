@@ -1,7 +1,7 @@
 use Rattle.std.proofs.Common.{◌≡◌, ◌∙◌, ◌≤◌, length, arith, inl, inr}
 use Rattle.propagate.specs.Ranked.{parts}
-use Rattle.propagate.specs.Counters.{value_of, counted_of, parts_of, HasRoom}
-use Rattle.propagate.proofs.Placing.{built-grown, step-grown}
+use Rattle.propagate.specs.Counters.{value_given, counted_of, parts_of, HasRoom}
+use Rattle.propagate.proofs.Placing.{built_grown, step_grown}
 use Rattle.propagate.proofs.Watching.{parts-length, kept-same}
 use Rattle.propagate.proofs.Keeping.{parts-same}
 use Rattle.propagate.proofs.counters.Counters.make_slots.Goals as goal
@@ -26,7 +26,7 @@ returns-clause-built c =
     let m2 = c.in_ok-grow_zeros-2.ensures.room in
     let m3 = c.in_ok-grow.ensures.room in
     record {
-      built = built-grown s.variables (parts_of s) (parts new) s.limits.items c.grow_zeros-2.new.numbers.items s.occurrences b.built (parts-same old new e.same) (omega (arith, p0, p1, longer)) c.grow_zeros-2.ensures.same;
+      built = built_grown s.variables (parts_of s) (parts new) s.limits.items c.grow_zeros-2.new.numbers.items s.occurrences b.built (parts-same old new e.same) (omega (arith, p0, p1, longer)) c.grow_zeros-2.ensures.same;
       room = elim e.bounded [
         | inl a ↦ record { has_rooms = omega (arith, a, p0, p1, has_rooms, l1); has_limits = omega (arith, a, p0, p1, has_limits, l2); can_wait = omega (arith, a, p0, p1, can_wait, l3) }
         | inr a ↦ record { has_rooms = omega (arith, a, p1, m1); has_limits = omega (arith, a, p1, m2); can_wait = omega (arith, a, p1, m3) }
@@ -41,4 +41,4 @@ returns-clause-step c =
     let s = c.args.self.now in
     let old = s.slots.items in
     let new = c.grow_empty.new.slots.items in
-    step-grown s.variables (parts_of s) (parts new) s.rooms.items c.grow_zeros.new.numbers.items s.waiting c.grow.new.self (counted_of s) (value_of (counted_of s)) c.requires.step (parts-same old new c.grow_empty.ensures.same) c.grow_zeros.ensures.same c.grow.ensures.same
+    step_grown s.variables (parts_of s) (parts new) s.rooms.items c.grow_zeros.new.numbers.items s.waiting c.grow.new.self (counted_of s) (value_given (counted_of s)) c.requires.step (parts-same old new c.grow_empty.ensures.same) c.grow_zeros.ensures.same c.grow.ensures.same

@@ -2,8 +2,8 @@ use Rattle.std.proofs.Common.{◌≡◌, ◌∙◌, ◌<◌, Some, length, get_o
 use Rattle.propagate.specs.Counters.{counted_of}
 use Rattle.propagate.specs.Ranked.{wholes}
 use Rattle.trail_state.specs.Trail.{value_in}
-use Rattle.propagate.proofs.Attaching.{attached_at-slot}
-use Rattle.propagate.proofs.Tying.{appends-slot}
+use Rattle.propagate.proofs.Attaching.{attached_at_slot}
+use Rattle.propagate.proofs.Tying.{appends_slot}
 use Rattle.propagate.proofs.Watching.{unfilled, ranked-is, whole-is, kept-at, parts-length}
 use Rattle.propagate.proofs.Passing.{room-whole, quiet-pushed, closed-through}
 use Rattle.propagate.proofs.counters.Counters.push_at.Goals as goal
@@ -23,7 +23,7 @@ returns-then-room-degree-clause-conflict c = λ _.
     let room = room-whole slots s.rooms.items (counted_of s) c.args.trail.now.entries i c.index-room.result.now k kept.ranked c.requires.counted here lt c.index-room.ensures (c.requires.sums i) c.requires.rest in
     record {
       constraint = k.whole;
-      attached = attached_at-slot (wholes slots) (record { 0 = i }) ∙ whole-is slots i k here;
+      attached = attached_at_slot (wholes slots) (record { 0 = i }) ∙ whole-is slots i k here;
       conflict = omega (arith, room, c.if-room-degree.true, c.degree.ensures.value);
     }
 
@@ -48,7 +48,7 @@ returns-else-room-degree-clause-appends c =
     let i = c.args.slot in
     let k = c.in-Some.c in
     let here : get_or slots i unfilled ≡ Some k = ranked-is slots i c.index.result.now k c.requires.here c.index.ensures c.in-Some.is in
-    appends-slot (wholes slots) i k.whole c.args.trail.now.entries c.push_forced.new.trail.entries (whole-is slots i k here) c.push_forced.ensures.appends
+    appends_slot (wholes slots) i k.whole c.args.trail.now.entries c.push_forced.new.trail.entries (whole-is slots i k here) c.push_forced.ensures.appends
 
 pub returns-else-room-degree-clause-quiet : goal.returns-else-room-degree-clause-quiet
 returns-else-room-degree-clause-quiet c = λ _.

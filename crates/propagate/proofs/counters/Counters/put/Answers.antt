@@ -6,9 +6,9 @@ use Rattle.pb_rules.specs.Linear.{Linear, VarsBelow, total}
 use Rattle.pb_rules.specs.Partial.{open_weight}
 use Rattle.trail_state.specs.Trail.{value_in}
 use Rattle.propagate.specs.Ranked.{part_of, wholes}
-use Rattle.propagate.specs.Counters.{value_of, counted_of}
-use Rattle.propagate.proofs.Weights.{value_of-entries}
-use Rattle.propagate.proofs.Tying.{lits_of, weight-same}
+use Rattle.propagate.specs.Counters.{value_given, counted_of}
+use Rattle.propagate.proofs.Weights.{value_given_entries}
+use Rattle.propagate.proofs.Tying.{lits_of, weight_same}
 use Rattle.propagate.proofs.Watching.{parts-length, wholes-set, kept-set}
 use Rattle.propagate.proofs.Keeping.{built-in, step-in, weights-at, part-below, part-numbers}
 use Rattle.propagate.proofs.counters.Counters.put.Goals as goal
@@ -65,8 +65,8 @@ returns-clause-step c q h =
     let here = c.requires.here in
     let has_rooms = c.requires.built.room.has_rooms in
     let p0 = parts-length slots in
-    let values : open_weight (value_of ls) ts ≡ open_weight (value_in es) ts = ap (λ (us : List Literal). open_weight (value_of us) ts) c.requires.counted ∙ weight-same (value_of (lits_of es)) (value_in es) ts (value_of-entries es) in
-    let room : c.room_of.result ≡ open_weight (value_of ls) ts = c.room_of.ensures.value ∙ ap (λ (us : List Term). open_weight (value_in es) us) c.watched.ensures.terms ∙ sym values in
+    let values : open_weight (value_given ls) ts ≡ open_weight (value_in es) ts = ap (λ (us : List Literal). open_weight (value_given us) ts) c.requires.counted ∙ weight_same (value_given (lits_of es)) (value_in es) ts (value_given_entries es) in
+    let room : c.room_of.result ≡ open_weight (value_given ls) ts = c.room_of.ensures.value ∙ ap (λ (us : List Term). open_weight (value_in es) us) c.watched.ensures.terms ∙ sym values in
     step-in s.variables i c.room_of.result k slots s.rooms.items s.waiting ls q h here (omega arith) room
 
 pub returns-clause-wholes : goal.returns-clause-wholes

@@ -3,7 +3,7 @@ use Rattle.std.proofs.lemmas.List.Elements.{All-head}
 use Rattle.std.specs.Prelude.{All}
 use Rattle.pb_rules.specs.Literal.{Literal}
 use Rattle.propagate.specs.Counters.{AreGivenBack}
-use Rattle.propagate.proofs.Backing.{off-at}
+use Rattle.propagate.proofs.Backing.{off_at}
 use Rattle.propagate.proofs.counters.Counters.wake_upto.Goals as goal
 
 pub wake_for-requires-clause-below : goal.wake_for-requires-clause-below
@@ -15,7 +15,7 @@ wake_for-requires-clause-below c =
     let rest = drop (k + 1) (take c.args.top s.lits.items) in
     let len : length s.lits.items ≡ length c.args.self.now.lits.items = ap (λ v. length v.items) i.lits in
     let there = c.requires.there in
-    let off = off-at s.lits.items c.args.top k l c.loop-place-test.true (omega (arith, len)) c.index-lit.ensures in
+    let off = off_at s.lits.items c.args.top k l c.loop-place-test.true (omega (arith, len)) c.index-lit.ensures in
     let B : Literal → Type 0 = λ m. m.var < s.variables in
     let A : List Literal → Type 0 = λ us. All B us in
     All-head B l rest (subst A off i.given.off_below)
@@ -30,7 +30,7 @@ loop-place-preserved c =
     let rest = drop (k + 1) (take c.args.top s.lits.items) in
     let len : length s.lits.items ≡ length c.args.self.now.lits.items = ap (λ v. length v.items) i.lits in
     let there = c.requires.there in
-    let off = off-at s.lits.items c.args.top k l c.loop-place-test.true (omega (arith, len)) c.index-lit.ensures in
+    let off = off_at s.lits.items c.args.top k l c.loop-place-test.true (omega (arith, len)) c.index-lit.ensures in
     let G : List Literal → Type 0 = λ us. AreGivenBack us s in
     let woke : AreGivenBack rest c.wake_for.new.self = e.woke rest (subst G off i.given) in
     let N : List Literal → Type 0 = λ us. AreGivenBack us c.wake_for.new.self in

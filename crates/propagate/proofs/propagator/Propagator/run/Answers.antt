@@ -4,11 +4,11 @@ use Rattle.trail_state.specs.Trail.{value_in}
 use Rattle.propagate.specs.Attached.{Attached}
 use Rattle.propagate.specs.Forced.{AllClosed}
 use Rattle.propagate.specs.Propagator.{PropagatorView}
-use Rattle.propagate.specs.Counters.{attached_in, parts_of, counted_of, value_of}
-use Rattle.propagate.proofs.Steps.{step-later}
+use Rattle.propagate.specs.Counters.{attached_in, parts_of, counted_of, value_given}
+use Rattle.propagate.proofs.Steps.{step_later}
 use Rattle.propagate.proofs.Tying.{lits_of}
-use Rattle.propagate.proofs.Looking.{later-counted}
-use Rattle.propagate.proofs.Attachments.{ready-counted}
+use Rattle.propagate.proofs.Looking.{later_counted}
+use Rattle.propagate.proofs.Attachments.{ready_counted}
 use Rattle.propagate.proofs.propagator.Propagator.run.Goals.{in-None, in-Some}
 use Rattle.propagate.proofs.propagator.Propagator.run.Goals as goal
 
@@ -17,8 +17,8 @@ close-requires-clause-step c =
     let s = c.self.inside.counters in
     let es = c.args.trail.now.entries in
     let p : counted_of s ≡ c.args.self.now.counted = ap (λ (v : PropagatorView). v.counted) c.self.view_is in
-    let e : counted_of s ≡ take s.used (lits_of es) = ready-counted c.args.self.now.counted s.lits.items s.used es p c.self.invariant.built.used c.requires.counted in
-    step-later s.variables (parts_of s) s.rooms.items s.waiting (counted_of s) (value_of (counted_of s)) (value_in es) (later-counted (counted_of s) s.used es e) c.self.invariant.step
+    let e : counted_of s ≡ take s.used (lits_of es) = ready_counted c.args.self.now.counted s.lits.items s.used es p c.self.invariant.built.used c.requires.counted in
+    step_later s.variables (parts_of s) s.rooms.items s.waiting (counted_of s) (value_given (counted_of s)) (value_in es) (later_counted (counted_of s) s.used es e) c.self.invariant.step
 
 pub returns-clause-closed : goal.returns-clause-closed
 returns-clause-closed c =

@@ -1,6 +1,6 @@
 use Rattle.std.proofs.Common.{List, length, ◌<◌, Contains, sym, ap, ◌∙◌, subst, rules, arith}
 use Rattle.spec_model.specs.Spec.{Name, SpecValue}
-use Rattle.spec_graph.specs.Held.{value_of}
+use Rattle.spec_graph.specs.Held.{held_spec}
 use Rattle.spec_model.specs.WellFormed.{IsPlan}
 use Rattle.spec_graph.proofs.Adding.{plan_objective}
 use Rattle.spec_graph.proofs.builder.SpecBuilder.objective.Goals as goal
@@ -13,7 +13,8 @@ invariant_of-self-2 c =
     let links = ap (λ (s : SpecValue). length s.links) c.self.view_is ∙ c.requires.no_link in
     let options = ap (λ (s : SpecValue). length s.options) c.self.view_is ∙ c.requires.no_option in
     record {
-      plan = subst (λ (names : List Name). IsPlan (record (value_of c.self.inside.held) { objectives = names })) (sym c.in_ok-add.ensures.added) (plan_objective (value_of c.self.inside.held) c.args.name.now c.self.invariant.plan new resources links options free);
+      plan = subst (λ (names : List Name). IsPlan (record (held_spec c.self.inside.held) { objectives = names })) (sym c.in_ok-add.ensures.added)
+          (plan_objective (held_spec c.self.inside.held) c.args.name.now c.self.invariant.plan new resources links options free);
       order = c.self.invariant.order;
       room = c.self.invariant.room;
     }

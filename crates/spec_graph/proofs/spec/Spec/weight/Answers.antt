@@ -11,16 +11,21 @@ returns-then-variable-options-clause-weight c =
 
 pub returns-then-after-uses-clause-weight : goal.returns-then-after-uses-clause-weight
 returns-then-after-uses-clause-weight c =
-    arc_weight_at c.args.self.now c.args.j c.args.variable c.options-options.result c.messages.result c.arcs-arcs.result c.arc_weight.result c.options-options.ensures.count c.arcs-arcs.ensures.count c.messages.ensures.count (omega arith) (omega arith) c.arc_weight.ensures.weight
+    arc_weight_at c.args.self.now c.args.j c.args.variable c.options-options.result c.messages.result c.arcs-arcs.result c.arc_weight.result c.options-options.ensures.count
+    c.arcs-arcs.ensures.count c.messages.ensures.count (omega arith) (omega arith) c.arc_weight.ensures.weight
 
 pub returns-then-after-resources-clause-weight : goal.returns-then-after-resources-clause-weight
 returns-then-after-resources-clause-weight c =
     let place : ℕ = (c.args.variable - c.options-options.result) - c.messages.result * c.arcs-arcs.result in
     let rows = ap (λ (rows : List (List ℕ)). weight_in rows c.args.j place) (c.deref-then-after-resources.ensures.value ∙ ap (λ (s : SpecValue). s.resource_weights) c.self.view_is) in
-    resource_weight_at c.args.self.now c.args.j c.args.variable c.options-options.result c.messages.result c.arcs-arcs.result c.resources-resources.result c.weight_in-then-after-resources.result c.options-options.ensures.count c.arcs-arcs.ensures.count c.messages.ensures.count c.resources-resources.ensures.count (omega arith) (omega arith) (omega arith) (c.weight_in-then-after-resources.ensures ∙ rows)
+    resource_weight_at c.args.self.now c.args.j c.args.variable c.options-options.result c.messages.result c.arcs-arcs.result c.resources-resources.result c.weight_in-then-after-resources.result
+    c.options-options.ensures.count c.arcs-arcs.ensures.count c.messages.ensures.count c.resources-resources.ensures.count (omega arith) (omega arith) (omega arith)
+    (c.weight_in-then-after-resources.ensures ∙ rows)
 
 pub returns-clause-weight : goal.returns-clause-weight
 returns-clause-weight c =
     let place : ℕ = ((c.args.variable - c.options-options.result) - c.messages.result * c.arcs-arcs.result) - c.resources-resources.result in
     let rows = ap (λ (rows : List (List ℕ)). weight_in rows c.args.j place) (c.deref-2.ensures.value ∙ ap (λ (s : SpecValue). s.link_weights) c.self.view_is) in
-    link_weight_at c.args.self.now c.args.j c.args.variable c.options-options.result c.messages.result c.arcs-arcs.result c.resources-resources.result c.weight_in-2.result c.options-options.ensures.count c.arcs-arcs.ensures.count c.messages.ensures.count c.resources-resources.ensures.count (omega arith) (omega arith) (omega arith) c.requires.variable_there (c.weight_in-2.ensures ∙ rows)
+    link_weight_at c.args.self.now c.args.j c.args.variable c.options-options.result c.messages.result c.arcs-arcs.result c.resources-resources.result c.weight_in-2.result
+    c.options-options.ensures.count c.arcs-arcs.ensures.count c.messages.ensures.count c.resources-resources.ensures.count (omega arith) (omega arith) (omega arith) c.requires.variable_there
+    (c.weight_in-2.ensures ∙ rows)

@@ -1,5 +1,5 @@
 use Rattle.std.proofs.Common.{ℕ, ◌≤◌, ◌^◌, List, All, inr, sym, ap, subst}
-use Rattle.names.specs.Names.{number_of}
+use Rattle.names.specs.Names.{number_by_name}
 use Rattle.tgff_reader.specs.Looking.{table_at, row_at}
 use Rattle.spec_join.specs.Joining.{Joining}
 use Rattle.spec_join.proofs.Making.{time_small, only_memory}
@@ -15,7 +15,8 @@ pub unreachable-requires : goal.unreachable-requires
 unreachable-requires c =
     let s = c.args.self.now in
     let small = time_small s c.args.keys.now (row_at (table_at s.tables c.args.table) c.args.row) c.requires.unbroken in
-    c.in_default.not-NoMemory (only_memory c.self.inside.plan s.plan c.args.t c.resource_there-place.result.0 c.time_from-time.result (number_of s.plan.resources c.args.resource.now) c.deref.result.now c.in-Err.fault
+    c.in_default.not-NoMemory (only_memory c.self.inside.plan s.plan c.args.t c.resource_there-place.result.0 c.time_from-time.result (number_by_name s.plan.resources c.args.resource.now)
+    c.deref.result.now c.in-Err.fault
     (ap (λ (x : Joining). x.plan) c.self.view_is) c.resource_there-place.ensures.first c.in-Err.ensures.refused c.requires.new
     (subst (λ (n : ℕ). n ≤ 2 ^ 40) (sym c.time_from-time.ensures) small)
     (subst (λ (row : List ℕ). All (λ w. w ≤ 2 ^ 40) row) (sym c.deref.ensures.value) c.in_ok-weights.ensures.small) c.requires.room)

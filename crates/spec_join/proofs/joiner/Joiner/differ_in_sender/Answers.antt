@@ -9,7 +9,9 @@ use Rattle.spec_join.proofs.joiner.Joiner.differ_in_sender.Goals as goal
 use Rattle.spec_join.proofs.joiner.Joiner.differ_in_sender.Goals.{in-Some-sender+else-first-from, in-None}
 
 pub loop-name-preserved-in_default : goal.loop-name-preserved-in_default
-loop-name-preserved-in_default c = sender_skips c.args.self.now.plan c.args.names.now c.loop-name.name-index c.loop-name.sender c.name-item.result c.list.result.now (omega arith) c.name-item.is c.list.ensures c.in_default.ensures c.loop-name.invariant
+loop-name-preserved-in_default c =
+    sender_skips c.args.self.now.plan c.args.names.now c.loop-name.name-index c.loop-name.sender c.name-item.result c.list.result.now (omega arith) c.name-item.is c.list.ensures
+    c.in_default.ensures c.loop-name.invariant
 
 pub loop-name-preserved : goal.loop-name-preserved
 loop-name-preserved c =
@@ -24,9 +26,11 @@ loop-name-preserved c =
     let new = λ (o : Option TaskNo). IsSenderOf p names (i + 1) o in
     elim c.match-sender.branch [
       | in-Some-sender+else-first-from w ↦
-          subst new (sym w.sender-is) (sender_again p names i w.in-Some-sender.first c.sender-from.result c.name-item.result said (omega arith) c.name-item.is c.list.ensures from w.if-first-from.false (subst old w.in-Some-sender.is c.loop-name.invariant))
+          subst new (sym w.sender-is) (sender_again p names i w.in-Some-sender.first c.sender-from.result c.name-item.result said (omega arith) c.name-item.is c.list.ensures from
+          w.if-first-from.false (subst old w.in-Some-sender.is c.loop-name.invariant))
       | in-None w ↦
-          subst new (sym w.sender-is) (sender_first p names i c.sender-from.result c.name-item.result said (omega arith) c.name-item.is c.list.ensures (there_of p.message_names said m c.in-Some.ensures.number) from (subst old w.in-None.is c.loop-name.invariant))
+          subst new (sym w.sender-is) (sender_first p names i c.sender-from.result c.name-item.result said (omega arith) c.name-item.is c.list.ensures
+          (there_of p.message_names said m c.in-Some.ensures.number) from (subst old w.in-None.is c.loop-name.invariant))
     ]
 
 pub returns : goal.returns

@@ -13,4 +13,5 @@ returns c =
     let row = row_at (table_at s.tables c.args.table) c.args.row in
     let other : is_table_key key.key ≡ false = ap is_table_key (sym c.list.ensures) ∙ sym c.is_table_key.ensures ∙ c.if-is_table_key.false in
     let taking : c.weight_taking.result ≡ weight_taking s key.key = c.weight_taking.ensures ∙ ap (weight_taking s) c.list-2.ensures in
-    least_of_key s row key c.cell_fault.result other (least_of_cell c.weight_taking.result (weight_taking s key.key) (cell_of row key.column) _ c.cell_fault.result taking c.cell.ensures c.cell_fault.ensures)
+    least_of_key s row key c.cell_fault.result other (least_of_cell c.weight_taking.result (weight_taking s key.key) (cell_of row key.column) _ c.cell_fault.result taking c.cell.ensures
+    c.cell_fault.ensures)

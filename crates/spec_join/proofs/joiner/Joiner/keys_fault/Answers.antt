@@ -6,8 +6,10 @@ use Rattle.spec_join.proofs.joiner.Joiner.keys_fault.Goals as goal
 
 pub loop-key-preserved : goal.loop-key-preserved
 loop-key-preserved c =
-    least_in_more (KeyBreaks c.args.self.now (row_at (table_at c.args.self.now.tables c.args.table) c.args.row)) c.args.keys.now c.loop-key.key-index c.key-item.result c.loop-key.fault c.key_fault.result c.lower_of-fault.result
+    least_in_more (KeyBreaks c.args.self.now (row_at (table_at c.args.self.now.tables c.args.table) c.args.row)) c.args.keys.now c.loop-key.key-index c.key-item.result c.loop-key.fault
+    c.key_fault.result c.lower_of-fault.result
     (omega arith) c.key-item.is c.lower_of-fault.ensures c.loop-key.invariant c.key_fault.ensures
 
 pub returns : goal.returns
-returns c = least_in_all (KeyBreaks c.args.self.now (row_at (table_at c.args.self.now.tables c.args.table) c.args.row)) c.args.keys.now c.loop-key.key-index c.loop-key.fault (omega arith) c.loop-key.invariant
+returns c =
+    least_in_all (KeyBreaks c.args.self.now (row_at (table_at c.args.self.now.tables c.args.table) c.args.row)) c.args.keys.now c.loop-key.key-index c.loop-key.fault (omega arith) c.loop-key.invariant

@@ -42,5 +42,6 @@ returns-clause-refused c =
       is = ap (map message_number) c.deref-2.ensures.value ∙ c.in_ok-listed.ensures.numbers;
     } in
     let d : AreDistinct s.plan.message_names = subst (λ (x : Joining). AreDistinct x.plan.message_names) c.self.view_is c.facts.ensures.messages_distinct in
-    let h = merge_refused s c.args.name.now c.args.names.now listed c.in-Err.fault d g (subst (λ (x : Joining). IsMergeRefused x.plan c.args.name.now listed c.in-Err.fault) c.self.view_is c.in-Err.ensures.refused) in
+    let h = merge_refused s c.args.name.now c.args.names.now listed c.in-Err.fault d g (subst (λ (x : Joining). IsMergeRefused x.plan c.args.name.now listed c.in-Err.fault) c.self.view_is
+    c.in-Err.ensures.refused) in
     subst (λ (x : Stop). Refuses s (statements.Merge c.args.name.now c.args.names.now) x) (sym c.stop_for.ensures) h

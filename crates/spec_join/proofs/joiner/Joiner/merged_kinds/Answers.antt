@@ -12,6 +12,9 @@ loop-m-preserved c = elim c.if-is_unlisted.branch [
       let kinds : List (Option ℕ) = c.args.self.now.message_kinds in
       let same : c.self.inside.message_kinds.items ≡ kinds = ap (λ (x : Joining). x.message_kinds) c.self.view_is in
       let within : c.loop-m.m < length kinds = omega (arith, ap length same) in
-      kinds_yes kinds (is_unlisted (map message_number c.args.listed.now)) c.loop-m.m c.loop-m.kinds.items c.if-is_unlisted.kinds.items w.index.result.now w.index.result.now (sym c.is_unlisted.ensures ∙ w.if-is_unlisted.true) within (w.index.ensures ∙ ap (λ (xs : List (Option ℕ)). get_or xs c.loop-m.m w.index.result.now) same) c.loop-m.invariant (ap (λ v. v.items) w.kinds-is ∙ w.in_ok-push.ensures.items)
-  | else-is_unlisted w ↦ kinds_no c.args.self.now.message_kinds (is_unlisted (map message_number c.args.listed.now)) c.loop-m.m c.loop-m.kinds.items c.if-is_unlisted.kinds.items (sym c.is_unlisted.ensures ∙ w.if-is_unlisted.false) c.loop-m.invariant (ap (λ v. v.items) w.kinds-is)
+      kinds_yes kinds (is_unlisted (map message_number c.args.listed.now)) c.loop-m.m c.loop-m.kinds.items c.if-is_unlisted.kinds.items w.index.result.now w.index.result.now
+      (sym c.is_unlisted.ensures ∙ w.if-is_unlisted.true) within (w.index.ensures ∙ ap (λ (xs : List (Option ℕ)). get_or xs c.loop-m.m w.index.result.now) same) c.loop-m.invariant
+      (ap (λ v. v.items) w.kinds-is ∙ w.in_ok-push.ensures.items)
+  | else-is_unlisted w ↦ kinds_no c.args.self.now.message_kinds (is_unlisted (map message_number c.args.listed.now)) c.loop-m.m c.loop-m.kinds.items c.if-is_unlisted.kinds.items
+      (sym c.is_unlisted.ensures ∙ w.if-is_unlisted.false) c.loop-m.invariant (ap (λ v. v.items) w.kinds-is)
 ]

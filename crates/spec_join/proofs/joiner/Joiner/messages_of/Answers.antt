@@ -15,10 +15,14 @@ loop-name-preserved c =
     let name = c.name-item.result in
     let said = c.list.result.now in
     record {
-      numbers = numbers_more message_number p.message_names c.args.names.now i items new item name said (omega arith) c.in_ok-push-in-Some.ensures.items c.name-item.is c.list.ensures c.in-Some.ensures.number.first c.loop-name.invariant.numbers;
+      numbers =
+          numbers_more message_number p.message_names c.args.names.now i items new item name said (omega arith) c.in_ok-push-in-Some.ensures.items c.name-item.is c.list.ensures
+          c.in-Some.ensures.number.first c.loop-name.invariant.numbers;
       many = search rules;
       there = there_more (λ (t : MsgNo). t.0 < length c.args.self.now.plan.messages) items new item c.in_ok-push-in-Some.ensures.items c.loop-name.invariant.there c.in-Some.ensures.within;
-      known = known_more p.message_names c.args.names.now i name said (omega arith) c.name-item.is c.list.ensures (there_of p.message_names said item.0 c.in-Some.ensures.number) c.loop-name.invariant.known;
+      known =
+          known_more p.message_names c.args.names.now i name said (omega arith) c.name-item.is c.list.ensures (there_of p.message_names said item.0 c.in-Some.ensures.number)
+          c.loop-name.invariant.known;
     }
 
 pub returns-clause-known : goal.returns-clause-known

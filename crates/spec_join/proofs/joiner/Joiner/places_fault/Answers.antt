@@ -10,7 +10,8 @@ place_fault-requires-clause-known c = subst (IsKnownPlace c.args.self.now.plan.o
 
 pub loop-place-preserved : goal.loop-place-preserved
 loop-place-preserved c =
-    least_in_more (PlaceBreaks c.args.self.now (table_at c.args.self.now.tables c.args.table)) c.args.places.now c.loop-place.place-index c.place-item.result c.loop-place.fault c.place_fault.result c.lower_of-fault.result
+    least_in_more (PlaceBreaks c.args.self.now (table_at c.args.self.now.tables c.args.table)) c.args.places.now c.loop-place.place-index c.place-item.result c.loop-place.fault
+    c.place_fault.result c.lower_of-fault.result
     (omega arith) c.place-item.is c.lower_of-fault.ensures c.loop-place.invariant c.place_fault.ensures
 
 pub returns : goal.returns

@@ -10,4 +10,5 @@ weight_for-weight-requires c =
     let amount = to_z w128 (of_z w128 c.amount_in-amount.result) in
     let same : amount ≡ c.amount_in-amount.result = search rules in
     place_fits c.args.self.now c.loop-place.self c.self.inside.tgff.now.tables c.args.table c.args.resource.now c.args.places.now c.loop-place.place-index c.place-item.result c.list.result.now amount
-    (omega arith) c.place-item.is c.list.ensures (ap (λ (s : Joining). s.tables) c.self.view_is) (same ∙ c.amount_in-amount.ensures ∙ ap amount_in c.first_cell.ensures) c.requires.known c.requires.unbroken c.loop-place.invariant
+    (omega arith) c.place-item.is c.list.ensures (ap (λ (s : Joining). s.tables) c.self.view_is) (same ∙ c.amount_in-amount.ensures ∙ ap amount_in c.first_cell.ensures) c.requires.known
+    c.requires.unbroken c.loop-place.invariant

@@ -15,7 +15,9 @@ loop-name-preserved c =
     let name = c.name-item.result in
     let said = c.list.result.now in
     record {
-      numbers = numbers_more task_number p.tasks c.args.names.now i items new item name said (omega arith) c.in_ok-push-in-Some.ensures.items c.name-item.is c.list.ensures c.in-Some.ensures.first c.loop-name.invariant.numbers;
+      numbers =
+          numbers_more task_number p.tasks c.args.names.now i items new item name said (omega arith) c.in_ok-push-in-Some.ensures.items c.name-item.is c.list.ensures c.in-Some.ensures.first
+          c.loop-name.invariant.numbers;
       many = search rules;
       there = there_more (λ (t : TaskNo). t.0 < length c.args.self.now.plan.tasks) items new item c.in_ok-push-in-Some.ensures.items c.loop-name.invariant.there c.in-Some.ensures.within;
       known = known_more p.tasks c.args.names.now i name said (omega arith) c.name-item.is c.list.ensures (there_of p.tasks said item.0 c.in-Some.ensures) c.loop-name.invariant.known;

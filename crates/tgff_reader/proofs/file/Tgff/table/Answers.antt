@@ -12,5 +12,6 @@ returns-clause-one c =
     let tables = c.args.self.now.tables in
     let apart : AreDistinct (map table_key tables) = subst (λ (v : TgffValue). AreDistinct (map table_key v.tables)) c.self.view_is c.self.invariant.tables_distinct in
     let found : MatchOption c.find.result (HasNoTable tables c.args.name.now c.args.index) (IsTableAt tables c.args.name.now c.args.index)
-    = subst (λ (ts : List Table). MatchOption c.find.result (HasNoTable ts c.args.name.now c.args.index) (IsTableAt ts c.args.name.now c.args.index)) (ap (λ (v : TgffValue). v.tables) c.self.view_is) c.find.ensures in
+    = subst (λ (ts : List Table). MatchOption c.find.result (HasNoTable ts c.args.name.now c.args.index) (IsTableAt ts c.args.name.now c.args.index))
+    (ap (λ (v : TgffValue). v.tables) c.self.view_is) c.find.ensures in
     only_table tables c.args.name.now c.args.index c.find.result apart found

@@ -25,6 +25,7 @@ invariant_of-self-2 c =
     (subst (λ (ts : List Table). AreFound (map string_bytes c.self.inside.names.keys) (place_in c.self.inside.places) ts) (sym c.reserve.ensures.items) c.self.invariant) c.number_of.ensures.names in
     let number : IsNumberOf names t.name c.in_ok-number.number = subst (λ (name : List ℕ). IsNumberOf names name c.in_ok-number.number) c.list.ensures c.in_ok-number.ensures.number in
     let told : (p : ℕ × ℕ) → place_in c.insert.new.self p ≡ cond (is_pair (c.in_ok-number.number, t.index) p) (Some (length c.reserve.new.self.items)) (place_in c.self.inside.places p)
-    = λ p. c.in_ok-insert.ensures.updates.0 p ∙ ap (λ (n : ℕ). cond (is_pair (c.in_ok-number.number, t.index) p) (Some n) (place_in c.self.inside.places p)) (c.len.ensures ∙ c.reserve.new.self.ok.0) in
+    = λ p. c.in_ok-insert.ensures.updates.0 p ∙ ap (λ (n : ℕ). cond (is_pair (c.in_ok-number.number, t.index) p) (Some n) (place_in c.self.inside.places p))
+    (c.len.ensures ∙ c.reserve.new.self.ok.0) in
     subst (λ (ts : List Table). AreFound names (place_in c.insert.new.self) ts) (sym c.push_reserved.ensures.items)
     (found_with_table names (place_in c.self.inside.places) (place_in c.insert.new.self) c.reserve.new.self.items t c.in_ok-number.number named number told)

@@ -1,6 +1,6 @@
 use Rattle.std.proofs.Common.{◌≡◌, arith, true, false, ◌-◌, is_none}
 use Rattle.std.proofs.lemmas.Grind.{common_steps}
-use Rattle.trail_state.proofs.Fields.{IsTrail-pop_read, used_positive, none-before_last}
+use Rattle.trail_state.proofs.Fields.{IsTrail-pop_read, used_positive, none_before_last}
 use Rattle.trail_state.proofs.stack.Stack.pop.Goals as goal
 
 pub overflow_sub-self-then-is_none : goal.overflow_sub-self-then-is_none
@@ -62,11 +62,11 @@ returns-then-is_none-clause-gone c =
     let i = c.self.inside in
     let some-there = rw (← c.self.view_is) at c.requires in
     let pos = used_positive i.lits.items i.reasons.items i.places.items i.used i.depth c.self.invariant some-there in
-    none-before_last i.lits.items i.reasons.items i.places.items i.used i.depth pos c.self.invariant c.index.result.now c.index-2.result.now c.index.ensures c.index-2.ensures
+    none_before_last i.lits.items i.reasons.items i.places.items i.used i.depth pos c.self.invariant c.index.result.now c.index-2.result.now c.index.ensures c.index-2.ensures
 
 pub returns-else-is_none-clause-gone : goal.returns-else-is_none-clause-gone
 returns-else-is_none-clause-gone c =
     let i = c.self.inside in
     let some-there = rw (← c.self.view_is) at c.requires in
     let pos = used_positive i.lits.items i.reasons.items i.places.items i.used i.depth c.self.invariant some-there in
-    none-before_last i.lits.items i.reasons.items i.places.items i.used i.depth pos c.self.invariant c.index.result.now c.index-2.result.now c.index.ensures c.index-2.ensures
+    none_before_last i.lits.items i.reasons.items i.places.items i.used i.depth pos c.self.invariant c.index.result.now c.index-2.result.now c.index.ensures c.index-2.ensures

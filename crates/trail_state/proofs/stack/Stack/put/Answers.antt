@@ -31,7 +31,8 @@ invariant_of-self c =
     let v = ap (λ (v : TrailView). v.variables) c.self.view_is in
     let free = rw (← c.self.view_is) at c.requires.unassigned in
     let none : is_none c.args.reason ≡ true = grind (arith, common_steps) in
-    rw c.var.ensures.value (IsTrail-push i.lits.items i.reasons.items i.places.items i.used i.depth c.self.invariant c.args.lit c.args.reason _ (omega arith) free (ap (λ b. i.depth + cond b 1 0) (sym none)))
+    rw c.var.ensures.value (IsTrail-push i.lits.items i.reasons.items i.places.items i.used i.depth c.self.invariant c.args.lit c.args.reason _ (omega arith) free
+    (ap (λ b. i.depth + cond b 1 0) (sym none)))
 
 pub invariant_of-self-else-is_none : goal.invariant_of-self-else-is_none
 invariant_of-self-else-is_none c =

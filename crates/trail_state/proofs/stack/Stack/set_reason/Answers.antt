@@ -3,7 +3,7 @@ use Rattle.std.proofs.lemmas.Grind.{common_steps}
 use Rattle.std.proofs.lemmas.List.{get_or_read}
 use Rattle.trail_state.specs.Trail.{reason_in}
 use Rattle.trail_state.specs.Fields.{entries_of}
-use Rattle.trail_state.proofs.Fields.{room, place_some, place_there, entries-reason, levels-reason, IsTrail-reason}
+use Rattle.trail_state.proofs.Fields.{room, place_some, place_there, entries-reason, levels_reason, IsTrail-reason}
 use Rattle.trail_state.proofs.stack.Stack.set_reason.Goals as goal
 
 pub index-requires : goal.index-requires
@@ -57,4 +57,4 @@ returns-in-Some-clause-levels c =
     let some : is_none (reason_in (entries_of i.lits.items i.reasons.items i.used) c.args.var) ≡ false = grind (arith, common_steps) in
     let there = place_there i.lits.items i.reasons.items i.places.items i.used i.depth c.self.invariant c.args.var some in
     let e : get_or i.places.items c.args.var None ≡ Some c.in-Some.place = sym (get_or_read i.places.items c.args.var c.index.result.now there c.index.ensures None) ∙ c.in-Some.is in
-    rw (← c.self.view_is) (levels-reason i.lits.items i.reasons.items i.places.items i.used i.depth c.self.invariant c.args.var c.in-Some.place c.args.reason e some)
+    rw (← c.self.view_is) (levels_reason i.lits.items i.reasons.items i.places.items i.used i.depth c.self.invariant c.args.var c.in-Some.place c.args.reason e some)
