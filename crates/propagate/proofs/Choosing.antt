@@ -24,7 +24,8 @@ pub Chosen-none : (q : ℕ → Option Bool) (ts : List Term) → Chosen q ts ts 
 Chosen-none q ts = record { moved = IsPermutation-refl ts; before = omega arith; first = λ k d h. absurd (omega arith); later = λ k d g h. absurd (omega arith) }
 
 -- one more that is false
-pub Chosen-false : (q : ℕ → Option Bool) (start now : List Term) (found place : ℕ) → Chosen q start now found place → ((d : Term) → is_false q (get_or now place d).lit ≡ true) → Chosen q start now found (place + 1)
+pub Chosen-false : (q : ℕ → Option Bool) (start now : List Term) (found place : ℕ) → Chosen q start now found place → ((d : Term) → is_false q (get_or now place d).lit ≡ true)
+    → Chosen q start now found (place + 1)
 Chosen-false q start now found place c h =
     let before = c.before in
     record {
@@ -38,7 +39,8 @@ Chosen-false q start now found place c h =
     }
 
 -- one more that isn't
-pub Chosen-open : (q : ℕ → Option Bool) (start now next : List Term) (found place : ℕ) → Chosen q start now found place → ((d : Term) → is_false q (get_or now place d).lit ≡ false) → IsPermutation now next → SwappedAt now next found place → Chosen q start next (found + 1) (place + 1)
+pub Chosen-open : (q : ℕ → Option Bool) (start now next : List Term) (found place : ℕ) → Chosen q start now found place → ((d : Term) → is_false q (get_or now place d).lit ≡ false)
+    → IsPermutation now next → SwappedAt now next found place → Chosen q start next (found + 1) (place + 1)
 Chosen-open q start now next found place c h moved s =
     let before = c.before in
     let v : Term → Bool = λ t. is_false q t.lit in
@@ -72,10 +74,10 @@ Chosen-two q start now place c h =
     }
 
 -- terms that are all false have no room
-all-false : (q : ℕ → Option Bool) (ts : List Term) → All (λ (t : Term). is_false q t.lit ≡ true) ts → open_weight q ts ≡ 0
-all-false q [] h = refl
-all-false q (t ∷ ts) h =
-    let ih = all-false q ts (λ k d l. h (suc k) d (omega arith)) in
+all_false : (q : ℕ → Option Bool) (ts : List Term) → All (λ (t : Term). is_false q t.lit ≡ true) ts → open_weight q ts ≡ 0
+all_false q [] h = refl
+all_false q (t ∷ ts) h =
+    let ih = all_false q ts (λ k d l. h (suc k) d (omega arith)) in
     let e : is_false q t.lit ≡ true = h 0 t (omega arith) in
     let x = open-cons q t ts ∙ ap (λ (b : Bool). cond b 0 t.coef + open_weight q ts) e in
     omega (arith, x, ih)
@@ -83,15 +85,15 @@ all-false q (t ∷ ts) h =
 -- fewer are found
 pub Chosen-few : (q : ℕ → Option Bool) (start now : List Term) (found place : ℕ) → Chosen q start now found place → found < 2 → length now ≤ place → open_weight q (drop 2 now) ≡ 0
 Chosen-few q start now found place c few h =
-    all-false q (drop 2 now) (λ k d l. (
-        let len = length-drop 2 now in
-        ap (λ (t : Term). is_false q t.lit) (get_or-drop 2 now k d) ∙ c.later (2 + k) d (omega arith) (omega (arith, len))))
+    all_false q (drop 2 now) (λ k d l. (
+    let len = length-drop 2 now in
+    ap (λ (t : Term). is_false q t.lit) (get_or-drop 2 now k d) ∙ c.later (2 + k) d (omega arith) (omega (arith, len))))
 
 -- two terms of a clause that aren't false
-two-open : (q : ℕ → Option Bool) (n : ℕ) (ts : List Term) → HasCoefficients n ts → HasOpenFirst q ts → open_weight q (take 2 ts) ≡ n + n
-two-open q n [] c h = (let t = h.two in absurd (omega arith))
-two-open q n (a ∷ []) c h = (let t = h.two in absurd (omega arith))
-two-open q n (a ∷ b ∷ ts) c h =
+two_open : (q : ℕ → Option Bool) (n : ℕ) (ts : List Term) → HasCoefficients n ts → HasOpenFirst q ts → open_weight q (take 2 ts) ≡ n + n
+two_open q n [] c h = (let t = h.two in absurd (omega arith))
+two_open q n (a ∷ []) c h = (let t = h.two in absurd (omega arith))
+two_open q n (a ∷ b ∷ ts) c h =
     let ca : a.coef ≡ n = c 0 a (omega arith) in
     let cb : b.coef ≡ n = c 1 b (omega arith) in
     let ea : is_false q a.lit ≡ false = h.none_false 0 a (omega arith) in
@@ -100,9 +102,9 @@ two-open q n (a ∷ b ∷ ts) c h =
     let y = open-cons q b [] ∙ ap (λ (e : Bool). cond e 0 b.coef + open_weight q []) eb in
     omega (arith, x, y, ca, cb)
 
-pub quiet-two : (q : ℕ → Option Bool) (n : ℕ) (ts : List Term) → HasCoefficients n ts → HasOpenFirst q ts → IsQuiet (open_weight q (take 2 ts)) q (record { terms = take 2 ts; degree = n })
-quiet-two q n ts c h =
-    let e = two-open q n ts c h in
+pub quiet_two : (q : ℕ → Option Bool) (n : ℕ) (ts : List Term) → HasCoefficients n ts → HasOpenFirst q ts → IsQuiet (open_weight q (take 2 ts)) q (record { terms = take 2 ts; degree = n })
+quiet_two q n ts c h =
+    let e = two_open q n ts c h in
     let all = All-take (λ (t : Term). t.coef ≡ n) 2 ts c in
     record {
       no_conflict = omega (arith, e);
@@ -110,19 +112,20 @@ quiet-two q n ts c h =
     }
 
 -- a clause in another order, with two terms watched
-falling-clause : (n : ℕ) (ts : List Term) → HasCoefficients n ts → IsFalling ts
-falling-clause n ts c i j d ij lt = (let a = c i d (omega arith) in let b = c j d lt in omega (arith, a, b))
+falling_clause : (n : ℕ) (ts : List Term) → HasCoefficients n ts → IsFalling ts
+falling_clause n ts c i j d ij lt = (let a = c i d (omega arith) in let b = c j d lt in omega (arith, a, b))
 
-pub ranked-clause : (whole : Linear) (order next : List Term) (n watched : ℕ) → IsRanking whole.terms order → HasCoefficients n order → IsPermutation order next → watched ≤ length order → IsRanked (record { whole = whole; order = next; watched = watched })
-ranked-clause whole order next n watched r c moved h =
+pub ranked_clause : (whole : Linear) (order next : List Term) (n watched : ℕ) → IsRanking whole.terms order → HasCoefficients n order → IsPermutation order next → watched ≤ length order
+    → IsRanked (record { whole = whole; order = next; watched = watched })
+ranked_clause whole order next n watched r c moved h =
     let len = length_permutation order next moved in
     record {
-      ranking = record { moved = IsPermutation-trans whole.terms order next r.moved moved; falling = falling-clause n next (All-permutation (λ (t : Term). t.coef ≡ n) order next moved c) };
+      ranking = record { moved = IsPermutation-trans whole.terms order next r.moved moved; falling = falling_clause n next (All-permutation (λ (t : Term). t.coef ≡ n) order next moved c) };
       fits = omega (arith, len);
     }
 
 -- a constraint of which all terms are watched
-pub ranked-whole : (whole : Linear) (order : List Term) → IsRanking whole.terms order → IsRanked (record { whole = whole; order = order; watched = length whole.terms })
-ranked-whole whole order r =
+pub ranked_whole : (whole : Linear) (order : List Term) → IsRanking whole.terms order → IsRanked (record { whole = whole; order = order; watched = length whole.terms })
+ranked_whole whole order r =
     let len = length_permutation whole.terms order r.moved in
     record { ranking = r; fits = omega (arith, len) }

@@ -249,7 +249,8 @@ step_filled n i room c slots rooms w w' ls q s h h' is a =
 pub limited_nothing : (limit : ℕ) → IsLimited limit nothing
 limited_nothing limit = record { degree = omega arith; terms = λ k d h. absurd (omega arith) }
 
-pub built_grown : (n : ℕ) (slots slots' : List (Option Linear)) (limits limits' : List ℕ) (lists : List (List Occurrence)) → IsBuilt n slots limits lists → ((i : ℕ) → get_or slots' i empty ≡ get_or slots i empty) → length slots ≤ length slots' → ((i : ℕ) → get_or limits' i 0 ≡ get_or limits i 0) → IsBuilt n slots' limits' lists
+pub built_grown : (n : ℕ) (slots slots' : List (Option Linear)) (limits limits' : List ℕ) (lists : List (List Occurrence)) → IsBuilt n slots limits lists
+    → ((i : ℕ) → get_or slots' i empty ≡ get_or slots i empty) → length slots ≤ length slots' → ((i : ℕ) → get_or limits' i 0 ≡ get_or limits i 0) → IsBuilt n slots' limits' lists
 built_grown n slots slots' limits limits' lists b s l m =
     let V : Linear → Type 0 = λ k. VarsBelow n k.terms in
     let T : Linear → Type 0 = λ k. total k.terms < 2 ^ 63 in
@@ -267,7 +268,8 @@ built_grown n slots slots' limits limits' lists b s l m =
           subst Q (sym (is i)) (subst P (sym (m i)) (b.limited i)));
     }
 
-pub step_grown : (n : ℕ) (slots slots' : List (Option Linear)) (rooms rooms' : List ℕ) (w w' : List Bool) (ls : List Literal) (q : ℕ → Option Bool) → IsInStep n slots rooms w ls q → ((i : ℕ) → get_or slots' i empty ≡ get_or slots i empty) → ((i : ℕ) → get_or rooms' i 0 ≡ get_or rooms i 0) → ((i : ℕ) → is_waiting w' i ≡ is_waiting w i) → IsInStep n slots' rooms' w' ls q
+pub step_grown : (n : ℕ) (slots slots' : List (Option Linear)) (rooms rooms' : List ℕ) (w w' : List Bool) (ls : List Literal) (q : ℕ → Option Bool) → IsInStep n slots rooms w ls q
+    → ((i : ℕ) → get_or slots' i empty ≡ get_or slots i empty) → ((i : ℕ) → get_or rooms' i 0 ≡ get_or rooms i 0) → ((i : ℕ) → is_waiting w' i ≡ is_waiting w i) → IsInStep n slots' rooms' w' ls q
 step_grown n slots slots' rooms rooms' w w' ls q h s r e =
     let is : (i : ℕ) → linear_at slots' i ≡ linear_at slots i = λ i. ap (λ (o : Option Linear). unwrap_or o nothing) (s i) in
     record {

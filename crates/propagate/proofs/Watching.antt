@@ -26,14 +26,14 @@ use Rattle.propagate.proofs.Tying.{lits_of, weight_same}
 abbrev pub unfilled : Option RankedView
 unfilled = None
 
-pub parts-length : (slots : List (Option RankedView)) → length (parts slots) ≡ length slots
-parts-length slots = length-map slots part_in
+pub length-parts : (slots : List (Option RankedView)) → length (parts slots) ≡ length slots
+length-parts slots = length-map slots part_in
 
-pub parts-at : (slots : List (Option RankedView)) (i : ℕ) → get_or (parts slots) i empty ≡ part_in (get_or slots i unfilled)
-parts-at slots i = get_or-map part_in slots i unfilled
+pub parts_at : (slots : List (Option RankedView)) (i : ℕ) → get_or (parts slots) i empty ≡ part_in (get_or slots i unfilled)
+parts_at slots i = get_or-map part_in slots i unfilled
 
-pub wholes-at : (slots : List (Option RankedView)) (i : ℕ) → get_or (wholes slots) i empty ≡ whole_in (get_or slots i unfilled)
-wholes-at slots i = get_or-map whole_in slots i unfilled
+pub wholes_at : (slots : List (Option RankedView)) (i : ℕ) → get_or (wholes slots) i empty ≡ whole_in (get_or slots i unfilled)
+wholes_at slots i = get_or-map whole_in slots i unfilled
 
 pub parts-set : (slots : List (Option RankedView)) (i : ℕ) (o : Option RankedView) → parts (set slots i o) ≡ set (parts slots) i (part_in o)
 parts-set slots i o = map-set part_in slots i o
@@ -46,48 +46,48 @@ wholes-push [] = refl
 wholes-push (o ∷ slots) = ap (λ (us : List (Option Linear)). whole_in o ∷ us) (wholes-push slots)
 
 -- a slot is filled where its part is
-filled-part_in : (o : Option RankedView) → is_some (part_in o) ≡ is_some o
-filled-part_in None = refl
-filled-part_in (Some r) = refl
+filled_part_in : (o : Option RankedView) → is_some (part_in o) ≡ is_some o
+filled_part_in None = refl
+filled_part_in (Some r) = refl
 
-filled-whole_in : (o : Option RankedView) → is_some (whole_in o) ≡ is_some o
-filled-whole_in None = refl
-filled-whole_in (Some r) = refl
+filled_whole_in : (o : Option RankedView) → is_some (whole_in o) ≡ is_some o
+filled_whole_in None = refl
+filled_whole_in (Some r) = refl
 
-pub filled-part : (slots : List (Option RankedView)) (i : ℕ) → is_some (get_or (parts slots) i empty) ≡ is_some (get_or slots i unfilled)
-filled-part slots i = ap (λ (o : Option Linear). is_some o) (parts-at slots i) ∙ filled-part_in (get_or slots i unfilled)
+pub filled_part : (slots : List (Option RankedView)) (i : ℕ) → is_some (get_or (parts slots) i empty) ≡ is_some (get_or slots i unfilled)
+filled_part slots i = ap (λ (o : Option Linear). is_some o) (parts_at slots i) ∙ filled_part_in (get_or slots i unfilled)
 
-pub filled-whole : (slots : List (Option RankedView)) (i : ℕ) → is_some (get_or (wholes slots) i empty) ≡ is_some (get_or slots i unfilled)
-filled-whole slots i = ap (λ (o : Option Linear). is_some o) (wholes-at slots i) ∙ filled-whole_in (get_or slots i unfilled)
+pub filled_whole : (slots : List (Option RankedView)) (i : ℕ) → is_some (get_or (wholes slots) i empty) ≡ is_some (get_or slots i unfilled)
+filled_whole slots i = ap (λ (o : Option Linear). is_some o) (wholes_at slots i) ∙ filled_whole_in (get_or slots i unfilled)
 
 -- what is read in a slot
-pub ranked-is : (slots : List (Option RankedView)) (i : ℕ) (o : Option RankedView) (r : RankedView) → i < length slots → o ≡ get_or slots i o → o ≡ Some r → get_or slots i unfilled ≡ Some r
-ranked-is slots i o r h at is = get_or_default slots i unfilled o h ∙ sym at ∙ is
+pub ranked_is : (slots : List (Option RankedView)) (i : ℕ) (o : Option RankedView) (r : RankedView) → i < length slots → o ≡ get_or slots i o → o ≡ Some r → get_or slots i unfilled ≡ Some r
+ranked_is slots i o r h at is = get_or_default slots i unfilled o h ∙ sym at ∙ is
 
-pub part-is : (slots : List (Option RankedView)) (i : ℕ) (r : RankedView) → get_or slots i unfilled ≡ Some r → get_or (parts slots) i empty ≡ Some (part_of r)
-part-is slots i r h = parts-at slots i ∙ ap part_in h
+pub part_is : (slots : List (Option RankedView)) (i : ℕ) (r : RankedView) → get_or slots i unfilled ≡ Some r → get_or (parts slots) i empty ≡ Some (part_of r)
+part_is slots i r h = parts_at slots i ∙ ap part_in h
 
-pub whole-is : (slots : List (Option RankedView)) (i : ℕ) (r : RankedView) → get_or slots i unfilled ≡ Some r → get_or (wholes slots) i empty ≡ Some r.whole
-whole-is slots i r h = wholes-at slots i ∙ ap whole_in h
+pub whole_is : (slots : List (Option RankedView)) (i : ℕ) (r : RankedView) → get_or slots i unfilled ≡ Some r → get_or (wholes slots) i empty ≡ Some r.whole
+whole_is slots i r h = wholes_at slots i ∙ ap whole_in h
 
-pub linear_part-is : (slots : List (Option RankedView)) (i : ℕ) (r : RankedView) → get_or slots i unfilled ≡ Some r → linear_at (parts slots) i ≡ part_of r
-linear_part-is slots i r h = ap (λ (o : Option Linear). unwrap_or o nothing) (part-is slots i r h)
+pub linear_part_is : (slots : List (Option RankedView)) (i : ℕ) (r : RankedView) → get_or slots i unfilled ≡ Some r → linear_at (parts slots) i ≡ part_of r
+linear_part_is slots i r h = ap (λ (o : Option Linear). unwrap_or o nothing) (part_is slots i r h)
 
-pub linear_whole-is : (slots : List (Option RankedView)) (i : ℕ) (r : RankedView) → get_or slots i unfilled ≡ Some r → linear_at (wholes slots) i ≡ r.whole
-linear_whole-is slots i r h = ap (λ (o : Option Linear). unwrap_or o nothing) (whole-is slots i r h)
+pub linear_whole_is : (slots : List (Option RankedView)) (i : ℕ) (r : RankedView) → get_or slots i unfilled ≡ Some r → linear_at (wholes slots) i ≡ r.whole
+linear_whole_is slots i r h = ap (λ (o : Option Linear). unwrap_or o nothing) (whole_is slots i r h)
 
-pub linear_part-none : (slots : List (Option RankedView)) (i : ℕ) → get_or slots i unfilled ≡ None → linear_at (parts slots) i ≡ nothing
-linear_part-none slots i h = ap (λ (o : Option Linear). unwrap_or o nothing) (parts-at slots i ∙ ap part_in h)
+pub linear_part_none : (slots : List (Option RankedView)) (i : ℕ) → get_or slots i unfilled ≡ None → linear_at (parts slots) i ≡ nothing
+linear_part_none slots i h = ap (λ (o : Option Linear). unwrap_or o nothing) (parts_at slots i ∙ ap part_in h)
 
-pub linear_whole-none : (slots : List (Option RankedView)) (i : ℕ) → get_or slots i unfilled ≡ None → linear_at (wholes slots) i ≡ nothing
-linear_whole-none slots i h = ap (λ (o : Option Linear). unwrap_or o nothing) (wholes-at slots i ∙ ap whole_in h)
+pub linear_whole_none : (slots : List (Option RankedView)) (i : ℕ) → get_or slots i unfilled ≡ None → linear_at (wholes slots) i ≡ nothing
+linear_whole_none slots i h = ap (λ (o : Option Linear). unwrap_or o nothing) (wholes_at slots i ∙ ap whole_in h)
 
 -- slots that are kept
-pub kept-at : (n : ℕ) (slots : List (Option RankedView)) (i : ℕ) (r : RankedView) → AreKept n slots → get_or slots i unfilled ≡ Some r → IsKept n r
-kept-at n slots i r k h = (let P : Option RankedView → Type 0 = λ o. IsKeptIn n o in subst P h (k i))
+pub kept_at : (n : ℕ) (slots : List (Option RankedView)) (i : ℕ) (r : RankedView) → AreKept n slots → get_or slots i unfilled ≡ Some r → IsKept n r
+kept_at n slots i r k h = (let P : Option RankedView → Type 0 = λ o. IsKeptIn n o in subst P h (k i))
 
-pub kept-set : (n : ℕ) (slots : List (Option RankedView)) (i : ℕ) (o : Option RankedView) → i < length slots → AreKept n slots → IsKeptIn n o → AreKept n (set slots i o)
-kept-set n slots i o h k here j =
+pub kept_set : (n : ℕ) (slots : List (Option RankedView)) (i : ℕ) (o : Option RankedView) → i < length slots → AreKept n slots → IsKeptIn n o → AreKept n (set slots i o)
+kept_set n slots i o h k here j =
     let P : Option RankedView → Type 0 = λ u. IsKeptIn n u in
     elim (cases_eq j i) [
       | inl e ↦ (
@@ -96,64 +96,64 @@ kept-set n slots i o h k here j =
       | inr m ↦ subst P (sym (get_or-set_other slots i j o unfilled m)) (k j)
     ]
 
-pub kept-same : (n : ℕ) (slots slots' : List (Option RankedView)) → ((i : ℕ) → get_or slots' i unfilled ≡ get_or slots i unfilled) → AreKept n slots → AreKept n slots'
-kept-same n slots slots' same k i = (let P : Option RankedView → Type 0 = λ u. IsKeptIn n u in subst P (sym (same i)) (k i))
+pub kept_same : (n : ℕ) (slots slots' : List (Option RankedView)) → ((i : ℕ) → get_or slots' i unfilled ≡ get_or slots i unfilled) → AreKept n slots → AreKept n slots'
+kept_same n slots slots' same k i = (let P : Option RankedView → Type 0 = λ u. IsKeptIn n u in subst P (sym (same i)) (k i))
 
-kept-more_in : (m n : ℕ) (o : Option RankedView) → m ≤ n → IsKeptIn m o → IsKeptIn n o
-kept-more_in m n None h k = tt
-kept-more_in m n (Some r) h k = record { ranked = k.ranked; in_range = λ j d l. (let a = k.in_range j d l in omega arith) }
+kept_more_in : (m n : ℕ) (o : Option RankedView) → m ≤ n → IsKeptIn m o → IsKeptIn n o
+kept_more_in m n None h k = tt
+kept_more_in m n (Some r) h k = record { ranked = k.ranked; in_range = λ j d l. (let a = k.in_range j d l in omega arith) }
 
-pub kept-more : (m n : ℕ) (slots : List (Option RankedView)) → m ≤ n → AreKept m slots → AreKept n slots
-kept-more m n slots h k i = kept-more_in m n (get_or slots i unfilled) h (k i)
+pub kept_more : (m n : ℕ) (slots : List (Option RankedView)) → m ≤ n → AreKept m slots → AreKept n slots
+kept_more m n slots h k i = kept_more_in m n (get_or slots i unfilled) h (k i)
 
-pub kept-cleared : (n : ℕ) (slots slots' : List (Option RankedView)) (rooms rooms' : List ℕ) → AreCleared slots slots' rooms rooms' → AreKept n slots → AreKept n slots'
-kept-cleared n slots slots' rooms rooms' a k i =
+pub kept_cleared : (n : ℕ) (slots slots' : List (Option RankedView)) (rooms rooms' : List ℕ) → AreCleared slots slots' rooms rooms' → AreKept n slots → AreKept n slots'
+kept_cleared n slots slots' rooms rooms' a k i =
     let P : Option RankedView → Type 0 = λ u. IsKeptIn n u in
     elim (a.each i) [
       | inl w ↦ subst P (sym w.0) (k i)
       | inr w ↦ subst P (sym w.0) tt
     ]
 
-pub cleared-parts : (slots slots' : List (Option RankedView)) (rooms rooms' : List ℕ) → AreCleared slots slots' rooms rooms' → AreCleared (parts slots) (parts slots') rooms rooms'
-cleared-parts slots slots' rooms rooms' a = record {
-  same_slots = parts-length slots' ∙ a.same_slots ∙ sym (parts-length slots);
+pub cleared_parts : (slots slots' : List (Option RankedView)) (rooms rooms' : List ℕ) → AreCleared slots slots' rooms rooms' → AreCleared (parts slots) (parts slots') rooms rooms'
+cleared_parts slots slots' rooms rooms' a = record {
+  same_slots = length-parts slots' ∙ a.same_slots ∙ sym (length-parts slots);
   same_rooms = a.same_rooms;
   each = λ i. elim (a.each i) [
-    | inl w ↦ inl (parts-at slots' i ∙ ap part_in w.0 ∙ sym (parts-at slots i), w.1)
-    | inr w ↦ inr (parts-at slots' i ∙ ap part_in w.0, w.1)
+    | inl w ↦ inl (parts_at slots' i ∙ ap part_in w.0 ∙ sym (parts_at slots i), w.1)
+    | inr w ↦ inr (parts_at slots' i ∙ ap part_in w.0, w.1)
   ];
 }
 
 -- the room of all terms is that of the watched ones and of the rest
-pub open-split : (q : ℕ → Option Bool) (r : RankedView) → IsRanked r → open_weight q r.whole.terms ≡ open_weight q (part_of r).terms + open_weight q (rest_of r)
-open-split q r k =
+pub open_split : (q : ℕ → Option Bool) (r : RankedView) → IsRanked r → open_weight q r.whole.terms ≡ open_weight q (part_of r).terms + open_weight q (rest_of r)
+open_split q r k =
     let f : Term → ℕ = λ t. cond (is_false q t.lit) 0 t.coef in
     sym (sum_by-IsPermutation f r.whole.terms r.order k.ranking.moved) ∙ sym (sum_by-take-drop f r.order r.watched)
 
-pub total-part : (r : RankedView) → IsRanked r → total (part_of r).terms ≤ total r.whole.terms
-total-part r k =
+pub total_part : (r : RankedView) → IsRanked r → total (part_of r).terms ≤ total r.whole.terms
+total_part r k =
     let f : Term → ℕ = λ t. t.coef in
     let a = sum_by-take-le f r.order r.watched in
     let b = sum_by-IsPermutation f r.whole.terms r.order k.ranking.moved in
     omega (arith, a, b)
 
 -- a literal without a value is open
-pub open-term : (q : ℕ → Option Bool) (ts : List Term) (k : ℕ) (d : Term) → k < length ts → q (get_or ts k d).lit.var ≡ None → (get_or ts k d).coef ≤ open_weight q ts
-open-term q [] k d h f = absurd (omega arith)
-open-term q (t ∷ ts) zero d h f =
+pub open_term : (q : ℕ → Option Bool) (ts : List Term) (k : ℕ) (d : Term) → k < length ts → q (get_or ts k d).lit.var ≡ None → (get_or ts k d).coef ≤ open_weight q ts
+open_term q [] k d h f = absurd (omega arith)
+open_term q (t ∷ ts) zero d h f =
     let c = open-cons q t ts in
     let e : is_false q t.lit ≡ false = ap (λ (o : Option Bool). falsifies o t.lit.yes) f in
     let c' : open_weight q (t ∷ ts) ≡ t.coef + open_weight q ts = c ∙ ap (λ (b : Bool). cond b 0 t.coef + open_weight q ts) e in
     omega (arith, c')
-open-term q (t ∷ ts) (suc k) d h f =
+open_term q (t ∷ ts) (suc k) d h f =
     let c = open-cons q t ts in
-    let ih = open-term q ts k d (omega arith) f in
+    let ih = open_term q ts k d (omega arith) f in
     omega (arith, c, ih)
 
 -- where the watched terms are quiet at their room, all terms are closed
-pub closed-whole : (q : ℕ → Option Bool) (r : RankedView) (room : ℕ) → IsRanked r → room ≡ open_weight q (part_of r).terms → IsQuiet room q (part_of r) → IsClosed q r.whole
-closed-whole q r room k is quiet =
-    let split = open-split q r k in
+pub closed_whole : (q : ℕ → Option Bool) (r : RankedView) (room : ℕ) → IsRanked r → room ≡ open_weight q (part_of r).terms → IsQuiet room q (part_of r) → IsClosed q r.whole
+closed_whole q r room k is quiet =
+    let split = open_split q r k in
     let nc = quiet.no_conflict in
     let P : Term → Type 0 = λ t. q t.lit.var ≡ None → r.whole.degree + t.coef ≤ open_weight q r.whole.terms in
     let fits = k.fits in
@@ -170,7 +170,7 @@ closed-whole q r room k is quiet =
           let g : get_or (rest_of r) (j - r.watched) d ≡ get_or r.order j d = get_or-drop r.watched r.order (j - r.watched) d ∙ ap (λ (m : ℕ). get_or r.order m d) up in
           let f' : q (get_or (rest_of r) (j - r.watched) d).lit.var ≡ None = ap (λ (t : Term). q t.lit.var) g ∙ f in
           let dl = length-drop r.watched r.order in
-          let b = open-term q (rest_of r) (j - r.watched) d (omega (arith, dl)) f' in
+          let b = open_term q (rest_of r) (j - r.watched) d (omega (arith, dl)) f' in
           let g' = ap (λ (t : Term). t.coef) g in
           omega (arith, b, g', split, is, nc))
     ] in
@@ -180,8 +180,8 @@ closed-whole q r room k is quiet =
     }
 
 -- what leaves all terms quiet leaves the watched ones so
-pub quiet-part : (q : ℕ → Option Bool) (r : RankedView) (room : ℕ) → IsRanked r → IsQuiet room q r.whole → IsQuiet room q (part_of r)
-quiet-part q r room k quiet =
+pub quiet_part : (q : ℕ → Option Bool) (r : RankedView) (room : ℕ) → IsRanked r → IsQuiet room q r.whole → IsQuiet room q (part_of r)
+quiet_part q r room k quiet =
     let P : Term → Type 0 = λ t. q t.lit.var ≡ None → r.whole.degree + t.coef ≤ room in
     record {
       no_conflict = quiet.no_conflict;
@@ -189,21 +189,24 @@ quiet-part q r room k quiet =
     }
 
 -- nothing is quiet at every room
-pub quiet-nothing : (room : ℕ) (q : ℕ → Option Bool) → IsQuiet room q nothing
-quiet-nothing room q = record { no_conflict = omega arith; none_forced = λ k d g. absurd (omega arith) }
+pub quiet_nothing : (room : ℕ) (q : ℕ → Option Bool) → IsQuiet room q nothing
+quiet_nothing room q = record { no_conflict = omega arith; none_forced = λ k d g. absurd (omega arith) }
 
-pub closed-nothing : (q : ℕ → Option Bool) → IsClosed q nothing
-closed-nothing q = record { no_conflict = omega arith; none_forced = λ k d g. absurd (omega arith) }
+pub closed_nothing : (q : ℕ → Option Bool) → IsClosed q nothing
+closed_nothing q = record { no_conflict = omega arith; none_forced = λ k d g. absurd (omega arith) }
 
 -- steps but for one slot
-pub step-but : (slot n : ℕ) (slots : List (Option Linear)) (rooms : List ℕ) (w : List Bool) (ls : List Literal) (q : ℕ → Option Bool) → IsInStep n slots rooms w ls q → IsInStepBut slot n slots rooms w ls q
-step-but slot n slots rooms w ls q s = record { sums = s.sums; distinct = s.distinct; below = s.below; quiet = λ i ne z. s.quiet i z }
+pub step_but : (slot n : ℕ) (slots : List (Option Linear)) (rooms : List ℕ) (w : List Bool) (ls : List Literal) (q : ℕ → Option Bool) → IsInStep n slots rooms w ls q
+    → IsInStepBut slot n slots rooms w ls q
+step_but slot n slots rooms w ls q s = record { sums = s.sums; distinct = s.distinct; below = s.below; quiet = λ i ne z. s.quiet i z }
 
-pub but-taken : (slot n : ℕ) (slots : List (Option Linear)) (rooms : List ℕ) (w w' : List Bool) (ls : List Literal) (q : ℕ → Option Bool) → Takes slot w w' → IsInStep n slots rooms w ls q → IsInStepBut slot n slots rooms w' ls q
-but-taken slot n slots rooms w w' ls q t s = record { sums = s.sums; distinct = s.distinct; below = s.below; quiet = λ i ne z. s.quiet i (t.others i ne z) }
+pub but_taken : (slot n : ℕ) (slots : List (Option Linear)) (rooms : List ℕ) (w w' : List Bool) (ls : List Literal) (q : ℕ → Option Bool) → Takes slot w w' → IsInStep n slots rooms w ls q
+    → IsInStepBut slot n slots rooms w' ls q
+but_taken slot n slots rooms w w' ls q t s = record { sums = s.sums; distinct = s.distinct; below = s.below; quiet = λ i ne z. s.quiet i (t.others i ne z) }
 
-pub but-quiet : (slot n : ℕ) (slots : List (Option Linear)) (rooms : List ℕ) (w : List Bool) (ls : List Literal) (q : ℕ → Option Bool) → IsQuiet (get_or rooms slot 0) q (linear_at slots slot) → IsInStepBut slot n slots rooms w ls q → IsInStep n slots rooms w ls q
-but-quiet slot n slots rooms w ls q h s = record {
+pub but_quiet : (slot n : ℕ) (slots : List (Option Linear)) (rooms : List ℕ) (w : List Bool) (ls : List Literal) (q : ℕ → Option Bool) → IsQuiet (get_or rooms slot 0) q (linear_at slots slot)
+    → IsInStepBut slot n slots rooms w ls q → IsInStep n slots rooms w ls q
+but_quiet slot n slots rooms w ls q h s = record {
   sums = s.sums;
   distinct = s.distinct;
   below = s.below;
@@ -213,8 +216,9 @@ but-quiet slot n slots rooms w ls q h s = record {
   ];
 }
 
-pub but-waits : (slot n : ℕ) (slots : List (Option Linear)) (rooms : List ℕ) (w w' : List Bool) (ls : List Literal) (q : ℕ → Option Bool) → Awaits slot w w' → IsInStepBut slot n slots rooms w ls q → IsInStep n slots rooms w' ls q
-but-waits slot n slots rooms w w' ls q a s = record {
+pub but_waits : (slot n : ℕ) (slots : List (Option Linear)) (rooms : List ℕ) (w w' : List Bool) (ls : List Literal) (q : ℕ → Option Bool) → Awaits slot w w' → IsInStepBut slot n slots rooms w ls q
+    → IsInStep n slots rooms w' ls q
+but_waits slot n slots rooms w w' ls q a s = record {
   sums = s.sums;
   distinct = s.distinct;
   below = s.below;
@@ -224,8 +228,9 @@ but-waits slot n slots rooms w w' ls q a s = record {
   ];
 }
 
-pub but-later : (slot n : ℕ) (slots : List (Option Linear)) (rooms : List ℕ) (w : List Bool) (ls : List Literal) (p q : ℕ → Option Bool) → ((x : ℕ) → q x ≡ None → p x ≡ None) → IsInStepBut slot n slots rooms w ls p → IsInStepBut slot n slots rooms w ls q
-but-later slot n slots rooms w ls p q later h = record {
+pub but_later : (slot n : ℕ) (slots : List (Option Linear)) (rooms : List ℕ) (w : List Bool) (ls : List Literal) (p q : ℕ → Option Bool) → ((x : ℕ) → q x ≡ None → p x ≡ None)
+    → IsInStepBut slot n slots rooms w ls p → IsInStepBut slot n slots rooms w ls q
+but_later slot n slots rooms w ls p q later h = record {
   sums = h.sums;
   distinct = h.distinct;
   below = h.below;
@@ -233,22 +238,25 @@ but-later slot n slots rooms w ls p q later h = record {
 }
 
 -- once nothing waits, the trail is closed
-pub all-watched-closed : (n : ℕ) (slots : List (Option RankedView)) (rooms : List ℕ) (w : List Bool) (ls : List Literal) (es : List Entry) → AreKept n slots → IsInStep n (parts slots) rooms w ls (value_in es) → ls ≡ lits_of es → ((i : ℕ) → is_waiting w i ≡ false) → (i : ℕ) → IsClosed (value_in es) (linear_at (wholes slots) i)
-all-watched-closed n slots rooms w ls es kept h counted none i = go (get_or slots i unfilled) refl
+pub all_watched_closed : (n : ℕ) (slots : List (Option RankedView)) (rooms : List ℕ) (w : List Bool) (ls : List Literal) (es : List Entry) → AreKept n slots
+    → IsInStep n (parts slots) rooms w ls (value_in es) → ls ≡ lits_of es → ((i : ℕ) → is_waiting w i ≡ false) → (i : ℕ) → IsClosed (value_in es) (linear_at (wholes slots) i)
+all_watched_closed n slots rooms w ls es kept h counted none i = go (get_or slots i unfilled) refl
   where
     go : (o : Option RankedView) → get_or slots i unfilled ≡ o → IsClosed (value_in es) (linear_at (wholes slots) i)
-    go None e = (let P : Linear → Type 0 = λ c. IsClosed (value_in es) c in subst P (sym (linear_whole-none slots i e)) (closed-nothing (value_in es)))
+    go None e = (let P : Linear → Type 0 = λ c. IsClosed (value_in es) c in subst P (sym (linear_whole_none slots i e)) (closed_nothing (value_in es)))
     go (Some r) e = (
         let P : Linear → Type 0 = λ c. IsClosed (value_in es) c in
         let Q : Linear → Type 0 = λ c. IsQuiet (get_or rooms i 0) (value_in es) c in
-        let sum : get_or rooms i 0 ≡ open_weight (value_in es) (linear_at (parts slots) i).terms = h.sums i ∙ ap (λ (us : List Literal). open_weight (value_given us) (linear_at (parts slots) i).terms) counted ∙ weight_same (value_given (lits_of es)) (value_in es) (linear_at (parts slots) i).terms (value_given_entries es) in
-        let is = linear_part-is slots i r e in
+        let sum : get_or rooms i 0 ≡ open_weight (value_in es) (linear_at (parts slots) i).terms = h.sums i
+        ∙ ap (λ (us : List Literal). open_weight (value_given us) (linear_at (parts slots) i).terms) counted
+        ∙ weight_same (value_given (lits_of es)) (value_in es) (linear_at (parts slots) i).terms (value_given_entries es) in
+        let is = linear_part_is slots i r e in
         let room = sum ∙ ap (λ (c : Linear). open_weight (value_in es) c.terms) is in
-        let k = kept-at n slots i r kept e in
-        subst P (sym (linear_whole-is slots i r e)) (closed-whole (value_in es) r (get_or rooms i 0) k.ranked room (subst Q is (h.quiet i (none i)))))
+        let k = kept_at n slots i r kept e in
+        subst P (sym (linear_whole_is slots i r e)) (closed_whole (value_in es) r (get_or rooms i 0) k.ranked room (subst Q is (h.quiet i (none i)))))
 
-pub attached-closed : (slots : List (Option Linear)) (es : List Entry) → ((i : ℕ) → IsClosed (value_in es) (linear_at slots i)) → AllClosed (attached_from 0 slots) es
-attached-closed slots es h c k e =
+pub attached_closed : (slots : List (Option Linear)) (es : List Entry) → ((i : ℕ) → IsClosed (value_in es) (linear_at slots i)) → AllClosed (attached_from 0 slots) es
+attached_closed slots es h c k e =
     let here : get_or slots c.0 empty ≡ Some k = sym (attached_at_slot slots c) ∙ e in
     let P : Linear → Type 0 = λ d. IsClosed (value_in es) d in
     let is : linear_at slots c.0 ≡ k = ap (λ (o : Option Linear). unwrap_or o nothing) here in

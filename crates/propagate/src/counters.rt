@@ -21,7 +21,9 @@ ghost use Rattle.propagate.specs.Ranked.{part_of, wholes};
 ghost use Rattle.propagate.specs.Counters.{IsLimited, SlotsBelow, weight_at, TookRooms, GaveRooms, Woke, AreBuilt, AreInStep, AreInStepBut, AreGivenBack, AreSummed, AreDistinct, taken_off, counted_of, value_given, attached_in, occurrences_of, IsPut, IsMovedSlot, IsOneMoved, AreMoved, AreCleared};
 ghost use Rattle.propagate.specs.Flags.{is_waiting};
 
-use super::filling::{add_watched, grow_empty, grow_literals, grow_zeros, remove_watched, rename_all};
+use super::filling::{
+    add_watched, grow_empty, grow_literals, grow_zeros, remove_watched, rename_all,
+};
 use super::occurrences::{Occurrence, Occurrences};
 use super::ranked::{Ranked, is_filled};
 use super::scan::room_of;

@@ -34,7 +34,8 @@ loop-t-preserved c =
     let s : c.args.room - c.degree.result ≡ c.args.room - c.args.c.now.whole.degree = ap (λ (n : ℕ). c.args.room - n) c.degree.ensures.value in
     record {
       variables = e.variables ∙ c.loop-t.invariant.variables;
-      progress = Progress-step a ts c.args.trail.now.entries c.loop-t.trail.entries c.push_if_forced-pushed.new.trail.entries c.loop-t.t-index c.args.room (c.args.room - c.degree.result) t c.push_if_forced-pushed.result c.loop-t.invariant.progress c.degree.ensures.normal ranking c.loop-t-test.true c.t-item.is c.requires.no_conflict s e.pushed e.free e.beyond e.same e.within;
+      progress = Progress-step a ts c.args.trail.now.entries c.loop-t.trail.entries c.push_if_forced-pushed.new.trail.entries c.loop-t.t-index c.args.room (c.args.room - c.degree.result) t
+          c.push_if_forced-pushed.result c.loop-t.invariant.progress c.degree.ensures.normal ranking c.loop-t-test.true c.t-item.is c.requires.no_conflict s e.pushed e.free e.beyond e.same e.within;
     }
 
 pub returns-then-t-slack-clause-quiet : goal.returns-then-t-slack-clause-quiet
@@ -44,7 +45,8 @@ returns-then-t-slack-clause-quiet c =
     let ranking = subst T (sym c.by_falling-t-items.ensures.order) c.by_falling-t-items.ensures.ranked.ranking in
     let a : Attached = record { id = c.args.id; constraint = c.args.c.now.whole } in
     let s : c.args.room - c.degree.result ≡ c.args.room - c.args.c.now.whole.degree = ap (λ (n : ℕ). c.args.room - n) c.degree.ensures.value in
-    Progress-stop a c.by_falling-t-items.result.now c.args.trail.now.entries c.loop-t.trail.entries c.loop-t.t-index c.args.room (c.args.room - c.degree.result) c.t-item.result c.loop-t.invariant.progress ranking c.loop-t-test.true c.t-item.is c.requires.no_conflict s c.if-t-slack.true
+    Progress-stop a c.by_falling-t-items.result.now c.args.trail.now.entries c.loop-t.trail.entries c.loop-t.t-index c.args.room (c.args.room - c.degree.result) c.t-item.result
+    c.loop-t.invariant.progress ranking c.loop-t-test.true c.t-item.is c.requires.no_conflict s c.if-t-slack.true
 
 pub returns-clause-quiet : goal.returns-clause-quiet
 returns-clause-quiet c =
@@ -52,4 +54,5 @@ returns-clause-quiet c =
     let T : List Term → Type 0 = λ us. IsRanking c.args.c.now.whole.terms us in
     let ranking = subst T (sym c.by_falling-t-items.ensures.order) c.by_falling-t-items.ensures.ranked.ranking in
     let a : Attached = record { id = c.args.id; constraint = c.args.c.now.whole } in
-    Progress-all a c.by_falling-t-items.result.now c.args.trail.now.entries c.loop-t.trail.entries c.loop-t.t-index c.args.room c.loop-t.invariant.progress ranking c.loop-t-test.false c.requires.no_conflict
+    Progress-all a c.by_falling-t-items.result.now c.args.trail.now.entries c.loop-t.trail.entries c.loop-t.t-index c.args.room c.loop-t.invariant.progress ranking c.loop-t-test.false
+    c.requires.no_conflict

@@ -26,7 +26,16 @@ loop-c-preserved c =
     let id = get_or ids k none in
     let own : id ≡ get_or ids k id = get_or_default ids k none id h in
     let put = changes_put (wholes m.slots.items) (wholes n.slots.items) id empty e.slots in
-    let with_slots : Counters → Counters = λ v. record { variables = v.variables; slots = n.slots; rooms = n.rooms; limits = v.limits; occurrences = v.occurrences; lits = v.lits; used = v.used; waiting = v.waiting } in
+    let with_slots : Counters → Counters = λ v. record {
+      variables = v.variables;
+      slots = n.slots;
+      rooms = n.rooms;
+      limits = v.limits;
+      occurrences = v.occurrences;
+      lits = v.lits;
+      used = v.used;
+      waiting = v.waiting;
+    } in
     record {
       attached = drops_more ids k id (attached_in s) (attached_in m) (attached_in n) h own p.attached put;
       cleared = cleared_more s.slots.items m.slots.items n.slots.items s.rooms.items m.rooms.items n.rooms.items p.cleared e.cleared;

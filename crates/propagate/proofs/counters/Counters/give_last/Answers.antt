@@ -32,13 +32,16 @@ returns-clause-given c top le there p =
     let ls = take (s.used - 1) s.lits.items in
     let is : counted_of s ≡ ls ++ l ∷ [] = last_counted s.lits.items s.used l c.requires.some c.requires.built.used c.index.ensures in
     let S : List Literal → Type 0 = λ us. IsGivenBack s.variables (parts_of s) s.rooms.items s.waiting us (taken_off top s) in
-    let os : c.of.result.now ≡ occurrences_of s.occurrences (literal_number (opposite_of l)) = c.of.ensures ∙ ap (λ (m : Literal). occurrences_of s.occurrences (literal_number m)) c.opposite.ensures in
-    let g = gave_by c.of.result.now (occurrences_of s.occurrences (literal_number (opposite_of l))) c.deref_mut.result.now s.rooms.items c.give_rooms.new.rooms os c.deref_mut.ensures.value c.give_rooms.ensures in
+    let os : c.of.result.now ≡ occurrences_of s.occurrences (literal_number (opposite_of l)) = c.of.ensures
+    ∙ ap (λ (m : Literal). occurrences_of s.occurrences (literal_number m)) c.opposite.ensures in
+    let g = gave_by c.of.result.now (occurrences_of s.occurrences (literal_number (opposite_of l))) c.deref_mut.result.now s.rooms.items c.give_rooms.new.rooms os c.deref_mut.ensures.value
+    c.give_rooms.ensures in
     let same = g.same_length in
     let rooms : (with_items s.rooms c.give_rooms.new.rooms).items ≡ c.give_rooms.new.rooms = with_items_is s.rooms c.give_rooms.new.rooms (omega (arith, s.rooms.ok.0)) in
     let some = c.requires.some in
     let up : s.used - 1 + 1 ≡ s.used = omega arith in
-    let off : drop (s.used - 1) (take top s.lits.items) ≡ l ∷ taken_off top s = off_at s.lits.items top (s.used - 1) l (omega arith) there c.index.ensures ∙ ap (λ (m : ℕ). l ∷ drop m (take top s.lits.items)) up in
+    let off : drop (s.used - 1) (take top s.lits.items) ≡ l ∷ taken_off top s = off_at s.lits.items top (s.used - 1) l (omega arith) there c.index.ensures
+    ∙ ap (λ (m : ℕ). l ∷ drop m (take top s.lits.items)) up in
     let q = given_more s.variables (parts_of s) s.limits.items s.rooms.items c.give_rooms.new.rooms s.occurrences s.waiting ls (taken_off top s) l c.requires.built.built (subst S is p) g in
     let P : List ℕ → Type 0 = λ rs. IsGivenBack s.variables (parts_of s) rs s.waiting ls (l ∷ taken_off top s) in
     let O : List Literal → Type 0 = λ us. IsGivenBack s.variables (parts_of s) (with_items s.rooms c.give_rooms.new.rooms).items s.waiting ls us in

@@ -10,5 +10,6 @@ abbrev pub invariant-loop-slot : goal.invariant-loop-slot
 invariant-loop-slot l = record {
   variables : l.trail.variables ≡ l.fn.trail.variables;
   appends : Appends (attached_in l.self) l.fn.trail.entries l.trail.entries;
-  closed : length l.trail.entries ≤ length l.fn.trail.entries → (l.trail.entries ≡ l.fn.trail.entries) × ((i : ℕ) → i < l.slot → IsClosed (value_in l.fn.trail.entries) (linear_at (wholes l.self.slots.items) i));
+  closed : length l.trail.entries ≤ length l.fn.trail.entries → (l.trail.entries ≡ l.fn.trail.entries) ×
+      ((i : ℕ) → i < l.slot → IsClosed (value_in l.fn.trail.entries) (linear_at (wholes l.self.slots.items) i));
 }

@@ -9,19 +9,19 @@ use Rattle.propagate.specs.Ranked.{part_of, wholes}
 use Rattle.propagate.specs.Counters.{value_given, counted_of}
 use Rattle.propagate.proofs.Weights.{value_given_entries}
 use Rattle.propagate.proofs.Tying.{lits_of, weight_same}
-use Rattle.propagate.proofs.Watching.{parts-length, wholes-set, kept-set}
-use Rattle.propagate.proofs.Keeping.{built-in, step-in, weights-at, part-below, part-numbers}
+use Rattle.propagate.proofs.Watching.{length-parts, wholes-set, kept_set}
+use Rattle.propagate.proofs.Keeping.{built_in, step_in, weights_at, part_below, part_numbers}
 use Rattle.propagate.proofs.counters.Counters.put.Goals as goal
 
 pub add_watched-added-requires-clause-in_range : goal.add_watched-added-requires-clause-in_range
 add_watched-added-requires-clause-in_range c = λ k.
     let s = c.args.self.now in
-    part-numbers s.variables (length s.occurrences) c.args.c k c.requires.in_range c.requires.built.built.wide
+    part_numbers s.variables (length s.occurrences) c.args.c k c.requires.in_range c.requires.built.built.wide
 
 pub add_watched-added-requires-clause-none : goal.add_watched-added-requires-clause-none
 add_watched-added-requires-clause-none c = λ j.
     let s = c.args.self.now in
-    weights-at s.variables c.args.slot s.slots.items s.limits.items s.occurrences None c.requires.built.built c.requires.free j
+    weights_at s.variables c.args.slot s.slots.items s.limits.items s.occurrences None c.requires.built.built c.requires.free j
 
 pub returns-clause-built : goal.returns-clause-built
 returns-clause-built c =
@@ -40,15 +40,16 @@ returns-clause-built c =
     let has_rooms = b.room.has_rooms in
     let has_limits = b.room.has_limits in
     let can_wait = b.room.can_wait in
-    let p0 = parts-length slots in
-    let p1 = parts-length (set slots i (Some k)) in
+    let p0 = length-parts slots in
+    let p1 = length-parts (set slots i (Some k)) in
     let l1 = length-set slots i (Some k) in
     let l2 = length-set s.rooms.items i c.room_of.result in
     let l3 = length-set s.limits.items i c.limit_of.result in
     record {
-      built = built-in s.variables i c.limit_of.result k slots s.limits.items s.occurrences c.add_watched-added.new.lists b.built here (omega arith) (part-below s.variables k ranked range) small c.limit_of.ensures e.added;
+      built = built_in s.variables i c.limit_of.result k slots s.limits.items s.occurrences c.add_watched-added.new.lists b.built here (omega arith) (part_below s.variables k ranked range) small
+          c.limit_of.ensures e.added;
       room = record { has_rooms = omega (arith, p0, p1, l1, l2); has_limits = omega (arith, p0, p1, l1, l3); can_wait = omega (arith, p0, p1, l1) };
-      kept = kept-set s.variables slots i (Some k) here b.kept (record { ranked = ranked; in_range = range });
+      kept = kept_set s.variables slots i (Some k) here b.kept (record { ranked = ranked; in_range = range });
       lits = b.lits;
       used = b.used;
     }
@@ -64,10 +65,11 @@ returns-clause-step c q h =
     let ls = counted_of s in
     let here = c.requires.here in
     let has_rooms = c.requires.built.room.has_rooms in
-    let p0 = parts-length slots in
-    let values : open_weight (value_given ls) ts ≡ open_weight (value_in es) ts = ap (λ (us : List Literal). open_weight (value_given us) ts) c.requires.counted ∙ weight_same (value_given (lits_of es)) (value_in es) ts (value_given_entries es) in
+    let p0 = length-parts slots in
+    let values : open_weight (value_given ls) ts ≡ open_weight (value_in es) ts = ap (λ (us : List Literal). open_weight (value_given us) ts) c.requires.counted
+    ∙ weight_same (value_given (lits_of es)) (value_in es) ts (value_given_entries es) in
     let room : c.room_of.result ≡ open_weight (value_given ls) ts = c.room_of.ensures.value ∙ ap (λ (us : List Term). open_weight (value_in es) us) c.watched.ensures.terms ∙ sym values in
-    step-in s.variables i c.room_of.result k slots s.rooms.items s.waiting ls q h here (omega arith) room
+    step_in s.variables i c.room_of.result k slots s.rooms.items s.waiting ls q h here (omega arith) room
 
 pub returns-clause-wholes : goal.returns-clause-wholes
 returns-clause-wholes c =

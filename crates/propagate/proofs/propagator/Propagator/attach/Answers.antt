@@ -22,8 +22,10 @@ returns-clause-ok c =
     let old = wholes c.self.inside.counters.slots.items in
     let new = wholes c.attach.new.self.slots.items in
     let k = constraint_of c.args.store.now c.args.c in
-    let is : c.in_ok-ranked.ranked.whole ≡ k = c.in_ok-ranked.ensures ∙ same_parts k c.in_ok-terms.terms.items c.degree.result c.of_normal.result c.of_normal.ensures.value (c.in_ok-terms.ensures.items ∙ c.terms.ensures.value) c.degree.ensures.value in
+    let is : c.in_ok-ranked.ranked.whole ≡ k = c.in_ok-ranked.ensures ∙ same_parts k c.in_ok-terms.terms.items c.degree.result c.of_normal.result c.of_normal.ensures.value
+    (c.in_ok-terms.ensures.items ∙ c.terms.ensures.value) c.degree.ensures.value in
     let held : attached_from 0 old ≡ c.args.self.now.attached = ap (λ (v : PropagatorView). v.attached) c.self.view_is in
     let P : List Attached → Type 0 = λ us. ChangesOnly us (attached_from 0 new) c.args.c (Some k) in
     let Q : Linear → Type 0 = λ l. IsPut c.args.c.0 (Some l) old new in
-    on_ok_map c.attach.result (IsPut c.args.c.0 (Some c.in_ok-ranked.ranked.whole) old new) (P c.args.self.now.attached) (λ p. subst P held (changes_put old new c.args.c (Some k) (subst Q is p))) c.attach.ensures.ok
+    on_ok_map c.attach.result (IsPut c.args.c.0 (Some c.in_ok-ranked.ranked.whole) old new) (P c.args.self.now.attached) (λ p. subst P held (changes_put old new c.args.c (Some k) (subst Q is p)))
+    c.attach.ensures.ok

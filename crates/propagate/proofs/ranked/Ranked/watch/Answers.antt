@@ -9,7 +9,7 @@ use Rattle.pb_rules.specs.Partial.{open_weight}
 use Rattle.trail_state.specs.Trail.{value_in}
 use Rattle.propagate.specs.Ranked.{RankedView, IsRanking, IsRanked, HasCoefficients, order_in}
 use Rattle.propagate.specs.Counters.{IsQuiet}
-use Rattle.propagate.proofs.Choosing.{ranked-clause, quiet-two}
+use Rattle.propagate.proofs.Choosing.{ranked_clause, quiet_two}
 use Rattle.propagate.proofs.ranked.Ranked.watch.Goals as goal
 
 pub invariant_of-self : goal.invariant_of-self
@@ -31,7 +31,7 @@ invariant_of-self c =
     let len' = ap (λ (us : List Term). length us) read' in
     let is : (with_items v0 ts).items ≡ ts = with_items_is v0 ts (omega (arith, v0.ok.0, len)) in
     let P : List Term → Type 0 = λ us. IsRanked (record { whole = v.constraint; order = us; watched = 2 }) in
-    subst P (sym is) (ranked-clause v.constraint v0.items ts n 2 ranking coefs moved (omega (arith, len', c.if-length-ge-WATCHED_LENGTH.true)))
+    subst P (sym is) (ranked_clause v.constraint v0.items ts n 2 ranking coefs moved (omega (arith, len', c.if-length-ge-WATCHED_LENGTH.true)))
 
 pub returns-in-Some-clause-quiet : goal.returns-in-Some-clause-quiet
 returns-in-Some-clause-quiet c = λ found.
@@ -49,7 +49,7 @@ returns-in-Some-clause-quiet c = λ found.
     let len = length_permutation v0.items ts moved in
     let is : (with_items v0 ts).items ≡ ts = with_items_is v0 ts (omega (arith, v0.ok.0, len)) in
     let degree : n ≡ v.constraint.degree = c.degree-degree.ensures.value ∙ sym (ap (λ (r : RankedView). r.whole.degree) c.self.view_is) in
-    let quiet = quiet-two q n ts (All-permutation (λ (t : Term). t.coef ≡ n) v0.items ts moved coefs) (c.open_first-found.ensures.found found) in
+    let quiet = quiet_two q n ts (All-permutation (λ (t : Term). t.coef ≡ n) v0.items ts moved coefs) (c.open_first-found.ensures.found found) in
     let P : ℕ → Type 0 = λ m. IsQuiet (open_weight q (take 2 ts)) q (record { terms = take 2 ts; degree = m }) in
     let Q : List Term → Type 0 = λ us. IsQuiet (open_weight q (take 2 us)) q (record { terms = take 2 us; degree = v.constraint.degree }) in
     subst Q (sym is) (subst P degree quiet)
