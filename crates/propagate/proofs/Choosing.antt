@@ -1,8 +1,8 @@
 -- Terms that aren't false are put before the others.
-use Rattle.std.proofs.Common.{◌≡◌, ◌≢◌, ℕ, ◌+◌, ◌<◌, ◌≤◌, Bool, true, false, cond, Option, List, [], ◌∷◌, length, get_or, take, drop, refl, sym, ap, ◌∙◌, subst, arith, inl, inr, zero, suc, All}
+use Rattle.std.proofs.Common.{◌≡◌, ◌≢◌, ℕ, ◌+◌, ◌<◌, ◌≤◌, Bool, true, false, cond, Option, List, [], ◌∷◌, length, get_or, take, drop, refl, ap, ◌∙◌, arith, inl, inr, suc, All}
 use Rattle.std.specs.List.{SwappedAt}
 use Rattle.std.specs.List.Sorted.{IsPermutation}
-use Rattle.std.proofs.lemmas.Bool.{cases_eq, cases_lt}
+use Rattle.std.proofs.lemmas.Bool.{cases_eq}
 use Rattle.std.proofs.lemmas.List.{get_or-take, get_or-drop, length-drop, length-take-le}
 use Rattle.std.proofs.lemmas.List.Sorted.{IsPermutation-refl, IsPermutation-trans, All-permutation, length_permutation}
 use Rattle.std.proofs.lemmas.List.Elements.{All-take}
@@ -10,7 +10,7 @@ use Rattle.pb_rules.specs.declared.Term.{Term}
 use Rattle.pb_rules.specs.Linear.{Linear}
 use Rattle.pb_rules.specs.Partial.{open_weight, is_false}
 use Rattle.pb_rules.proofs.Assignments.{open-cons}
-use Rattle.propagate.specs.Ranked.{IsFalling, IsRanking, RankedView, IsRanked, HasCoefficients, HasOpenFirst, part_of}
+use Rattle.propagate.specs.Ranked.{IsFalling, IsRanking, IsRanked, HasCoefficients, HasOpenFirst}
 use Rattle.propagate.specs.Counters.{IsQuiet}
 
 -- so many that aren't false stand first, and the others before a place are false

@@ -1,8 +1,7 @@
 -- What putting a constraint in and taking it out leaves, of which some terms are watched.
-use Rattle.std.proofs.Common.{◌≡◌, ◌≢◌, ℕ, ◌+◌, ◌*◌, ◌<◌, ◌≤◌, ◌^◌, Bool, true, false, Option, Some, None, List, [], ◌∷◌, length, get_or, set, refl, sym, ap, ◌∙◌, subst, arith, inl, inr, All, get_or-set_same, get_or-set_other}
+use Rattle.std.proofs.Common.{◌≡◌, ◌≢◌, ℕ, ◌*◌, ◌<◌, ◌≤◌, ◌^◌, Bool, false, Option, Some, None, List, [], length, get_or, set, refl, sym, ap, ◌∙◌, subst, arith, All, get_or-set_same, get_or-set_other}
 use Rattle.std.specs.Prelude.{unwrap_or}
-use Rattle.std.proofs.lemmas.Bool.{cases_eq}
-use Rattle.std.proofs.lemmas.List.{length-set, set-set, set-get_or, length-map, get_or_default}
+use Rattle.std.proofs.lemmas.List.{length-set, set-set, set-get_or, length-map}
 use Rattle.std.proofs.lemmas.List.Elements.{All-take}
 use Rattle.std.proofs.lemmas.List.Sorted.{All-permutation}
 use Rattle.pb_rules.specs.Literal.{Literal}
@@ -10,9 +9,9 @@ use Rattle.pb_rules.specs.declared.Term.{Term}
 use Rattle.pb_rules.specs.Linear.{Linear, VarsBelow, total}
 use Rattle.pb_rules.specs.Partial.{open_weight}
 use Rattle.propagate.specs.declared.occurrences.Occurrence.{Occurrence}
-use Rattle.propagate.specs.Ranked.{RankedView, IsRanked, part_of, part_in, whole_in, parts, wholes, IsKept, IsKeptIn, AreKept}
+use Rattle.propagate.specs.Ranked.{RankedView, IsRanked, part_of, part_in, whole_in, parts, wholes, AreKept}
 use Rattle.propagate.specs.Flags.{is_waiting, Awaits}
-use Rattle.propagate.specs.Counters.{value_given, nothing, linear_at, literal_number, weight_of, weight_at, occurrences_of, SlotsBelow, IsLimited, IsQuiet, IsBuilt, IsInStep, IsInStepBut, Added, Removed, Renamed, IsPut, IsMovedSlot}
+use Rattle.propagate.specs.Counters.{value_given, nothing, linear_at, literal_number, weight_of, weight_at, occurrences_of, IsLimited, IsQuiet, IsBuilt, IsInStep, IsInStepBut, Added, Removed, Renamed, IsPut, IsMovedSlot}
 use Rattle.propagate.proofs.Attaching.{empty}
 use Rattle.propagate.proofs.Weights.{number_below}
 use Rattle.propagate.proofs.Placing.{at_each, built_set, limited_nothing, slot_same, slot_other}

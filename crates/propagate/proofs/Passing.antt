@@ -1,6 +1,5 @@
 -- Looks at all terms, and what is known of a slot once it was looked at.
-use Rattle.std.proofs.Common.{◌≡◌, ◌∙◌, ℕ, ◌+◌, ◌<◌, ◌≤◌, Bool, Option, Some, None, List, length, get_or, take, refl, sym, ap, subst, arith, inl, inr}
-use Rattle.std.specs.Prelude.{unwrap_or}
+use Rattle.std.proofs.Common.{◌≡◌, ◌∙◌, ℕ, ◌+◌, ◌<◌, ◌≤◌, Bool, Option, Some, List, length, get_or, sym, ap, subst, arith, inl, inr}
 use Rattle.std.proofs.lemmas.Bool.{cases_eq, cases_lt}
 use Rattle.std.proofs.lemmas.List.{take_all, get_or_past, get_or_default}
 use Rattle.pb_rules.specs.Literal.{Literal}
@@ -10,7 +9,7 @@ use Rattle.trail_state.specs.Trail.{Entry, value_in}
 use Rattle.propagate.specs.Attached.{Attached}
 use Rattle.propagate.specs.Ranked.{RankedView, IsRanked, part_of, rest_of, rest_in, wholes, parts}
 use Rattle.propagate.specs.Forced.{Appends, AllClosed}
-use Rattle.propagate.specs.Counters.{value_given, nothing, linear_at, attached_from, IsQuiet, IsInStepBut}
+use Rattle.propagate.specs.Counters.{value_given, linear_at, attached_from, IsQuiet, IsInStepBut}
 use Rattle.propagate.proofs.Weights.{value_given_entries}
 use Rattle.propagate.proofs.Tying.{lits_of, weight_same, room_is}
 use Rattle.propagate.proofs.Watching.{unfilled, part_is, linear_part_is, linear_whole_is, linear_whole_none, open_split, quiet_part, closed_nothing, attached_closed}

@@ -1,20 +1,19 @@
 -- The watched part of what stands in the slots, and the whole.
-use Rattle.std.proofs.Common.{◌≡◌, ◌≢◌, ℕ, ◌+◌, ◌-◌, ◌*◌, ◌<◌, ◌≤◌, ◌^◌, ◌⊎◌, Bool, true, false, cond, Option, Some, None, List, [], ◌∷◌, ◌++◌, length, get_or, set, take, drop, map, refl, sym, ap, ◌∙◌, subst, arith, inl, inr, zero, suc, is_some, All, get_or-set_same, get_or-set_other}
+use Rattle.std.proofs.Common.{◌≡◌, ℕ, ◌+◌, ◌-◌, ◌<◌, ◌≤◌, Bool, false, cond, Option, Some, None, List, [], ◌∷◌, ◌++◌, length, get_or, set, take, refl, sym, ap, ◌∙◌, subst, arith, inl, inr, zero, suc, is_some, All, get_or-set_same, get_or-set_other}
 use Rattle.std.specs.Prelude.{unwrap_or}
 use Rattle.std.proofs.Math.ListN.{get_or-map}
 use Rattle.std.proofs.lemmas.Bool.{cases_eq, cases_lt}
-use Rattle.std.proofs.lemmas.List.{length-map, map-set, set-set, set-get_or, get_or-take, get_or-drop, length-drop, get_or_default, length-take-le, length-set, get_or_past}
+use Rattle.std.proofs.lemmas.List.{length-map, map-set, get_or-take, get_or-drop, length-drop, get_or_default, length-take-le}
 use Rattle.std.proofs.lemmas.List.Elements.{All-take}
-use Rattle.std.proofs.lemmas.List.Sums.{sum_by-cons, sum_by-take-drop, sum_by-take-le}
-use Rattle.std.proofs.lemmas.List.Sorted.{IsPermutation-sym, IsPermutation-trans, All-permutation, sum_by-IsPermutation, length_permutation}
-use Rattle.std.specs.List.Sorted.{IsPermutation}
+use Rattle.std.proofs.lemmas.List.Sums.{sum_by-take-drop, sum_by-take-le}
+use Rattle.std.proofs.lemmas.List.Sorted.{IsPermutation-sym, All-permutation, sum_by-IsPermutation}
 use Rattle.pb_rules.specs.declared.Term.{Term}
 use Rattle.pb_rules.specs.Literal.{Literal}
-use Rattle.pb_rules.specs.Linear.{Linear, VarsBelow, total}
+use Rattle.pb_rules.specs.Linear.{Linear, total}
 use Rattle.pb_rules.specs.Partial.{open_weight, is_false, falsifies, IsClosed}
 use Rattle.pb_rules.proofs.Assignments.{open-cons}
 use Rattle.trail_state.specs.Trail.{Entry, value_in}
-use Rattle.propagate.specs.Ranked.{IsFalling, IsRanking, RankedView, IsRanked, HasCoefficients, HasOpenFirst, part_of, rest_of, rest_in, whole_in, part_in, wholes, parts, IsKept, IsKeptIn, AreKept}
+use Rattle.propagate.specs.Ranked.{RankedView, IsRanked, part_of, rest_of, whole_in, part_in, wholes, parts, IsKept, IsKeptIn, AreKept}
 use Rattle.propagate.specs.Forced.{AllClosed}
 use Rattle.propagate.specs.Flags.{is_waiting, Awaits, Takes}
 use Rattle.propagate.specs.Counters.{value_given, nothing, linear_at, attached_from, IsQuiet, IsInStep, IsInStepBut, AreCleared}

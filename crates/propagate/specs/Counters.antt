@@ -6,7 +6,7 @@ use Rattle.pb_rules.specs.Literal.{Literal}
 use Rattle.pb_rules.specs.Linear.{Linear, VarsBelow, total}
 use Rattle.pb_rules.specs.Partial.{open_weight}
 use Rattle.propagate.specs.Attached.{Attached}
-use Rattle.propagate.specs.Ranked.{RankedView, parts, wholes, AreKept}
+use Rattle.propagate.specs.Ranked.{parts, wholes, AreKept}
 use Rattle.propagate.specs.declared.occurrences.Occurrence.{Occurrence}
 use Rattle.propagate.specs.declared.counters.Counters.{Counters}
 use Rattle.propagate.specs.Flags.{is_waiting}

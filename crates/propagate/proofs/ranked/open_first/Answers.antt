@@ -1,9 +1,9 @@
-use Rattle.std.proofs.Common.{◌≡◌, ◌∙◌, ℕ, ◌+◌, ◌≤◌, ◌<◌, true, false, get_or, length, sym, ap, subst, arith}
+use Rattle.std.proofs.Common.{◌≡◌, ◌∙◌, ℕ, ◌+◌, ◌<◌, false, get_or, length, sym, ap, subst, arith}
 use Rattle.std.proofs.lemmas.List.{get_or_default}
 use Rattle.pb_rules.specs.declared.Term.{Term}
 use Rattle.pb_rules.specs.Partial.{is_false}
 use Rattle.trail_state.specs.Trail.{value_in}
-use Rattle.propagate.proofs.Choosing.{Chosen, Chosen-none, Chosen-false, Chosen-open, Chosen-two, Chosen-few}
+use Rattle.propagate.proofs.Choosing.{Chosen, Chosen-false, Chosen-open, Chosen-two, Chosen-few}
 use Rattle.propagate.proofs.ranked.open_first.Goals.{then-not-is_false+else-found-eq2, else-not-is_false}
 use Rattle.propagate.proofs.ranked.open_first.Goals as goal
 

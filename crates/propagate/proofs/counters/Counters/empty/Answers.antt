@@ -1,4 +1,4 @@
-use Rattle.std.proofs.Common.{◌≡◌, ◌∙◌, ◌<◌, None, Option, List, length, take, sym, ap, subst, arith}
+use Rattle.std.proofs.Common.{◌≡◌, ◌∙◌, None, Option, List, take, sym, ap, subst, arith}
 use Rattle.pb_rules.specs.Literal.{Literal}
 use Rattle.propagate.specs.Ranked.{RankedView, wholes}
 use Rattle.propagate.specs.Counters.{value_given, counted_of, parts_of, IsInStep, IsPut}

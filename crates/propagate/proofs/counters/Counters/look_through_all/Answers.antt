@@ -1,4 +1,4 @@
-use Rattle.std.proofs.Common.{◌≡◌, ◌∙◌, refl, sym, arith}
+use Rattle.std.proofs.Common.{◌∙◌, refl, arith}
 use Rattle.propagate.specs.Ranked.{wholes}
 use Rattle.propagate.specs.Counters.{attached_in}
 use Rattle.propagate.proofs.Appending.{Appends-none, Appends-trans}

@@ -1,6 +1,6 @@
-use Rattle.std.proofs.Common.{◌≡◌, ◌∙◌, ◌≤◌, length, arith, inl, inr}
+use Rattle.std.proofs.Common.{arith, inl, inr}
 use Rattle.propagate.specs.Ranked.{parts}
-use Rattle.propagate.specs.Counters.{value_given, counted_of, parts_of, HasRoom}
+use Rattle.propagate.specs.Counters.{value_given, counted_of, parts_of}
 use Rattle.propagate.proofs.Placing.{built_grown, step_grown}
 use Rattle.propagate.proofs.Watching.{length-parts, kept_same}
 use Rattle.propagate.proofs.Keeping.{parts_same}

@@ -1,11 +1,11 @@
-use Rattle.std.proofs.Common.{◌≡◌, ◌∙◌, ◌<◌, Some, length, get_or, sym, arith}
+use Rattle.std.proofs.Common.{◌≡◌, ◌∙◌, ◌<◌, Some, length, get_or, arith}
 use Rattle.propagate.specs.Counters.{counted_of}
 use Rattle.propagate.specs.Ranked.{wholes}
 use Rattle.trail_state.specs.Trail.{value_in}
 use Rattle.propagate.proofs.Attaching.{attached_at_slot}
 use Rattle.propagate.proofs.Tying.{appends_slot}
 use Rattle.propagate.proofs.Watching.{unfilled, ranked_is, whole_is, kept_at, length-parts}
-use Rattle.propagate.proofs.Passing.{room_whole, quiet_pushed, closed_through}
+use Rattle.propagate.proofs.Passing.{room_whole, quiet_pushed}
 use Rattle.propagate.proofs.counters.Counters.push_at.Goals as goal
 
 pub returns-then-room-degree-clause-conflict : goal.returns-then-room-degree-clause-conflict

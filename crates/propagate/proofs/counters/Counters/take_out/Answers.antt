@@ -1,4 +1,4 @@
-use Rattle.std.proofs.Common.{◌≡◌, ◌∙◌, ◌<◌, Option, get_or, set, length, sym, subst, arith}
+use Rattle.std.proofs.Common.{◌≡◌, ◌∙◌, Option, get_or, set, sym, subst, arith}
 use Rattle.std.proofs.lemmas.List.{length-set, get_or_default}
 use Rattle.propagate.specs.Ranked.{RankedView, parts, AreKept}
 use Rattle.propagate.specs.Counters.{counted_of, IsBuilt, IsInStep}

@@ -1,7 +1,6 @@
-use Rattle.std.proofs.Common.{◌≡◌, ◌∙◌, true, Bool, Option, Some, List, get_or, set, take, sym, ap}
-use Rattle.pb_rules.specs.Literal.{Literal}
+use Rattle.std.proofs.Common.{◌≡◌, ◌∙◌, true, Bool, Some, get_or, set, take, sym, ap}
 use Rattle.trail_state.specs.Trail.{value_in}
-use Rattle.propagate.specs.Ranked.{RankedView, wholes}
+use Rattle.propagate.specs.Ranked.{wholes}
 use Rattle.propagate.specs.Counters.{counted_of, parts_of}
 use Rattle.propagate.proofs.Tying.{lits_of}
 use Rattle.propagate.proofs.Watching.{unfilled, step_but}

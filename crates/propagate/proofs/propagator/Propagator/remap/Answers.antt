@@ -1,4 +1,4 @@
-use Rattle.std.proofs.Common.{◌≡◌, ℕ, List, length, sym, ap, subst}
+use Rattle.std.proofs.Common.{◌≡◌, ℕ, List, sym, ap, subst}
 use Rattle.std.proofs.lemmas.List.{length-map}
 use Rattle.constraint_store.specs.Live.{new_id}
 use Rattle.propagate.specs.Attached.{Attached, IsMoved}

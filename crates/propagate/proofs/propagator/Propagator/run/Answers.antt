@@ -1,4 +1,4 @@
-use Rattle.std.proofs.Common.{◌≡◌, ◌∙◌, ℕ, List, Option, take, ap, subst}
+use Rattle.std.proofs.Common.{◌≡◌, ℕ, List, Option, take, ap, subst}
 use Rattle.std.specs.Prelude.{IfNone}
 use Rattle.trail_state.specs.Trail.{value_in}
 use Rattle.propagate.specs.Attached.{Attached}

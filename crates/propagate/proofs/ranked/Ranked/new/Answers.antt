@@ -1,4 +1,4 @@
-use Rattle.std.proofs.Common.{◌≡◌, ℕ, List, length, sym, ap, subst}
+use Rattle.std.proofs.Common.{ℕ, List, length, sym, ap, subst}
 use Rattle.std.specs.Prelude.{vec_items}
 use Rattle.pb_rules.specs.declared.Term.{Term}
 use Rattle.propagate.specs.Ranked.{IsRanked, order_in}

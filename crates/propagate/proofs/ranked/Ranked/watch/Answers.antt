@@ -1,4 +1,4 @@
-use Rattle.std.proofs.Common.{◌≡◌, ◌∙◌, ℕ, ◌≤◌, List, length, take, sym, ap, subst, arith}
+use Rattle.std.proofs.Common.{◌≡◌, ◌∙◌, ℕ, List, length, take, sym, ap, subst, arith}
 use Rattle.std.specs.Prelude.{vec_items}
 use Rattle.std.specs.Vec.{with_items}
 use Rattle.std.specs.List.Sorted.{IsPermutation}
