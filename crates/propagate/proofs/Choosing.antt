@@ -4,7 +4,7 @@ use Rattle.std.specs.List.{SwappedAt}
 use Rattle.std.specs.List.Sorted.{IsPermutation}
 use Rattle.std.proofs.lemmas.Bool.{cases_eq}
 use Rattle.std.proofs.lemmas.List.{get_or-take, get_or-drop, length-drop, length-take-le}
-use Rattle.std.proofs.lemmas.List.Sorted.{IsPermutation-refl, IsPermutation-trans, All-permutation, length_permutation}
+use Rattle.std.proofs.lemmas.List.Sorted.{IsPermutation-trans, All-permutation, length_permutation}
 use Rattle.std.proofs.lemmas.List.Elements.{All-take}
 use Rattle.pb_rules.specs.declared.Term.{Term}
 use Rattle.pb_rules.specs.Linear.{Linear}
@@ -19,9 +19,6 @@ pub record Chosen (q : ℕ → Option Bool) (start now : List Term) (found place
   pub before : found ≤ place
   pub first : (k : ℕ) (d : Term) → k < found → is_false q (get_or now k d).lit ≡ false
   pub later : (k : ℕ) (d : Term) → found ≤ k → k < place → is_false q (get_or now k d).lit ≡ true
-
-pub Chosen-none : (q : ℕ → Option Bool) (ts : List Term) → Chosen q ts ts 0 0
-Chosen-none q ts = record { moved = IsPermutation-refl ts; before = omega arith; first = λ k d h. absurd (omega arith); later = λ k d g h. absurd (omega arith) }
 
 -- one more that is false
 pub Chosen-false : (q : ℕ → Option Bool) (start now : List Term) (found place : ℕ) → Chosen q start now found place → ((d : Term) → is_false q (get_or now place d).lit ≡ true)

@@ -12,7 +12,7 @@ use Rattle.propagate.specs.Forced.{Appends, AllClosed}
 use Rattle.propagate.specs.Counters.{value_given, linear_at, attached_from, IsQuiet, IsInStepBut}
 use Rattle.propagate.proofs.Weights.{value_given_entries}
 use Rattle.propagate.proofs.Tying.{lits_of, weight_same, room_is}
-use Rattle.propagate.proofs.Watching.{unfilled, part_is, linear_part_is, linear_whole_is, linear_whole_none, open_split, quiet_part, closed_nothing, attached_closed}
+use Rattle.propagate.proofs.Watching.{unfilled, part_is, linear_part_is, linear_whole_none, open_split, quiet_part, closed_nothing, attached_closed}
 
 -- the room that is read, where no term is open but those watched
 pub room_whole : (slots : List (Option RankedView)) (rooms : List ℕ) (ls : List Literal) (es : List Entry) (i room : ℕ) (r : RankedView) → IsRanked r → ls ≡ lits_of es
@@ -49,19 +49,6 @@ quiet_watched slot n slots rooms w ls es r h counted here quiet =
 -- a trail that got no longer is the same
 pub no_longer : (held : List Attached) (old new : List Entry) → Appends held old new → length new ≤ length old → new ≡ old
 no_longer held old new a h = sym (take_all (length old) new h) ∙ a.kept
-
--- a look through that pushed nothing found the constraint closed
-pub closed_through : (held : List Attached) (slots : List (Option RankedView)) (old new : List Entry) (i room : ℕ) (r : RankedView) → get_or slots i unfilled ≡ Some r → Appends held old new
-    → room ≡ open_weight (value_in old) r.whole.terms → IsQuiet room (value_in new) r.whole → length new ≤ length old → IsClosed (value_in old) (linear_at (wholes slots) i)
-closed_through held slots old new i room r here a is quiet h =
-    let P : Linear → Type 0 = λ c. IsClosed (value_in old) c in
-    let Q : List Entry → Type 0 = λ es. IsQuiet room (value_in es) r.whole in
-    let q = subst Q (no_longer held old new a h) quiet in
-    let nc = q.no_conflict in
-    subst P (sym (linear_whole_is slots i r here)) (record {
-      no_conflict = omega (arith, nc, is);
-      none_forced = λ k d l f. (let b = q.none_forced k d l f in omega (arith, b, is));
-    })
 
 -- one more slot was looked through
 pub pass_more : (held : List Attached) (ws : List (Option Linear)) (start mid new : List Entry) (k : ℕ) → Appends held start mid → Appends held mid new

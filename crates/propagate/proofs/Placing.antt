@@ -13,7 +13,7 @@ use Rattle.pb_rules.specs.Partial.{open_weight}
 use Rattle.propagate.specs.Attached.{Attached}
 use Rattle.propagate.specs.declared.occurrences.Occurrence.{Occurrence}
 use Rattle.propagate.specs.Counters.{literal_number, value_given, nothing, linear_at, attached_from, weight_of, weight_at, occurrences_of, SlotsBelow, IsLimited, IsQuiet, IsBuilt, IsInStep, Added, Removed}
-use Rattle.propagate.specs.Flags.{is_waiting, Awaits}
+use Rattle.propagate.specs.Flags.{is_waiting}
 use Rattle.propagate.proofs.Attaching.{empty}
 
 weight_at-push : (os : List Occurrence) (o : Occurrence) (i : ℕ) → weight_at i (os ++ o ∷ []) ≡ weight_at i os + cond (eqb o.slot i) o.coef 0
@@ -230,20 +230,6 @@ built_set n i limit o slots limits lists lists' b h h' range small limited len i
       limited = at_each slots i o L h
           (let P : ℕ → Type 0 = λ x. IsLimited x (unwrap_or o nothing) in subst P (sym (get_or-set_same limits i limit 0 h')) limited)
           (λ j z. (let P : ℕ → Type 0 = λ x. IsLimited x (linear_at slots j) in subst P (sym (get_or-set_other limits i j limit 0 z)) (b.limited j)));
-    }
-
-pub step_filled : (n i room : ℕ) (c : Linear) (slots : List (Option Linear)) (rooms : List ℕ) (w w' : List Bool) (ls : List Literal) (q : ℕ → Option Bool) → IsInStep n slots rooms w ls q
-    → i < length slots → i < length rooms → room ≡ open_weight (value_given ls) c.terms → Awaits i w w' → IsInStep n (set slots i (Some c)) (set rooms i room) w' ls q
-step_filled n i room c slots rooms w w' ls q s h h' is a =
-    let S : ℕ → Linear → Type 0 = λ j k. get_or (set rooms i room) j 0 ≡ open_weight (value_given ls) k.terms in
-    let Q : ℕ → Linear → Type 0 = λ j k. is_waiting w' j ≡ false → IsQuiet (get_or (set rooms i room) j 0) q k in
-    record {
-      sums = at_each slots i (Some c) S h (get_or-set_same rooms i room 0 h' ∙ is) (λ j z. get_or-set_other rooms i j room 0 z ∙ s.sums j);
-      distinct = s.distinct;
-      below = s.below;
-      quiet =
-          at_each slots i (Some c) Q h (λ z. absurd (a.here z)) (λ j n z. (let P : ℕ → Type 0 = λ x. IsQuiet x q (linear_at slots j) in
-          subst P (sym (get_or-set_other rooms i j room 0 n)) (s.quiet j (a.others j z))));
     }
 
 pub limited_nothing : (limit : ℕ) → IsLimited limit nothing

@@ -1,5 +1,5 @@
 -- The watched part of what stands in the slots, and the whole.
-use Rattle.std.proofs.Common.{◌≡◌, ℕ, ◌+◌, ◌-◌, ◌<◌, ◌≤◌, Bool, false, cond, Option, Some, None, List, [], ◌∷◌, ◌++◌, length, get_or, set, take, refl, sym, ap, ◌∙◌, subst, arith, inl, inr, zero, suc, is_some, All, get_or-set_same, get_or-set_other}
+use Rattle.std.proofs.Common.{◌≡◌, ℕ, ◌+◌, ◌-◌, ◌<◌, ◌≤◌, Bool, false, cond, Option, Some, None, List, [], ◌∷◌, ◌++◌, length, get_or, set, take, refl, sym, ap, ◌∙◌, subst, arith, inl, inr, zero, suc, All, get_or-set_same, get_or-set_other}
 use Rattle.std.specs.Prelude.{unwrap_or}
 use Rattle.std.proofs.Math.ListN.{get_or-map}
 use Rattle.std.proofs.lemmas.Bool.{cases_eq, cases_lt}
@@ -15,7 +15,7 @@ use Rattle.pb_rules.proofs.Assignments.{open-cons}
 use Rattle.trail_state.specs.Trail.{Entry, value_in}
 use Rattle.propagate.specs.Ranked.{RankedView, IsRanked, part_of, rest_of, whole_in, part_in, wholes, parts, IsKept, IsKeptIn, AreKept}
 use Rattle.propagate.specs.Forced.{AllClosed}
-use Rattle.propagate.specs.Flags.{is_waiting, Awaits, Takes}
+use Rattle.propagate.specs.Flags.{is_waiting, Awaits}
 use Rattle.propagate.specs.Counters.{value_given, nothing, linear_at, attached_from, IsQuiet, IsInStep, IsInStepBut, AreCleared}
 use Rattle.propagate.proofs.Attaching.{attached_at_slot, empty}
 use Rattle.propagate.proofs.Weights.{value_given_entries}
@@ -44,21 +44,6 @@ pub wholes-push : (slots : List (Option RankedView)) → wholes (slots ++ unfill
 wholes-push [] = refl
 wholes-push (o ∷ slots) = ap (λ (us : List (Option Linear)). whole_in o ∷ us) (wholes-push slots)
 
--- a slot is filled where its part is
-filled_part_in : (o : Option RankedView) → is_some (part_in o) ≡ is_some o
-filled_part_in None = refl
-filled_part_in (Some r) = refl
-
-filled_whole_in : (o : Option RankedView) → is_some (whole_in o) ≡ is_some o
-filled_whole_in None = refl
-filled_whole_in (Some r) = refl
-
-pub filled_part : (slots : List (Option RankedView)) (i : ℕ) → is_some (get_or (parts slots) i empty) ≡ is_some (get_or slots i unfilled)
-filled_part slots i = ap (λ (o : Option Linear). is_some o) (parts_at slots i) ∙ filled_part_in (get_or slots i unfilled)
-
-pub filled_whole : (slots : List (Option RankedView)) (i : ℕ) → is_some (get_or (wholes slots) i empty) ≡ is_some (get_or slots i unfilled)
-filled_whole slots i = ap (λ (o : Option Linear). is_some o) (wholes_at slots i) ∙ filled_whole_in (get_or slots i unfilled)
-
 -- what is read in a slot
 pub ranked_is : (slots : List (Option RankedView)) (i : ℕ) (o : Option RankedView) (r : RankedView) → i < length slots → o ≡ get_or slots i o → o ≡ Some r → get_or slots i unfilled ≡ Some r
 ranked_is slots i o r h at is = get_or_default slots i unfilled o h ∙ sym at ∙ is
@@ -74,9 +59,6 @@ linear_part_is slots i r h = ap (λ (o : Option Linear). unwrap_or o nothing) (p
 
 pub linear_whole_is : (slots : List (Option RankedView)) (i : ℕ) (r : RankedView) → get_or slots i unfilled ≡ Some r → linear_at (wholes slots) i ≡ r.whole
 linear_whole_is slots i r h = ap (λ (o : Option Linear). unwrap_or o nothing) (whole_is slots i r h)
-
-pub linear_part_none : (slots : List (Option RankedView)) (i : ℕ) → get_or slots i unfilled ≡ None → linear_at (parts slots) i ≡ nothing
-linear_part_none slots i h = ap (λ (o : Option Linear). unwrap_or o nothing) (parts_at slots i ∙ ap part_in h)
 
 pub linear_whole_none : (slots : List (Option RankedView)) (i : ℕ) → get_or slots i unfilled ≡ None → linear_at (wholes slots) i ≡ nothing
 linear_whole_none slots i h = ap (λ (o : Option Linear). unwrap_or o nothing) (wholes_at slots i ∙ ap whole_in h)
@@ -97,13 +79,6 @@ kept_set n slots i o h k here j =
 
 pub kept_same : (n : ℕ) (slots slots' : List (Option RankedView)) → ((i : ℕ) → get_or slots' i unfilled ≡ get_or slots i unfilled) → AreKept n slots → AreKept n slots'
 kept_same n slots slots' same k i = (let P : Option RankedView → Type 0 = λ u. IsKeptIn n u in subst P (sym (same i)) (k i))
-
-kept_more_in : (m n : ℕ) (o : Option RankedView) → m ≤ n → IsKeptIn m o → IsKeptIn n o
-kept_more_in m n None h k = tt
-kept_more_in m n (Some r) h k = record { ranked = k.ranked; in_range = λ j d l. (let a = k.in_range j d l in omega arith) }
-
-pub kept_more : (m n : ℕ) (slots : List (Option RankedView)) → m ≤ n → AreKept m slots → AreKept n slots
-kept_more m n slots h k i = kept_more_in m n (get_or slots i unfilled) h (k i)
 
 pub kept_cleared : (n : ℕ) (slots slots' : List (Option RankedView)) (rooms rooms' : List ℕ) → AreCleared slots slots' rooms rooms' → AreKept n slots → AreKept n slots'
 kept_cleared n slots slots' rooms rooms' a k i =
@@ -198,22 +173,6 @@ closed_nothing q = record { no_conflict = omega arith; none_forced = λ k d g. a
 pub step_but : (slot n : ℕ) (slots : List (Option Linear)) (rooms : List ℕ) (w : List Bool) (ls : List Literal) (q : ℕ → Option Bool) → IsInStep n slots rooms w ls q
     → IsInStepBut slot n slots rooms w ls q
 step_but slot n slots rooms w ls q s = record { sums = s.sums; distinct = s.distinct; below = s.below; quiet = λ i ne z. s.quiet i z }
-
-pub but_taken : (slot n : ℕ) (slots : List (Option Linear)) (rooms : List ℕ) (w w' : List Bool) (ls : List Literal) (q : ℕ → Option Bool) → Takes slot w w' → IsInStep n slots rooms w ls q
-    → IsInStepBut slot n slots rooms w' ls q
-but_taken slot n slots rooms w w' ls q t s = record { sums = s.sums; distinct = s.distinct; below = s.below; quiet = λ i ne z. s.quiet i (t.others i ne z) }
-
-pub but_quiet : (slot n : ℕ) (slots : List (Option Linear)) (rooms : List ℕ) (w : List Bool) (ls : List Literal) (q : ℕ → Option Bool) → IsQuiet (get_or rooms slot 0) q (linear_at slots slot)
-    → IsInStepBut slot n slots rooms w ls q → IsInStep n slots rooms w ls q
-but_quiet slot n slots rooms w ls q h s = record {
-  sums = s.sums;
-  distinct = s.distinct;
-  below = s.below;
-  quiet = λ i z. elim (cases_eq i slot) [
-    | inl e ↦ (let P : ℕ → Type 0 = λ m. IsQuiet (get_or rooms m 0) q (linear_at slots m) in subst P (sym e) h)
-    | inr ne ↦ s.quiet i ne z
-  ];
-}
 
 pub but_waits : (slot n : ℕ) (slots : List (Option Linear)) (rooms : List ℕ) (w w' : List Bool) (ls : List Literal) (q : ℕ → Option Bool) → Awaits slot w w' → IsInStepBut slot n slots rooms w ls q
     → IsInStep n slots rooms w' ls q
