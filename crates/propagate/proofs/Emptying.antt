@@ -11,7 +11,8 @@ use Rattle.propagate.specs.Counters.{nothing, linear_at, weight_of, weight_at, o
 use Rattle.propagate.proofs.Attaching.{empty}
 use Rattle.propagate.proofs.Placing.{weight_at_gone, weight_at_kept, limited_nothing}
 
-pub cleared_more : (old mid new : List (Option Linear)) (rooms rooms' rooms'' : List ℕ) → AreCleared old mid rooms rooms' → AreCleared mid new rooms' rooms'' → AreCleared old new rooms rooms''
+pub cleared_more : {X : Type 0} → (old mid new : List (Option X)) (rooms rooms' rooms'' : List ℕ) → AreCleared old mid rooms rooms' → AreCleared mid new rooms' rooms''
+    → AreCleared old new rooms rooms''
 cleared_more old mid new rooms rooms' rooms'' a b = record {
   same_slots = b.same_slots ∙ a.same_slots;
   same_rooms = b.same_rooms ∙ a.same_rooms;

@@ -84,9 +84,6 @@ pub lists_same : (lists : List (List Occurrence)) (k : ℕ) → set lists k (occ
 lists_same lists k = (let none : List Occurrence = [] in set-get_or lists k none)
 
 -- what is read in a slot
-pub slot_is : (slots : List (Option Linear)) (i : ℕ) (o : Option Linear) (c : Linear) → i < length slots → o ≡ get_or slots i o → o ≡ Some c → get_or slots i empty ≡ Some c
-slot_is slots i o c h at is = get_or_default slots i empty o h ∙ sym at ∙ is
-
 pub linear_is : (slots : List (Option Linear)) (i : ℕ) (c : Linear) → get_or slots i empty ≡ Some c → linear_at slots i ≡ c
 linear_is slots i c h = rw h refl
 

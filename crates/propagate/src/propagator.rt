@@ -31,12 +31,12 @@ pub struct Propagator {
 }
 
 impl Model for Propagator {
-    ghost use Rattle.propagate.specs.Counters.{attached_from, counted_of};
+    ghost use Rattle.propagate.specs.Counters.{attached_in, counted_of};
     ghost use Rattle.propagate.specs.Propagator.{PropagatorView, IsPropagator};
 
     ghost Value = { PropagatorView };
 
-    ghost view = { λ p. record { variables = p.counters.variables; attached = attached_from 0 p.counters.slots.items; counted = counted_of p.counters } };
+    ghost view = { λ p. record { variables = p.counters.variables; attached = attached_in p.counters; counted = counted_of p.counters } };
 
     ghost invariant = { λ p. IsPropagator p.counters };
 }

@@ -2,7 +2,7 @@
 //!
 //! A room is summed up only where a constraint is attached. From then on `counters` keeps it, and looks at a
 //! constraint only where its room says that it may force something.
-ghost use Rattle.std.specs.Prelude.{◌≡◌, ◌<◌, ◌≤◌, ◌^◌, ◌++◌, [], ◌∷◌, length, true, false, Some, None};
+ghost use Rattle.std.specs.Prelude.{◌≡◌, ◌≢◌, ◌<◌, ◌≤◌, ◌^◌, ◌++◌, [], ◌∷◌, All, length, true, false, Some, None};
 ghost use Rattle.pb_rules.specs.Linear.{VarsBelow, total};
 ghost use Rattle.pb_rules.specs.Partial.{open_weight, is_false};
 ghost use Rattle.trail_state.specs.Trail.{Entry, value_in};
@@ -14,7 +14,7 @@ use pb_constraints::{ConId, Lit, Term};
 use trail_state::Trail;
 
 /// Whether a literal is false on the trail.
-fn is_false(trail: &Trail, lit: Lit) -> bool
+pub fn is_false(trail: &Trail, lit: Lit) -> bool
     ensures { result ≡ is_false (value_in trail.now.entries) lit }
 {
     match trail.value(lit.var()) {
@@ -55,14 +55,26 @@ fn push_if_forced(t: Term, slack: u64, id: ConId, trail: &mut Trail) -> bool
     false
 }
 
+/// Whether all literals of terms have a value.
+pub fn none_free(terms: &[Term], trail: &Trail) -> bool
+    ensures { result ≡ true → All (λ t. value_in trail.now.entries t.lit.var ≢ None) terms.now }
+{
+    for t in terms {
+        if trail.value(t.lit.var()).is_none() {
+            return false;
+        }
+    }
+    true
+}
+
 /// Pushes the literals that a constraint of this room forces. It ends where no coefficient is greater than the slack.
 pub fn push_forced(c: &Ranked, id: ConId, room: u64, trail: &mut Trail)
-    requires in_range { VarsBelow trail.old.variables c.now.terms }
-    requires room { room ≡ open_weight (value_in trail.old.entries) c.now.terms }
-    requires no_conflict { c.now.degree ≤ room }
+    requires in_range { VarsBelow trail.old.variables c.now.whole.terms }
+    requires room { room ≡ open_weight (value_in trail.old.entries) c.now.whole.terms }
+    requires no_conflict { c.now.whole.degree ≤ room }
     ensures variables { trail.new.variables ≡ trail.old.variables }
-    ensures appends { Appends (record { id = id; constraint = c.now } ∷ []) trail.old.entries trail.new.entries }
-    ensures quiet { IsQuiet room (value_in trail.new.entries) c.now }
+    ensures appends { Appends (record { id = id; constraint = c.now.whole } ∷ []) trail.old.entries trail.new.entries }
+    ensures quiet { IsQuiet room (value_in trail.new.entries) c.now.whole }
 {
     let slack = room - c.degree();
     for t in c.by_falling() {
