@@ -56,4 +56,4 @@ sum_more ws next w v before small e = omega (arith, before, small, ap sum e, sum
 
 -- the weights of one objective among all
 pub row_is : (s : SpecValue) (rows : List (List ℕ)) (j : ℕ) → rows ≡ all_laid_out s → j < length s.objectives → get_or rows j [] ≡ laid_out s j
-row_is s rows j e h = ap (λ (r : List (List ℕ)). get_or r j []) e ∙ get_or-map-range_with_len (laid_out s) 0 (length s.objectives) j j [] h refl
+row_is s rows j e h = ap (λ (r : List (List ℕ)). get_or r j []) e ∙ get_or-map-range_with_len (laid_out s) 0 (length s.objectives) j j [] h (omega arith)
