@@ -54,6 +54,10 @@ number_is s j bytes ws bits view all same laid =
 pub sum_more : (ws next : List ℕ) (w v : ℕ) → sum ws ≤ v * 2 ^ 40 → w ≤ 2 ^ 40 → next ≡ ws ++ w ∷ [] → sum next ≤ (v + 1) * 2 ^ 40
 sum_more ws next w v before small e = omega (arith, before, small, ap sum e, sum_by-append (λ x. x) ws (w ∷ []))
 
--- the weights of one objective among all
-pub row_is : (s : SpecValue) (rows : List (List ℕ)) (j : ℕ) → rows ≡ all_laid_out s → j < length s.objectives → get_or rows j [] ≡ laid_out s j
-row_is s rows j e h = ap (λ (r : List (List ℕ)). get_or r j []) e ∙ get_or-map-range_with_len (laid_out s) 0 (length s.objectives) j j [] h (omega arith)
+-- how many objectives are laid out
+pub rows_are : (s : SpecValue) (rows : List (List ℕ)) → rows ≡ all_laid_out s → length rows ≡ length s.objectives
+rows_are s rows e = ap length e ∙ length-map_below (laid_out s) (length s.objectives)
+
+-- the weights of one objective, read among all
+pub row_is : (s : SpecValue) (rows : List (List ℕ)) (j : ℕ) (row : List ℕ) → rows ≡ all_laid_out s → j < length s.objectives → row ≡ get_or rows j row → row ≡ laid_out s j
+row_is s rows j row e h read = read ∙ ap (λ (r : List (List ℕ)). get_or r j row) e ∙ get_or-map-range_with_len (laid_out s) 0 (length s.objectives) j j row h (omega arith)

@@ -13,4 +13,4 @@ loop-v-preserved c = record {
 }
 
 pub invariant_of-result : goal.invariant_of-result
-invariant_of-result c = omega (arith, c.loop-v.invariant.small, c.design_variables.ensures.few)
+invariant_of-result c = omega (arith, c.loop-v.invariant.small, c.design_variables-v-end.ensures.few)
