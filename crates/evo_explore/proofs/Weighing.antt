@@ -1,6 +1,5 @@
 -- The weights of a design's true variables, added up by bytes.
-use Rattle.std.proofs.Common.{◌≡◌, ℕ, ◌+◌, ◌*◌, ◌<◌, ◌≤◌, ◌^◌, Bool, true, false, cond, List, [], ◌∷◌, ◌++◌, All, zero, suc, add-one, length, map, take, get_or, sum, refl, ap, ap₂, sym, ◌∙◌, subst, arith}
-use Rattle.std.specs.Prelude.{◌==◌}
+use Rattle.std.proofs.Common.{◌≡◌, ℕ, ◌+◌, ◌*◌, ◌<◌, ◌≤◌, ◌^◌, Bool, false, cond, List, [], ◌∷◌, ◌++◌, All, zero, suc, add-one, length, map, take, get_or, sum, refl, ap, ap₂, sym, ◌∙◌, subst, arith}
 use Rattle.std.specs.List.{sum_by}
 use Rattle.std.proofs.lemmas.List.{take_more, take_all, length-take-le, length-map, get_or-map}
 use Rattle.std.proofs.lemmas.List.FromFn.{length-map-range_with_len, get_or-map-range_with_len}
@@ -29,7 +28,7 @@ weighted_more bytes g v h bit before =
     let b = get_or bytes v 0 in
     let bit_is : cond (bits_of (bits_in bytes) v) (g v) 0 ≡ b * g v = ap (λ (x : Bool). cond x (g v) 0) (get_or-map bit_in bytes v 0 false h) ∙ byte_times b (g v) bit in
     let left = ap₂ weighted (take_more bytes v 0 h) (map-below_more g v)
-        ∙ weighted-append (take v bytes) (b ∷ []) (map g (below v)) (g v ∷ []) (length-take-le v bytes (omega (arith, h)) ∙ sym (length-map_below g v)) in
+    ∙ weighted-append (take v bytes) (b ∷ []) (map g (below v)) (g v ∷ []) (length-take-le v bytes (omega (arith, h)) ∙ sym (length-map_below g v)) in
     omega (arith, left, bit_is, before, sum_by-below_more (λ i. cond (bits_of (bits_in bytes) i) (g i) 0) v)
 
 weighted_below : (bytes : List ℕ) (g : ℕ → ℕ) (v : ℕ) → v ≤ length bytes → All IsBit bytes
