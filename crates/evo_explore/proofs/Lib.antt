@@ -6,3 +6,4 @@ pub mod Chosen
 pub mod Exploring
 pub mod Rounds
 pub mod Unique
+pub mod Weighing

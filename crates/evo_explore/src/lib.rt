@@ -9,6 +9,7 @@ mod breeding;
 mod history;
 pub mod laws;
 mod measuring;
+mod objectives;
 mod run;
 
 pub use history::History;

@@ -15,16 +15,18 @@ ghost use Rattle.front_archive.specs.Members.{covers};
 ghost use Rattle.front_archive.specs.declared.member.Member.{Member};
 ghost use Rattle.evo_explore.specs.Breeding.{HasGenes};
 ghost use Rattle.evo_explore.specs.Counts.{RoseBy, RoseAtMost, HasRoom, picked};
+ghost use Rattle.evo_explore.specs.Objectives.{all_laid_out};
 ghost use Rattle.evo_explore.specs.Run.{IsRunOf, FindsNone, whole_vector};
 ghost use Rattle.evo_explore.specs.Steps.{answer_of, RoundSays, CountsSay};
 
 use crate::breeding::next_genotype;
 use crate::history::History;
 use crate::measuring::measure_chosen;
+use crate::objectives::LinearObjectives;
 use evaluators::Evaluator;
 use front_archive::{Archive, Member};
 use genotype::{Genotype, Words};
-use impl_rules::{Design, vector_of};
+use impl_rules::Design;
 use proof_log::Log;
 use result_text::Vector;
 use sat_decoder::{Decoded, Decoder};
@@ -103,13 +105,15 @@ fn first_valid(
 fn vector_with(
     alloc: Global,
     spec: &Spec,
+    objectives: &LinearObjectives,
     design: &Design,
     measured: &[u64],
 ) -> Result<Vector, AllocError>
-    requires { length design.now ≡ design_variables spec.now }
+    requires bits { length design.now ≡ design_variables spec.now }
+    requires laid_out { objectives.now ≡ all_laid_out spec.now }
     ensures { IfOk result (λ v. v ≡ vector_of spec.now (bits_of design.now) ++ measured.now) }
 {
-    let mut numbers = vector_of(alloc, spec, design)?;
+    let mut numbers = objectives.numbers_of(alloc, spec, design)?;
     numbers.extend_from_slice(measured)?;
     let vector = Vector::of(alloc, &numbers)?;
     Ok(vector)
@@ -119,10 +123,12 @@ fn vector_with(
 fn measured_vector(
     alloc: Global,
     spec: &Spec,
+    objectives: &LinearObjectives,
     tools: &mut Vec<Box<dyn Evaluator>>,
     chosen: &[usize],
     design: &Design,
 ) -> Result<Vector, AllocError>
+    requires laid_out { objectives.now ≡ all_laid_out spec.now }
     requires bits { length design.now ≡ design_variables spec.now }
     requires valid { IsValid spec.now (bits_of design.now) }
     requires within { All (λ p. p < vec_len tools.old) chosen.now }
@@ -135,7 +141,7 @@ fn measured_vector(
     ensures values { (s : SpecValue) (f : Bits) → map (λ t. value t s f) tools.new.items ≡ map (λ t. value t s f) tools.old.items }
 {
     let measured = measure_chosen(alloc, tools, chosen, spec, design)?;
-    let vector = vector_with(alloc, spec, design, &measured)?;
+    let vector = vector_with(alloc, spec, objectives, design, &measured)?;
     Ok(vector)
 }
 
@@ -157,12 +163,14 @@ fn keep(alloc: Global, found: &mut Found, member: Member) -> Result<(), AllocErr
 fn round<W: Words>(
     alloc: Global,
     spec: &Spec,
+    objectives: &LinearObjectives,
     decoder: &mut Decoder<'_>,
     words: &mut W,
     tools: &mut Vec<Box<dyn Evaluator>>,
     chosen: &[usize],
     found: &mut Found,
 ) -> Result<bool, AllocError>
+    requires laid_out { objectives.now ≡ all_laid_out spec.now }
     requires same_spec { decoder.old.spec ≡ spec.now }
     requires genes { All (HasGenes (design_variables spec.now)) found.old.archive.members }
     requires width { found.old.archive.width ≡ length spec.now.objectives + length chosen.now }
@@ -182,7 +190,7 @@ fn round<W: Words>(
     let genotype = next_genotype(alloc, n, found.archive.members(), words)?;
     match first_valid(alloc, decoder, &genotype)? {
         Some(design) => {
-            let vector = measured_vector(alloc, spec, tools, chosen, &design)?;
+            let vector = measured_vector(alloc, spec, objectives, tools, chosen, &design)?;
             let member = Member {
                 genotype,
                 design,
@@ -235,6 +243,7 @@ pub fn explore<W: Words>(
     ensures tags { map text tools.new.items ≡ map text tools.old.items }
     ensures values { (s : SpecValue) (f : Bits) → map (λ t. value t s f) tools.new.items ≡ map (λ t. value t s f) tools.old.items }
 {
+    let objectives = LinearObjectives::of(alloc, spec)?;
     let mut decoder = Decoder::new(alloc, spec)?;
     let mut found = Found {
         history: History::new(alloc),
@@ -244,6 +253,7 @@ pub fn explore<W: Words>(
         let more = round(
             alloc,
             spec,
+            &objectives,
             &mut decoder,
             words,
             tools,

@@ -31,6 +31,7 @@ round-requires g c =
     let i = c.loop-round.invariant in
     let same = c.deref.ensures.value in
     record {
+      laid_out = c.in_ok-objectives.ensures;
       same_spec = i.spec_is;
       genes = i.genes;
       width = omega (arith, i.width, ap length same);
@@ -75,6 +76,9 @@ pub ended-requires-2 : goal.ended-requires-2
 ended-requires-2 g c = c.loop-round.invariant.ready
 
 -- ---- where memory is wanted
+
+pub returns-in_err-objectives-clause-at_most : goal.returns-in_err-objectives-clause-at_most
+returns-in_err-objectives-clause-at_most g c = none_rose _ _ _
 
 pub returns-in_err-decoder-clause-at_most : goal.returns-in_err-decoder-clause-at_most
 returns-in_err-decoder-clause-at_most g c = none_rose _ _ _
