@@ -2,7 +2,7 @@
 //!
 //! A room is summed up only where a constraint is attached. From then on `counters` keeps it, and looks at a
 //! constraint only where its room says that it may force something.
-ghost use Rattle.std.specs.Prelude.{◌≡◌, ◌≢◌, ◌<◌, ◌≤◌, ◌^◌, ◌++◌, [], ◌∷◌, All, length, true, false, Some, None};
+ghost use Rattle.std.specs.Prelude.{◌≡◌, ◌≢◌, ◌<◌, ◌≤◌, ◌^◌, ◌++◌, [], ◌∷◌, if◌then◌else◌, All, length, true, false, Some, None};
 ghost use Rattle.pb_rules.specs.Linear.{VarsBelow, total};
 ghost use Rattle.pb_rules.specs.Partial.{open_weight, is_false};
 ghost use Rattle.trail_state.specs.Trail.{Entry, value_in};
@@ -67,7 +67,15 @@ pub fn none_free(terms: &[Term], trail: &Trail) -> bool
     true
 }
 
-/// Pushes the literals that a constraint of this room forces. It ends where no coefficient is greater than the slack.
+/// The coefficient of a term whose literal isn't false, and 0 where it is.
+fn open_coef(t: Term, trail: &Trail) -> u64
+    ensures { result ≡ (if is_false (value_in trail.now.entries) t.lit then 0 else t.coef) }
+{
+    if is_false(trail, t.lit) { 0 } else { t.coef }
+}
+
+/// Pushes the literals that a constraint of this room forces. It ends where no coefficient is greater than the slack, and
+/// where all terms that are left are false: of a clause it reads no more than to the literal that isn't.
 pub fn push_forced(c: &Ranked, id: ConId, room: u64, trail: &mut Trail)
     requires in_range { VarsBelow trail.old.variables c.now.whole.terms }
     requires room { room ≡ open_weight (value_in trail.old.entries) c.now.whole.terms }
@@ -77,10 +85,15 @@ pub fn push_forced(c: &Ranked, id: ConId, room: u64, trail: &mut Trail)
     ensures quiet { IsQuiet room (value_in trail.new.entries) c.now.whole }
 {
     let slack = room - c.degree();
+    let mut left = room;
     for t in c.by_falling() {
+        if left == 0 {
+            return;
+        }
         if t.coef <= slack {
             return;
         }
+        left -= open_coef(*t, trail);
         let _pushed = push_if_forced(*t, slack, id, trail);
     }
 }

@@ -4,12 +4,16 @@ use Rattle.pb_rules.specs.declared.Term.{Term}
 use Rattle.propagate.specs.Attached.{Attached}
 use Rattle.propagate.specs.Ranked.{IsRanking}
 use Rattle.propagate.proofs.Scanning.{Progress-none, Progress-step, Progress-stop, Progress-all}
+use Rattle.propagate.proofs.Ending.{left-none, left-split, left-step, Progress-end}
 use Rattle.propagate.proofs.scan.push_forced.Goals as goal
 
 pub loop-t-init : goal.loop-t-init
 loop-t-init c =
     let a : Attached = record { id = c.args.id; constraint = c.args.c.now.whole } in
-    record { variables = refl; progress = Progress-none a c.by_falling-t-items.result.now c.args.trail.now.entries c.args.room c.requires.room }
+    let ts = c.by_falling-t-items.result.now in
+    let T : List Term → Type 0 = λ us. IsRanking c.args.c.now.whole.terms us in
+    let ranking = subst T (sym c.by_falling-t-items.ensures.order) c.by_falling-t-items.ensures.ranked.ranking in
+    record { variables = refl; left = left-none c.args.c.now.whole.terms ts c.args.trail.now.entries c.args.room ranking c.requires.room; progress = Progress-none a c.by_falling-t-items.result.now c.args.trail.now.entries c.args.room c.requires.room }
 
 pub push_if_forced-pushed-requires : goal.push_if_forced-pushed-requires
 push_if_forced-pushed-requires c =
@@ -34,9 +38,23 @@ loop-t-preserved c =
     let s : c.args.room - c.degree.result ≡ c.args.room - c.args.c.now.whole.degree = ap (λ (n : ℕ). c.args.room - n) c.degree.ensures.value in
     record {
       variables = e.variables ∙ c.loop-t.invariant.variables;
+      left =
+          left-step a ts c.loop-t.trail.entries c.push_if_forced-pushed.new.trail.entries c.loop-t.t-index c.loop-t.left c.open_coef-left.result t c.push_if_forced-pushed.result c.degree.ensures.normal
+          ranking c.loop-t-test.true c.t-item.is
+          (left-split ts c.loop-t.trail.entries c.loop-t.t-index c.loop-t.left c.open_coef-left.result t c.loop-t-test.true c.t-item.is c.loop-t.invariant.left c.open_coef-left.ensures) e.pushed e.free
+          e.same;
       progress = Progress-step a ts c.args.trail.now.entries c.loop-t.trail.entries c.push_if_forced-pushed.new.trail.entries c.loop-t.t-index c.args.room (c.args.room - c.degree.result) t
           c.push_if_forced-pushed.result c.loop-t.invariant.progress c.degree.ensures.normal ranking c.loop-t-test.true c.t-item.is c.requires.no_conflict s e.pushed e.free e.beyond e.same e.within;
     }
+
+pub returns-then-left-eq0-clause-quiet : goal.returns-then-left-eq0-clause-quiet
+returns-then-left-eq0-clause-quiet c =
+    let ts = c.by_falling-t-items.result.now in
+    let T : List Term → Type 0 = λ us. IsRanking c.args.c.now.whole.terms us in
+    let ranking = subst T (sym c.by_falling-t-items.ensures.order) c.by_falling-t-items.ensures.ranked.ranking in
+    let a : Attached = record { id = c.args.id; constraint = c.args.c.now.whole } in
+    Progress-end a ts c.args.trail.now.entries c.loop-t.trail.entries c.loop-t.t-index c.args.room c.loop-t.left c.loop-t.invariant.progress ranking c.loop-t-test.true c.requires.no_conflict
+    c.loop-t.invariant.left c.if-left-eq0.true
 
 pub returns-then-t-slack-clause-quiet : goal.returns-then-t-slack-clause-quiet
 returns-then-t-slack-clause-quiet c =
