@@ -1,9 +1,9 @@
 -- Terms that aren't false are put before the others.
-use Rattle.std.proofs.Common.{◌≡◌, ◌≢◌, ℕ, ◌+◌, ◌<◌, ◌≤◌, Bool, true, false, cond, Option, List, [], ◌∷◌, length, get_or, take, drop, refl, ap, ◌∙◌, arith, inl, inr, suc, All}
+use Rattle.std.proofs.Common.{◌≡◌, ◌≢◌, ℕ, ◌+◌, ◌-◌, ◌<◌, ◌≤◌, Bool, true, false, cond, Option, List, [], ◌∷◌, length, get_or, take, drop, refl, ap, ◌∙◌, arith, inl, inr, suc, All}
 use Rattle.std.specs.List.{SwappedAt}
 use Rattle.std.specs.List.Sorted.{IsPermutation}
 use Rattle.std.proofs.lemmas.Bool.{cases_eq}
-use Rattle.std.proofs.lemmas.List.{get_or-take, get_or-drop, length-drop, length-take-le}
+use Rattle.std.proofs.lemmas.List.{get_or_default, get_or-take, get_or-drop, length-drop, length-take-le}
 use Rattle.std.proofs.lemmas.List.Sorted.{IsPermutation-trans, All-permutation, length_permutation}
 use Rattle.std.proofs.lemmas.List.Elements.{All-take}
 use Rattle.pb_rules.specs.declared.Term.{Term}
@@ -12,6 +12,15 @@ use Rattle.pb_rules.specs.Partial.{open_weight, is_false}
 use Rattle.pb_rules.proofs.Assignments.{open-cons}
 use Rattle.propagate.specs.Ranked.{IsFalling, IsRanking, IsRanked, HasCoefficients, HasOpenFirst}
 use Rattle.propagate.specs.Counters.{IsQuiet}
+
+-- where the first and the last coefficient are the same, all are
+pub same_ends : (n : ℕ) (ts : List Term) (a b : Term) → IsFalling ts → 0 < length ts → (get_or ts 0 a).coef ≡ n → (get_or ts (length ts - 1) b).coef ≡ n → HasCoefficients n ts
+same_ends n ts a b falling h first last k d l =
+    let up = falling k (length ts - 1) d (omega arith) (omega arith) in
+    let down = falling 0 k d (omega arith) l in
+    let g0 = ap (λ (t : Term). t.coef) (get_or_default ts 0 d a h) in
+    let g1 = ap (λ (t : Term). t.coef) (get_or_default ts (length ts - 1) d b (omega arith)) in
+    omega (arith, up, down, g0, g1, first, last)
 
 -- so many that aren't false stand first, and the others before a place are false
 pub record Chosen (q : ℕ → Option Bool) (start now : List Term) (found place : ℕ) : Type 0 where

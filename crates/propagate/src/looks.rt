@@ -29,13 +29,13 @@ impl Counters {
         if slot >= self.slots.len() {
             return true;
         }
+        let room = self.rooms[slot];
+        if room >= self.limits[slot] {
+            return true;
+        }
         match &self.slots[slot] {
             None => true,
             Some(c) => {
-                let room = self.rooms[slot];
-                if room >= self.limits[slot] {
-                    return true;
-                }
                 if c.is_whole() || room < c.degree() {
                     return false;
                 }

@@ -81,16 +81,17 @@ fn order_of(alloc: Global, c: &Constraint) -> Result<Option<Vec<Term>>, AllocErr
     Ok(None)
 }
 
-/// Whether each coefficient is this one.
+/// Whether each coefficient of terms by falling coefficient is this one: then the first and the last are.
 fn has_coefficients(terms: &[Term], coef: u64) -> bool
+    requires { IsFalling terms.now }
     ensures { result ≡ true → HasCoefficients coef terms.now }
 {
-    for t in terms {
-        if t.coef != coef {
-            return false;
-        }
+    if terms.is_empty() {
+        return true;
     }
-    true
+    let first = terms[0].coef;
+    let last = terms[terms.len() - 1].coef;
+    first == coef && last == coef
 }
 
 /// Puts two terms whose literals aren't false before the others, or one where there is no other, and answers whether there
