@@ -13,7 +13,11 @@ loop-t-init c =
     let ts = c.by_falling-t-items.result.now in
     let T : List Term → Type 0 = λ us. IsRanking c.args.c.now.whole.terms us in
     let ranking = subst T (sym c.by_falling-t-items.ensures.order) c.by_falling-t-items.ensures.ranked.ranking in
-    record { variables = refl; left = left-none c.args.c.now.whole.terms ts c.args.trail.now.entries c.args.room ranking c.requires.room; progress = Progress-none a c.by_falling-t-items.result.now c.args.trail.now.entries c.args.room c.requires.room }
+    record {
+      variables = refl;
+      left = left-none c.args.c.now.whole.terms ts c.args.trail.now.entries c.args.room ranking c.requires.room;
+      progress = Progress-none a ts c.args.trail.now.entries c.args.room c.requires.room;
+    }
 
 pub push_if_forced-pushed-requires : goal.push_if_forced-pushed-requires
 push_if_forced-pushed-requires c =
@@ -35,16 +39,20 @@ loop-t-preserved c =
     let a : Attached = record { id = c.args.id; constraint = c.args.c.now.whole } in
     let t = c.t-item.result in
     let e = c.push_if_forced-pushed.ensures in
+    let now = c.loop-t.trail.entries in
+    let next = c.push_if_forced-pushed.new.trail.entries in
+    let i = c.loop-t.t-index in
+    let left = c.loop-t.left in
+    let part = c.open_coef-left.result in
+    let pushed = c.push_if_forced-pushed.result in
+    let normal = c.degree.ensures.normal in
+    let split = left-split ts now i left part t c.loop-t-test.true c.t-item.is c.loop-t.invariant.left c.open_coef-left.ensures in
     let s : c.args.room - c.degree.result ≡ c.args.room - c.args.c.now.whole.degree = ap (λ (n : ℕ). c.args.room - n) c.degree.ensures.value in
     record {
       variables = e.variables ∙ c.loop-t.invariant.variables;
-      left =
-          left-step a ts c.loop-t.trail.entries c.push_if_forced-pushed.new.trail.entries c.loop-t.t-index c.loop-t.left c.open_coef-left.result t c.push_if_forced-pushed.result c.degree.ensures.normal
-          ranking c.loop-t-test.true c.t-item.is
-          (left-split ts c.loop-t.trail.entries c.loop-t.t-index c.loop-t.left c.open_coef-left.result t c.loop-t-test.true c.t-item.is c.loop-t.invariant.left c.open_coef-left.ensures) e.pushed e.free
-          e.same;
-      progress = Progress-step a ts c.args.trail.now.entries c.loop-t.trail.entries c.push_if_forced-pushed.new.trail.entries c.loop-t.t-index c.args.room (c.args.room - c.degree.result) t
-          c.push_if_forced-pushed.result c.loop-t.invariant.progress c.degree.ensures.normal ranking c.loop-t-test.true c.t-item.is c.requires.no_conflict s e.pushed e.free e.beyond e.same e.within;
+      left = left-step a ts now next i left part t pushed normal ranking c.loop-t-test.true c.t-item.is split e.pushed e.free e.same;
+      progress = Progress-step a ts c.args.trail.now.entries now next i c.args.room (c.args.room - c.degree.result) t pushed c.loop-t.invariant.progress normal ranking c.loop-t-test.true c.t-item.is
+          c.requires.no_conflict s e.pushed e.free e.beyond e.same e.within;
     }
 
 pub returns-then-left-eq0-clause-quiet : goal.returns-then-left-eq0-clause-quiet
