@@ -4,7 +4,7 @@
 //! force something; each other one is quiet. Counting a literal takes its coefficients off the rooms of the
 //! constraints that have its opposite, which wait where their rooms fall below their limits. Taking a literal off
 //! gives them back, and only a constraint that has the literal itself may then force it anew. So no call but `remap`
-//! goes over all slots. `looks` looks at those that wait.
+//! goes over all slots, and `close` where there is no memory for a watch. `looks` looks at those that wait.
 //!
 //! What is counted of a constraint is what is watched of it: its room is that of its watched terms, and where these are
 //! quiet at their room, so are all its terms at theirs. The counters are those of Chai and Kuehlmann, who watch as many
