@@ -4,7 +4,7 @@ use Rattle.std.specs.Prelude.{All, count_by, sum_by}
 use Rattle.std.proofs.lemmas.Bool.{cases_lt}
 use Rattle.std.proofs.lemmas.Bool.Decides.{nat_tests}
 use Rattle.std.proofs.lemmas.List.{get_or_default}
-use Rattle.std.proofs.lemmas.List.Sums.{sum_by-cons, get_or-le-sum_by}
+use Rattle.std.proofs.lemmas.List.Sums.{sum_by-cons}
 use Rattle.pb_constraints.specs.declared.ConId.{ConId}
 use Rattle.pb_rules.specs.declared.Term.{Term}
 use Rattle.pb_rules.specs.Literal.{Literal}
@@ -16,23 +16,11 @@ use Rattle.constraint_store.specs.Live.{Live}
 use Rattle.trail_state.specs.Trail.{Entry, value_in, level_of, level_in, upto_level}
 use Rattle.trail_state.proofs.Levels.{level_in-le, value_in-upto_level, none-upto_level}
 use Rattle.propagate.specs.Attached.{Attached, attached_at}
+use Rattle.propagate.proofs.Guarding.{two_places}
 use Rattle.conflict_graph.specs.Conditions.{HasCurrent}
 use Rattle.conflict_graph.specs.Learned.{IsLearned, IsLevelBelow}
 use Rattle.conflict_graph.proofs.Ends.{false_at}
 use Rattle.ordered_solver.specs.Trails.{ClosedBelow, IsUnassignedAt, HasUnassigned}
-
--- two different places of a sum
-two_places : (f : Term → ℕ) (ts : List Term) (i j : ℕ) (d : Term) → i < j → j < length ts → f (get_or ts i d) + f (get_or ts j d) ≤ sum_by f ts
-two_places f [] i j d l h = absurd (omega arith)
-two_places f (t ∷ ts) i zero d l h = absurd (omega arith)
-two_places f (t ∷ ts) zero (suc j) d l h =
-    let c = sum_by-cons f t ts in
-    let g = get_or-le-sum_by f ts j d (omega arith) in
-    omega arith
-two_places f (t ∷ ts) (suc i) (suc j) d l h =
-    let c = sum_by-cons f t ts in
-    let g = two_places f ts i j d (omega arith) (omega arith) in
-    omega arith
 
 abbrev is_current : List Entry → Term → Bool
 is_current es t = eqb (level_in es t.lit.var) (level_of es)

@@ -1,6 +1,6 @@
 -- What is attached, once a slot was put or emptied.
-use Rattle.std.proofs.Common.{◌≡◌, ◌∙◌, ℕ, ◌≤◌, true, Option, Some, None, List, length, take, refl, sym, ap, is_some}
-use Rattle.std.specs.Prelude.{Result, Ok, Err, OnOk}
+use Rattle.std.proofs.Common.{◌≡◌, ◌∙◌, ℕ, ◌≤◌, true, false, Option, Some, None, List, length, take, refl, sym, ap, is_some}
+use Rattle.std.specs.Prelude.{Result, Ok, Err, OnOk, OnErr}
 use Rattle.std.specs.declared.alloc.AllocError.{AllocError}
 use Rattle.std.proofs.lemmas.List.{length-take-le}
 use Rattle.pb_rules.specs.declared.Term.{Term}
@@ -27,6 +27,20 @@ stays_attached held c k (Some l) h e f = record { here = e ∙ ap (λ (m : Linea
 pub on_ok_map : (r : Result (Unit {0}) AllocError) (P Q : Type 0) → (P → Q) → OnOk r P → OnOk r Q
 on_ok_map (Ok x) P Q f p = f p
 on_ok_map (Err e) P Q f p = p
+
+-- what stands where something does, or nothing
+pub some_filled : (o : Option Linear) → is_some o ≡ true → (k : Linear) × (o ≡ Some k)
+some_filled None h = absurd (cc)
+some_filled (Some k) h = (k, refl)
+
+pub none_filled : (o : Option Linear) → is_some o ≡ false → o ≡ None
+none_filled None h = refl
+none_filled (Some k) h = absurd (cc)
+
+-- what follows from either answer
+pub on_either : (r : Result (Unit {0}) AllocError) (P Q R : Type 0) → (P → R) → (Q → R) → OnOk r P → OnErr r Q → R
+on_either (Ok x) P Q R f g p q = f p
+on_either (Err e) P Q R f g p q = g q
 
 pub same_parts : (k : Linear) (ts : List Term) (degree : ℕ) (made : Linear) → made ≡ record { terms = ts; degree = degree } → ts ≡ k.terms → degree ≡ k.degree → made ≡ k
 same_parts k ts degree made e t d =

@@ -11,8 +11,7 @@ use Rattle.propagate.specs.Counters.{nothing, linear_at, weight_of, weight_at, o
 use Rattle.propagate.proofs.Attaching.{empty}
 use Rattle.propagate.proofs.Placing.{weight_at_gone, weight_at_kept, limited_nothing}
 
-pub cleared_more : {X : Type 0} → (old mid new : List (Option X)) (rooms rooms' rooms'' : List ℕ) → AreCleared old mid rooms rooms' → AreCleared mid new rooms' rooms''
-    → AreCleared old new rooms rooms''
+pub cleared_more : (old mid new : List (Option Linear)) (rooms rooms' rooms'' : List ℕ) → AreCleared old mid rooms rooms' → AreCleared mid new rooms' rooms'' → AreCleared old new rooms rooms''
 cleared_more old mid new rooms rooms' rooms'' a b = record {
   same_slots = b.same_slots ∙ a.same_slots;
   same_rooms = b.same_rooms ∙ a.same_rooms;
@@ -40,7 +39,7 @@ occurrences_filtered : (p : Occurrence → Bool) (lists : List (List Occurrence)
 occurrences_filtered p lists k = get_or-map (filter p) lists k []
 
 -- one more of the lists is through
-pub through_more : {V : Type 0} → (vs : List V) (f : V → List Occurrence) (g : List Occurrence → List Occurrence) (old : List (List Occurrence)) (i : ℕ) (v w : V) → i < length vs
+pub through_more : {V X : Type 0} → (vs : List V) (f : V → List X) (g : List X → List X) (old : List (List X)) (i : ℕ) (v w : V) → i < length vs
     → length vs ≡ length old → v ≡ get_or vs i v → f w ≡ g (f (get_or vs i v)) → map f vs ≡ map g (take i old) ++ drop i old → map f (set vs i w) ≡ map g (take (i + 1) old) ++ drop (i + 1) old
 through_more vs f g old i v w h same is e so =
     let at : f v ≡ get_or (map f vs) i (f v) = ap f is ∙ sym (get_or-map-within f vs i v (f v) h) in

@@ -1,5 +1,5 @@
 -- What putting a constraint in and taking it out leaves.
-use Rattle.std.proofs.Common.{◌≡◌, ◌≢◌, ℕ, ◌+◌, ◌<◌, ◌≤◌, ◌^◌, Bool, true, false, not, cond, eqb, Option, Some, None, List, [], ◌∷◌, ◌++◌, length, get_or, set, take, drop, filter, refl, sym, ap, ◌∙◌, subst, arith, inl, inr, zero, suc, add-one, drop-cons, get_or-set_same, get_or-set_other}
+use Rattle.std.proofs.Common.{◌≡◌, ◌≢◌, ℕ, ◌+◌, ◌<◌, ◌≤◌, ◌^◌, Bool, true, false, not, cond, eqb, Option, Some, None, List, [], ◌∷◌, ◌++◌, length, get_or, set, take, drop, filter, refl, sym, ap, ◌∙◌, subst, arith, inl, inr, suc, add-one, drop-cons, get_or-set_same, get_or-set_other}
 use Rattle.std.specs.Prelude.{Result, Ok, Err, OnOk, is_err, unwrap_or}
 use Rattle.std.specs.declared.alloc.AllocError.{AllocError}
 use Rattle.std.proofs.lemmas.Bool.{cases_eq, eq-eqb, ne_eqb}
@@ -13,7 +13,7 @@ use Rattle.pb_rules.specs.Partial.{open_weight}
 use Rattle.propagate.specs.Attached.{Attached}
 use Rattle.propagate.specs.declared.occurrences.Occurrence.{Occurrence}
 use Rattle.propagate.specs.Counters.{literal_number, value_given, nothing, linear_at, attached_from, weight_of, weight_at, occurrences_of, SlotsBelow, IsLimited, IsQuiet, IsBuilt, IsInStep, Added, Removed}
-use Rattle.propagate.specs.Flags.{is_waiting}
+use Rattle.propagate.specs.Flags.{is_waiting, Awaits}
 use Rattle.propagate.proofs.Attaching.{empty}
 
 weight_at-push : (os : List Occurrence) (o : Occurrence) (i : ℕ) → weight_at i (os ++ o ∷ []) ≡ weight_at i os + cond (eqb o.slot i) o.coef 0
@@ -170,19 +170,12 @@ Removed-more slot ts i t lists mid new p h is lt e =
       ];
     })
 
--- one more empty slot
-pub empty-push : {X : Type 0} → (slots : List (Option X)) (i : ℕ) → (let none : Option X = None in get_or (slots ++ none ∷ []) i none ≡ get_or slots i none)
-empty-push [] zero = refl
-empty-push [] (suc i) = refl
-empty-push (s ∷ slots) zero = refl
-empty-push (s ∷ slots) (suc i) = empty-push slots i
-
 pub attached-push : (k : ℕ) (slots : List (Option Linear)) → attached_from k (slots ++ empty ∷ []) ≡ attached_from k slots
 attached-push k [] = refl
 attached-push k (None ∷ slots) = attached-push (k + 1) slots
 attached-push k (Some c ∷ slots) = ap (λ (us : List Attached). record { id = record { 0 = k }; constraint = c } ∷ us) (attached-push (k + 1) slots)
 
-pub on_ok : (r : Result (Unit {0}) AllocError) (a b : List (List Occurrence)) → is_err r ≡ false → OnOk r (a ≡ b) → a ≡ b
+pub on_ok : {X : Type 0} (r : Result (Unit {0}) AllocError) (a b : List (List X)) → is_err r ≡ false → OnOk r (a ≡ b) → a ≡ b
 on_ok (Ok x) a b h k = k
 on_ok (Err e) a b h k = absurd (cc)
 
@@ -232,38 +225,19 @@ built_set n i limit o slots limits lists lists' b h h' range small limited len i
           (λ j z. (let P : ℕ → Type 0 = λ x. IsLimited x (linear_at slots j) in subst P (sym (get_or-set_other limits i j limit 0 z)) (b.limited j)));
     }
 
+pub step_filled : (n i room : ℕ) (c : Linear) (slots : List (Option Linear)) (rooms : List ℕ) (w w' : List Bool) (ls : List Literal) (q : ℕ → Option Bool) → IsInStep n slots rooms w ls q
+    → i < length slots → i < length rooms → room ≡ open_weight (value_given ls) c.terms → Awaits i w w' → IsInStep n (set slots i (Some c)) (set rooms i room) w' ls q
+step_filled n i room c slots rooms w w' ls q s h h' is a =
+    let S : ℕ → Linear → Type 0 = λ j k. get_or (set rooms i room) j 0 ≡ open_weight (value_given ls) k.terms in
+    let Q : ℕ → Linear → Type 0 = λ j k. is_waiting w' j ≡ false → IsQuiet (get_or (set rooms i room) j 0) q k in
+    record {
+      sums = at_each slots i (Some c) S h (get_or-set_same rooms i room 0 h' ∙ is) (λ j z. get_or-set_other rooms i j room 0 z ∙ s.sums j);
+      distinct = s.distinct;
+      below = s.below;
+      quiet =
+          at_each slots i (Some c) Q h (λ z. absurd (a.here z)) (λ j n z. (let P : ℕ → Type 0 = λ x. IsQuiet x q (linear_at slots j) in
+          subst P (sym (get_or-set_other rooms i j room 0 n)) (s.quiet j (a.others j z))));
+    }
+
 pub limited_nothing : (limit : ℕ) → IsLimited limit nothing
 limited_nothing limit = record { degree = omega arith; terms = λ k d h. absurd (omega arith) }
-
-pub built_grown : (n : ℕ) (slots slots' : List (Option Linear)) (limits limits' : List ℕ) (lists : List (List Occurrence)) → IsBuilt n slots limits lists
-    → ((i : ℕ) → get_or slots' i empty ≡ get_or slots i empty) → length slots ≤ length slots' → ((i : ℕ) → get_or limits' i 0 ≡ get_or limits i 0) → IsBuilt n slots' limits' lists
-built_grown n slots slots' limits limits' lists b s l m =
-    let V : Linear → Type 0 = λ k. VarsBelow n k.terms in
-    let T : Linear → Type 0 = λ k. total k.terms < 2 ^ 63 in
-    let is : (i : ℕ) → linear_at slots' i ≡ linear_at slots i = λ i. ap (λ (o : Option Linear). unwrap_or o nothing) (s i) in
-    record {
-      few = b.few;
-      wide = b.wide;
-      in_range = λ i. subst V (sym (is i)) (b.in_range i);
-      small = λ i. subst T (sym (is i)) (b.small i);
-      inside = λ k j d h. (let a = b.inside k j d h in omega arith);
-      weights = λ i k. b.weights i k ∙ ap (λ (c : Linear). weight_of k c.terms) (sym (is i));
-      limited = λ i. (
-          let P : ℕ → Type 0 = λ x. IsLimited x (linear_at slots i) in
-          let Q : Linear → Type 0 = λ c. IsLimited (get_or limits' i 0) c in
-          subst Q (sym (is i)) (subst P (sym (m i)) (b.limited i)));
-    }
-
-pub step_grown : (n : ℕ) (slots slots' : List (Option Linear)) (rooms rooms' : List ℕ) (w w' : List Bool) (ls : List Literal) (q : ℕ → Option Bool) → IsInStep n slots rooms w ls q
-    → ((i : ℕ) → get_or slots' i empty ≡ get_or slots i empty) → ((i : ℕ) → get_or rooms' i 0 ≡ get_or rooms i 0) → ((i : ℕ) → is_waiting w' i ≡ is_waiting w i) → IsInStep n slots' rooms' w' ls q
-step_grown n slots slots' rooms rooms' w w' ls q h s r e =
-    let is : (i : ℕ) → linear_at slots' i ≡ linear_at slots i = λ i. ap (λ (o : Option Linear). unwrap_or o nothing) (s i) in
-    record {
-      sums = λ i. r i ∙ h.sums i ∙ ap (λ (c : Linear). open_weight (value_given ls) c.terms) (sym (is i));
-      distinct = h.distinct;
-      below = h.below;
-      quiet = λ i z. (
-          let P : ℕ → Type 0 = λ x. IsQuiet x q (linear_at slots i) in
-          let Q : Linear → Type 0 = λ c. IsQuiet (get_or rooms' i 0) q c in
-          subst Q (sym (is i)) (subst P (sym (r i)) (h.quiet i (sym (e i) ∙ z))));
-    }

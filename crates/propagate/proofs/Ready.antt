@@ -117,7 +117,7 @@ ready_drop p q store t ids r drops variables counted = record {
     ]
 
 -- an id that one goes to, or that none goes to
-reached : (ids : List (Option ConId)) (d : ConId) → ((n : ℕ) × (get_or ids n None ≡ Some d)) ⊎ ((n : ℕ) → get_or ids n None ≢ Some d)
+pub reached : (ids : List (Option ConId)) (d : ConId) → ((n : ℕ) × (get_or ids n None ≡ Some d)) ⊎ ((n : ℕ) → get_or ids n None ≢ Some d)
 reached [] d = inr (λ n h. cc)
 reached (None ∷ ids) d = later (reached ids d)
   where

@@ -82,12 +82,10 @@ Progress-all a ts start now i room p ranking h d =
     let P : List Term → Type 0 = λ us. All (λ (t : Term). value_in now t.lit.var ≡ None → a.constraint.degree + t.coef ≤ room) us in
     quiet_ranked a ts now room ranking d (subst P (take_all i ts h) p.quiet)
 
--- and so does what holds of the terms that were read, and of the later ones
-pub quiet_later : (a : Attached) (ts : List Term) (start now : List Entry) (i room : ℕ) → Progress a ts start now i room → IsRanking a.constraint.terms ts → i < length ts
-    → a.constraint.degree ≤ room
-    → ((k : ℕ) (e : Term) → i ≤ k → k < length ts → value_in now (get_or ts k e).lit.var ≡ None → a.constraint.degree + (get_or ts k e).coef ≤ room)
-    → IsQuiet room (value_in now) a.constraint
-quiet_later a ts start now i room p ranking h d later =
+-- where a coefficient is no greater than the slack, so is each later one
+pub Progress-stop : (a : Attached) (ts : List Term) (start now : List Entry) (i room slack : ℕ) (t : Term) → Progress a ts start now i room → IsRanking a.constraint.terms ts → i < length ts
+    → t ≡ get_or ts i t → a.constraint.degree ≤ room → slack ≡ room - a.constraint.degree → t.coef ≤ slack → IsQuiet room (value_in now) a.constraint
+Progress-stop a ts start now i room slack t p ranking h at d s le =
     quiet_ranked a ts now room ranking d (λ k e lt free. elim (cases_lt k i) [
       | inl b ↦ (
           let len : length (take i ts) ≡ i = length-take-le i ts (omega arith) in
@@ -97,17 +95,11 @@ quiet_later a ts start now i room p ranking h d later =
           let r = q (subst V (sym g) free) in
           let g' = ap (λ (u : Term). u.coef) g in
           omega (arith, r, g'))
-      | inr b ↦ later k e (omega arith) lt free
+      | inr b ↦ (
+          let f = ranking.falling i k e b lt in
+          let g = ap (λ (u : Term). u.coef) (get_or_default ts i e t h ∙ sym at) in
+          omega (arith, f, g))
     ])
-
--- where a coefficient is no greater than the slack, so is each later one
-pub Progress-stop : (a : Attached) (ts : List Term) (start now : List Entry) (i room slack : ℕ) (t : Term) → Progress a ts start now i room → IsRanking a.constraint.terms ts → i < length ts
-    → t ≡ get_or ts i t → a.constraint.degree ≤ room → slack ≡ room - a.constraint.degree → t.coef ≤ slack → IsQuiet room (value_in now) a.constraint
-Progress-stop a ts start now i room slack t p ranking h at d s le =
-    quiet_later a ts start now i room p ranking h d (λ k e ge lt free.
-    let f = ranking.falling i k e ge lt in
-    let g = ap (λ (u : Term). u.coef) (get_or_default ts i e t h ∙ sym at) in
-    omega (arith, f, g))
 
 pub Progress-step : (a : Attached) (ts : List Term) (start now next : List Entry) (i room slack : ℕ) (t : Term) (pushed : Bool) → Progress a ts start now i room
     → IsNormal a.constraint.terms a.constraint.degree → IsRanking a.constraint.terms ts → i < length ts → t ≡ get_or ts i t → a.constraint.degree ≤ room → slack ≡ room - a.constraint.degree

@@ -66,24 +66,27 @@ last_counted ls used l h k at =
     ap (λ (n : ℕ). take n ls) e ∙ take_more ls (used - 1) l lt ∙ ap (λ (m : Literal). take (used - 1) ls ++ m ∷ []) (sym at)
 
 -- the list of one literal, where the lists stand in vectors
-pub lists_at : {V : Type 0} → (vs : List V) (f : V → List Occurrence) (lists : List (List Occurrence)) (k k' : ℕ) (v : V) → map f vs ≡ lists → k ≡ k' → k' < length lists → v ≡ get_or vs k v
-    → f v ≡ occurrences_of lists k'
-lists_at vs f lists k k' v e q h at =
-    let none : List Occurrence = [] in
+pub lists_at : {V X : Type 0} → (vs : List V) (f : V → List X) (lists : List (List X)) (k k' : ℕ) (v : V) → map f vs ≡ lists → k ≡ k' → k' < length lists → v ≡ get_or vs k v
+    → f v ≡ get_or lists k' []
+lists_at {V} {X} vs f lists k k' v e q h at =
+    let none : List X = [] in
     let len : length (map f vs) ≡ length vs = length-map vs f in
-    let len' : length (map f vs) ≡ length lists = ap (λ (us : List (List Occurrence)). length us) e in
+    let len' : length (map f vs) ≡ length lists = ap (λ (us : List (List X)). length us) e in
     let lt : k < length vs = omega arith in
-    ap f at ∙ sym (get_or-map f vs k v none lt) ∙ ap (λ (us : List (List Occurrence)). get_or us k none) e ∙ ap (λ (n : ℕ). get_or lists n none) q
+    ap f at ∙ sym (get_or-map f vs k v none lt) ∙ ap (λ (us : List (List X)). get_or us k none) e ∙ ap (λ (n : ℕ). get_or lists n none) q
 
-pub lists_set : {V : Type 0} → (vs : List V) (f : V → List Occurrence) (lists : List (List Occurrence)) (k k' : ℕ) (w : V) (os : List Occurrence) → map f vs ≡ lists → k ≡ k' → f w ≡ os
-    → map f (set vs k w) ≡ set lists k' os
-lists_set vs f lists k k' w os e q is =
-    map-set f vs k w ∙ ap (λ (us : List (List Occurrence)). set us k (f w)) e ∙ ap (λ (n : ℕ). set lists n (f w)) q ∙ ap (λ (us : List Occurrence). set lists k' us) is
+pub lists_set : {V X : Type 0} → (vs : List V) (f : V → List X) (lists : List (List X)) (k k' : ℕ) (w : V) (xs : List X) → map f vs ≡ lists → k ≡ k' → f w ≡ xs
+    → map f (set vs k w) ≡ set lists k' xs
+lists_set {V} {X} vs f lists k k' w xs e q is =
+    map-set f vs k w ∙ ap (λ (us : List (List X)). set us k (f w)) e ∙ ap (λ (n : ℕ). set lists n (f w)) q ∙ ap (λ (us : List X). set lists k' us) is
 
 pub lists_same : (lists : List (List Occurrence)) (k : ℕ) → set lists k (occurrences_of lists k) ≡ lists
 lists_same lists k = (let none : List Occurrence = [] in set-get_or lists k none)
 
 -- what is read in a slot
+pub slot_is : (slots : List (Option Linear)) (i : ℕ) (o : Option Linear) (c : Linear) → i < length slots → o ≡ get_or slots i o → o ≡ Some c → get_or slots i empty ≡ Some c
+slot_is slots i o c h at is = get_or_default slots i empty o h ∙ sym at ∙ is
+
 pub linear_is : (slots : List (Option Linear)) (i : ℕ) (c : Linear) → get_or slots i empty ≡ Some c → linear_at slots i ≡ c
 linear_is slots i c h = rw h refl
 

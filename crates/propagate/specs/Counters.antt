@@ -6,7 +6,6 @@ use Rattle.pb_rules.specs.Literal.{Literal}
 use Rattle.pb_rules.specs.Linear.{Linear, VarsBelow, total}
 use Rattle.pb_rules.specs.Partial.{open_weight}
 use Rattle.propagate.specs.Attached.{Attached}
-use Rattle.propagate.specs.Ranked.{parts, wholes, AreKept}
 use Rattle.propagate.specs.declared.occurrences.Occurrence.{Occurrence}
 use Rattle.propagate.specs.declared.counters.Counters.{Counters}
 use Rattle.propagate.specs.Flags.{is_waiting}
@@ -96,13 +95,6 @@ pub record IsInStep (n : ℕ) (slots : List (Option Linear)) (rooms : List ℕ) 
   pub below : All (λ l. l.var < n) ls
   pub quiet : (i : ℕ) → is_waiting waiting i ≡ false → IsQuiet (slice_index_or rooms i 0) q (linear_at slots i)
 
--- the same but for one slot, of which only the room is known
-pub record IsInStepBut (slot n : ℕ) (slots : List (Option Linear)) (rooms : List ℕ) (waiting : List Bool) (ls : List Literal) (q : ℕ → Option Bool) : Type 0 where
-  pub sums : (i : ℕ) → slice_index_or rooms i 0 ≡ open_weight (value_given ls) (linear_at slots i).terms
-  pub distinct : AreDistinct ls
-  pub below : All (λ l. l.var < n) ls
-  pub quiet : (i : ℕ) → i ≢ slot → is_waiting waiting i ≡ false → IsQuiet (slice_index_or rooms i 0) q (linear_at slots i)
-
 -- the rooms are those under the counted literals, and each constraint that doesn't wait is quiet but for forcing literals that were taken off
 pub record IsGivenBack (n : ℕ) (slots : List (Option Linear)) (rooms : List ℕ) (waiting : List Bool) (ls off : List Literal) : Type 0 where
   pub sums : (i : ℕ) → slice_index_or rooms i 0 ≡ open_weight (value_given ls) (linear_at slots i).terms
@@ -115,33 +107,20 @@ pub record IsGivenBack (n : ℕ) (slots : List (Option Linear)) (rooms : List �
 abbrev pub counted_of : Counters → List Literal
 counted_of c = take c.used c.lits.items
 
--- the watched part of what stands in each slot
-abbrev pub parts_of : Counters → List (Option Linear)
-parts_of c = parts c.slots.items
-
--- what is attached
-abbrev pub attached_in : Counters → List Attached
-attached_in c = attached_from 0 (wholes c.slots.items)
-
 -- what counters keep, whatever is counted
 pub record AreBuilt (c : Counters) : Type 0 where
-  pub built : IsBuilt c.variables (parts_of c) c.limits.items c.occurrences
-  pub room : HasRoom (parts_of c) c.rooms.items c.limits.items c.waiting
-  pub kept : AreKept c.variables c.slots.items
+  pub built : IsBuilt c.variables c.slots.items c.limits.items c.occurrences
+  pub room : HasRoom c.slots.items c.rooms.items c.limits.items c.waiting
   pub lits : c.variables ≤ length c.lits.items
   pub used : c.used ≤ length c.lits.items
 
 -- and how far they have counted
 abbrev pub AreInStep : Counters → (ℕ → Option Bool) → Type 0
-AreInStep c q = IsInStep c.variables (parts_of c) c.rooms.items c.waiting (counted_of c) q
-
--- and how far they have, where one slot is looked at
-abbrev pub AreInStepBut : ℕ → Counters → (ℕ → Option Bool) → Type 0
-AreInStepBut slot c q = IsInStepBut slot c.variables (parts_of c) c.rooms.items c.waiting (counted_of c) q
+AreInStep c q = IsInStep c.variables c.slots.items c.rooms.items c.waiting (counted_of c) q
 
 -- what these literals took was given back, and nobody is woken yet that may force them anew
 abbrev pub AreGivenBack : List Literal → Counters → Type 0
-AreGivenBack off c = IsGivenBack c.variables (parts_of c) c.rooms.items c.waiting (counted_of c) off
+AreGivenBack off c = IsGivenBack c.variables c.slots.items c.rooms.items c.waiting (counted_of c) off
 
 -- the literals that were taken off, where so many were counted before
 abbrev pub taken_off : ℕ → Counters → List Literal
@@ -149,7 +128,7 @@ taken_off top c = drop c.used (take top c.lits.items)
 
 -- the rooms are those under the counted literals
 abbrev pub AreSummed : Counters → Type 0
-AreSummed c = (i : ℕ) → slice_index_or c.rooms.items i 0 ≡ open_weight (value_given (counted_of c)) (linear_at (parts_of c) i).terms
+AreSummed c = (i : ℕ) → slice_index_or c.rooms.items i 0 ≡ open_weight (value_given (counted_of c)) (linear_at c.slots.items i).terms
 
 -- the rooms have lost the coefficients of occurrences, and what may no longer be quiet waits
 pub record TookRooms (os : List Occurrence) (limits rooms rooms' : List ℕ) (w w' : List Bool) : Type 0 where
@@ -188,7 +167,7 @@ pub record IsPut (slot : ℕ) (o : Option Linear) (old new : List (Option Linear
   pub others : (i : ℕ) → i ≢ slot → slice_index_or new i None ≡ slice_index_or old i None
 
 -- each slot is as before, with its room, or is empty without any
-pub record AreCleared {X : Type 0} (slots slots' : List (Option X)) (rooms rooms' : List ℕ) : Type 0 where
+pub record AreCleared (slots slots' : List (Option Linear)) (rooms rooms' : List ℕ) : Type 0 where
   pub same_slots : length slots' ≡ length slots
   pub same_rooms : length rooms' ≡ length rooms
   pub each : (i : ℕ) → ((slice_index_or slots' i None ≡ slice_index_or slots i None) × (slice_index_or rooms' i 0 ≡ slice_index_or rooms i 0))
@@ -207,19 +186,19 @@ pub record Renamed (from to : ℕ) (ts : List Term) (lists lists' : List (List O
   pub inside : (n k : ℕ) → to < n → SlotsBelow n (occurrences_of lists k) → SlotsBelow n (occurrences_of lists' k)
 
 -- what stood in one slot stands in another, which was empty
-pub record IsMovedSlot (from to : ℕ) (old new : List (Option Linear)) : Type 0 where
+pub record IsMovedSlot {X : Type 0} (from to : ℕ) (old new : List (Option X)) : Type 0 where
   pub there : slice_index_or new to None ≡ slice_index_or old from None
   pub gone : slice_index_or new from None ≡ None
   pub others : (i : ℕ) → i ≢ from → i ≢ to → slice_index_or new i None ≡ slice_index_or old i None
 
 -- one slot went where its id goes
-pub record IsOneMoved (to : ConId → Option ConId) (id : ConId) (old new : List (Option Linear)) : Type 0 where
+pub record IsOneMoved {X : Type 0} (to : ConId → Option ConId) (id : ConId) (old new : List (Option X)) : Type 0 where
   pub there : (d : ConId) → to id ≡ Some d → slice_index_or new d.0 None ≡ slice_index_or old id.0 None
   pub gone : to id ≢ Some id → slice_index_or new id.0 None ≡ None
   pub others : (d : ConId) → d ≢ id → to id ≢ Some d → slice_index_or new d.0 None ≡ slice_index_or old d.0 None
 
 -- the slots below a number went where their ids go
-pub record AreMoved (to : ConId → Option ConId) (n : ℕ) (old new : List (Option Linear)) : Type 0 where
+pub record AreMoved {X : Type 0} (to : ConId → Option ConId) (n : ℕ) (old new : List (Option X)) : Type 0 where
   pub there : (c d : ConId) → c.0 < n → to c ≡ Some d → slice_index_or new d.0 None ≡ slice_index_or old c.0 None
   pub gone : (d : ConId) → d.0 < n → ((c : ConId) → c.0 < n → to c ≢ Some d) → slice_index_or new d.0 None ≡ None
   pub rest : (d : ConId) → n ≤ d.0 → slice_index_or new d.0 None ≡ slice_index_or old d.0 None

@@ -1,5 +1,5 @@
 -- What a propagator is seen held, and the conditions of its calls.
-use Rattle.std.specs.Prelude.{ℕ, Some, ◌≡◌, ◌⊎◌, List, map, take, length, IsTrue}
+use Rattle.std.specs.Prelude.{ℕ, Some, None, ◌≡◌, ◌++◌, ◌⊎◌, List, map, take, length, IsTrue}
 use Rattle.pb_constraints.specs.declared.ConId.{ConId}
 use Rattle.pb_rules.specs.Literal.{Literal}
 use Rattle.pb_rules.specs.Linear.{Linear}
@@ -7,7 +7,9 @@ use Rattle.constraint_store.specs.Live.{Live, is_live, constraint_of}
 use Rattle.trail_state.specs.Trail.{TrailView}
 use Rattle.propagate.specs.Attached.{Attached, attached_at}
 use Rattle.propagate.specs.declared.counters.Counters.{Counters}
-use Rattle.propagate.specs.Counters.{AreBuilt, AreInStep, value_given, counted_of}
+use Rattle.propagate.specs.Counters.{AreBuilt, AreInStep, value_given, counted_of, attached_from}
+use Rattle.propagate.specs.declared.watches.Watches.{Watches}
+use Rattle.propagate.specs.Watches.{watched_in, AreWatched, AreClosedAt}
 
 -- a propagator: how many variables there are, what is attached, and the literals that it has counted
 pub record PropagatorView : Type 0 where
@@ -15,10 +17,21 @@ pub record PropagatorView : Type 0 where
   pub attached : List Attached
   pub counted : List Literal
 
+-- what is attached: the constraints that are counted, and the clauses that are watched
+abbrev pub attached_in : Counters → Watches → List Attached
+attached_in c w = attached_from 0 c.slots.items ++ watched_in w
+
+-- no id is in both
+abbrev pub AreApart : List Attached → List Attached → Type 0
+AreApart xs ys = (c : ConId) → (attached_at xs c ≡ None) ⊎ (attached_at ys c ≡ None)
+
 -- what a propagator's fields keep
-pub record IsPropagator (c : Counters) : Type 0 where
+pub record IsPropagator (c : Counters) (w : Watches) : Type 0 where
   pub built : AreBuilt c
   pub step : AreInStep c (value_given (counted_of c))
+  pub watched : AreWatched c.variables w
+  pub closed : AreClosedAt (counted_of c) w
+  pub apart : AreApart (attached_from 0 c.slots.items) (watched_in w)
 
 -- the counted literals are a prefix of the trail's
 abbrev pub IsCounted : PropagatorView → TrailView → Type 0

@@ -4,12 +4,11 @@
 //! force something; each other one is quiet. Counting a literal takes its coefficients off the rooms of the
 //! constraints that have its opposite, which wait where their rooms fall below their limits. Taking a literal off
 //! gives them back, and only a constraint that has the literal itself may then force it anew. So no call but `remap`
-//! goes over all slots, and `close` where there is no memory for a watch. `looks` looks at those that wait.
+//! goes over all slots. `close` counts the whole trail before each look, since a look rests on the room being that
+//! under the trail. A constraint in conflict goes on waiting.
 //!
-//! What is counted of a constraint is what is watched of it: its room is that of its watched terms, and where these are
-//! quiet at their room, so are all its terms at theirs. The counters are those of Chai and Kuehlmann, who watch as many
-//! terms as they need; the list of those that wait takes no memory during a run.
-ghost use Rattle.std.specs.Prelude.{Option, ◌≡◌, ◌≢◌, ◌<◌, ◌≤◌, ◌^◌, ◌+◌, ◌*◌, ℕ, Bool, [], ◌++◌, ◌∷◌, List, All, map, take, length, slice_index_or, slice_set, true, false, Some, None, IsTrue, is_some, IfOk, OnOk, OnErr, IfSome, IfNone};
+//! The counters are those of Chai and Kuehlmann; the list of those that wait takes no memory during a run.
+ghost use Rattle.std.specs.Prelude.{◌≡◌, ◌≢◌, ◌<◌, ◌≤◌, ◌^◌, ◌+◌, ◌*◌, ℕ, Bool, [], ◌++◌, ◌∷◌, List, All, map, take, length, slice_index_or, slice_set, true, false, Some, None, IsTrue, is_some, IfOk, OnOk, OnErr, IfSome, IfNone};
 ghost use Rattle.pb_rules.specs.Linear.{VarsBelow, total};
 ghost use Rattle.pb_rules.specs.Partial.{open_weight};
 ghost use Rattle.pb_rules.specs.Literal.{Literal};
@@ -17,16 +16,14 @@ ghost use Rattle.pb_constraints.specs.declared.ConId.{ConId};
 ghost use Rattle.constraint_store.specs.Live.{new_id};
 ghost use Rattle.trail_state.specs.Trail.{value_in};
 ghost use Rattle.propagate.specs.Attached.{Drops};
-ghost use Rattle.propagate.specs.Ranked.{part_of, wholes};
-ghost use Rattle.propagate.specs.Counters.{IsLimited, SlotsBelow, weight_at, TookRooms, GaveRooms, Woke, AreBuilt, AreInStep, AreInStepBut, AreGivenBack, AreSummed, AreDistinct, taken_off, counted_of, value_given, attached_in, occurrences_of, IsPut, IsMovedSlot, IsOneMoved, AreMoved, AreCleared};
+ghost use Rattle.propagate.specs.Forced.{Appends, IsConflict};
+ghost use Rattle.propagate.specs.Counters.{IsQuiet, IsLimited, SlotsBelow, weight_at, TookRooms, GaveRooms, Woke, AreBuilt, AreInStep, AreGivenBack, AreSummed, AreDistinct, taken_off, counted_of, value_given, linear_at, attached_from, occurrences_of, weight_of, IsPut, IsMovedSlot, IsOneMoved, AreMoved, AreCleared};
 ghost use Rattle.propagate.specs.Flags.{is_waiting};
 
-use super::filling::{
-    add_watched, grow_empty, grow_literals, grow_zeros, remove_watched, rename_all,
-};
+use super::filling::{add_all, grow_empty, grow_literals, grow_zeros, remove_all, rename_all};
 use super::occurrences::{Occurrence, Occurrences};
 use super::ranked::{Ranked, is_filled};
-use super::scan::room_of;
+use super::scan::{push_forced, room_of};
 use super::waiting::Waiting;
 use constraint_store::Moves;
 use pb_constraints::{ConId, Lit, Term};
@@ -99,13 +96,13 @@ fn wake(rooms: &[u64], limits: &[u64], waiting: &mut Waiting, occurrences: &[Occ
     }
 }
 
-/// The degree and the greatest watched coefficient.
+/// The degree and the greatest coefficient.
 fn limit_of(c: &Ranked) -> u64
-    ensures { IsLimited result (part_of c.now) }
+    ensures { IsLimited result c.now }
 {
     let degree = c.degree();
     let mut limit = degree;
-    for t in c.watched() {
+    for t in c.terms() {
         limit = limit.max(degree + t.coef);
     }
     limit
@@ -252,6 +249,70 @@ impl Counters {
         self.wake_upto(top);
     }
 
+    /// Looks at what stands in a slot, once all literals are counted: whether it is in conflict, and if not, pushes
+    /// what it forces.
+    fn look_at(&self, slot: usize, trail: &mut Trail) -> bool
+        requires built { AreBuilt self.now }
+        requires sums { AreSummed self.now }
+        requires variables { self.now.variables ≡ trail.old.variables }
+        requires counted { counted_of self.now ≡ map (λ e. e.lit) trail.old.entries }
+        ensures variables { trail.new.variables ≡ trail.old.variables }
+        ensures appends { Appends (attached_from 0 self.now.slots.items) trail.old.entries trail.new.entries }
+        ensures conflict { result ≡ true → IsConflict (attached_from 0 self.now.slots.items) trail.new.entries (record { 0 = slot }) }
+        ensures same { result ≡ true → trail.new.entries ≡ trail.old.entries }
+        ensures quiet { result ≡ false → IsQuiet (slice_index_or self.now.rooms.items slot 0) (value_in trail.new.entries) (linear_at self.now.slots.items slot) }
+    {
+        if slot >= self.slots.len() {
+            return false;
+        }
+        match &self.slots[slot] {
+            None => false,
+            Some(c) => {
+                let room = self.rooms[slot];
+                if room < c.degree() {
+                    return true;
+                }
+                if room < self.limits[slot] {
+                    push_forced(c, ConId(slot as u64), room, trail);
+                }
+                false
+            }
+        }
+    }
+
+    /// Counts the trail's literals and pushes what is forced, until one is in conflict or nothing is forced any more.
+    pub fn close(&mut self, trail: &mut Trail) -> Option<usize>
+        requires built { AreBuilt self.old }
+        requires step { AreInStep self.old (value_in trail.old.entries) }
+        requires variables { self.old.variables ≡ trail.old.variables }
+        requires counted { counted_of self.old ≡ take self.old.used (map (λ e. e.lit) trail.old.entries) }
+        requires used { self.old.used ≤ length trail.old.entries }
+        ensures built { AreBuilt self.new }
+        ensures step { AreInStep self.new (value_in trail.new.entries) }
+        ensures counted { counted_of self.new ≡ map (λ e. e.lit) trail.new.entries }
+        ensures slots { self.new.slots ≡ self.old.slots }
+        ensures variables { self.new.variables ≡ self.old.variables }
+        ensures trail_variables { trail.new.variables ≡ trail.old.variables }
+        ensures appends { Appends (attached_from 0 self.old.slots.items) trail.old.entries trail.new.entries }
+        ensures conflict { IfSome result (λ i. IsConflict (attached_from 0 self.old.slots.items) trail.new.entries (record { 0 = i })) }
+        ensures none_waits { IfNone result ((i : ℕ) → is_waiting self.new.waiting i ≡ false) }
+    {
+        self.count_all(trail);
+        'looking: loop {
+            match self.waiting.take() {
+                None => return None,
+                Some(slot) => {
+                    if self.look_at(slot, trail) {
+                        self.waiting.add(slot);
+                        return Some(slot);
+                    }
+                    let _assigned = trail.assigned();
+                    self.count_all(trail);
+                }
+            }
+        }
+    }
+
     /// Makes room for the slots below this number.
     fn make_slots(&mut self, count: usize) -> Result<(), AllocError>
         requires built { AreBuilt self.old }
@@ -261,7 +322,7 @@ impl Counters {
         ensures lits { self.new.lits ≡ self.old.lits }
         ensures used { self.new.used ≡ self.old.used }
         ensures variables { self.new.variables ≡ self.old.variables }
-        ensures attached { attached_in self.new ≡ attached_in self.old }
+        ensures attached { attached_from 0 self.new.slots.items ≡ attached_from 0 self.old.slots.items }
         ensures same { (i : ℕ) → slice_index_or self.new.slots.items i None ≡ slice_index_or self.old.slots.items i None }
         ensures room { OnOk result (count ≤ length self.new.slots.items) }
     {
@@ -271,47 +332,28 @@ impl Counters {
         grow_empty(&mut self.slots, count)
     }
 
-    /// Takes out what stands in a slot, with its occurrences.
-    pub fn take_out(&mut self, slot: usize) -> Option<Ranked>
+    /// Puts a constraint into a slot that is there and empty.
+    fn fill(&mut self, slot: usize, c: Ranked, trail: &Trail) -> Result<(), AllocError>
         requires built { AreBuilt self.old }
-        requires here { slot < length self.old.slots.items }
-        ensures built { AreBuilt self.new }
-        ensures step { (q : ℕ → Option Bool) → AreInStepBut slot self.old q → AreInStep self.new q }
-        ensures lits { self.new.lits ≡ self.old.lits }
-        ensures used { self.new.used ≡ self.old.used }
-        ensures variables { self.new.variables ≡ self.old.variables }
-        ensures waiting { self.new.waiting ≡ self.old.waiting }
-        ensures slots { self.new.slots.items ≡ slice_set self.old.slots.items slot None }
-        ensures out { result ≡ slice_index_or self.old.slots.items slot None }
-    {
-        let out = self.slots[slot].take();
-        remove_watched(&mut self.occurrences, &out, slot);
-        self.rooms[slot] = 0;
-        out
-    }
-
-    /// Puts a constraint into a slot that is there and empty, and answers whether there was memory for its occurrences.
-    /// Where there is none, none of its terms is watched.
-    pub fn put(&mut self, slot: usize, mut c: Ranked, trail: &Trail) -> bool
-        requires built { AreBuilt self.old }
+        requires step { AreInStep self.old (value_given (counted_of self.old)) }
         requires here { slot < length self.old.slots.items }
         requires free { slice_index_or self.old.slots.items slot None ≡ None }
-        requires in_range { VarsBelow self.old.variables c.whole.terms }
+        requires in_range { VarsBelow self.old.variables c.terms }
         requires counted { counted_of self.old ≡ map (λ e. e.lit) trail.now.entries }
         ensures built { AreBuilt self.new }
-        ensures step { (q : ℕ → Option Bool) → AreInStepBut slot self.old q → AreInStepBut slot self.new q }
+        ensures step { AreInStep self.new (value_given (counted_of self.new)) }
         ensures lits { self.new.lits ≡ self.old.lits }
         ensures used { self.new.used ≡ self.old.used }
         ensures variables { self.new.variables ≡ self.old.variables }
-        ensures waiting { self.new.waiting ≡ self.old.waiting }
-        ensures wholes { wholes self.new.slots.items ≡ slice_set (wholes self.old.slots.items) slot (Some c.whole) }
-        ensures put { result ≡ true → slice_index_or self.new.slots.items slot None ≡ Some c }
+        ensures ok { OnOk result (self.new.slots.items ≡ slice_set self.old.slots.items slot (Some c)) }
+        ensures err { OnErr result (self.new.slots ≡ self.old.slots) }
     {
-        let added = add_watched(&mut self.occurrences, &mut c, slot);
-        self.rooms[slot] = room_of(c.watched(), trail);
+        add_all(&mut self.occurrences, c.terms(), slot)?;
+        self.rooms[slot] = room_of(c.terms(), trail);
         self.limits[slot] = limit_of(&c);
+        self.waiting.add(slot);
         self.slots[slot] = Some(c);
-        added
+        Ok(())
     }
 
     /// None for no variable.
@@ -355,13 +397,13 @@ impl Counters {
 
     /// Whether there is a constraint in a slot.
     pub fn is_filled(&self, slot: usize) -> bool
-        ensures { result ≡ is_some (slice_index_or (wholes self.now.slots.items) slot None) }
+        ensures { result ≡ is_some (slice_index_or self.now.slots.items slot None) }
     {
         is_filled(&self.slots, slot)
     }
 
     /// Puts a constraint into an empty slot. An `Err` leaves what is attached and what is counted.
-    pub fn attach(&mut self, slot: usize, mut c: Ranked, trail: &Trail) -> Result<(), AllocError>
+    pub fn attach(&mut self, slot: usize, c: Ranked, trail: &Trail) -> Result<(), AllocError>
         requires built { AreBuilt self.old }
         requires step { AreInStep self.old (value_given (counted_of self.old)) }
         requires variables { self.old.variables ≡ trail.now.variables }
@@ -369,26 +411,26 @@ impl Counters {
         requires used { self.old.used ≤ length trail.now.entries }
         requires small { slot + 1 < 2 ^ 64 }
         requires free { slice_index_or self.old.slots.items slot None ≡ None }
-        requires in_range { VarsBelow self.old.variables c.whole.terms }
+        requires in_range { VarsBelow self.old.variables c.terms }
         ensures built { AreBuilt self.new }
         ensures step { AreInStep self.new (value_given (counted_of self.new)) }
         ensures variables { self.new.variables ≡ self.old.variables }
         ensures counted { counted_of self.new ≡ take self.new.used (map (λ e. e.lit) trail.now.entries) }
-        ensures ok { OnOk result (IsPut slot (Some c.whole) (wholes self.old.slots.items) (wholes self.new.slots.items)) }
-        ensures err { OnErr result (attached_in self.new ≡ attached_in self.old) }
+        ensures no_fewer { self.old.used ≤ self.new.used }
+        ensures ok { OnOk result (IsPut slot (Some c) self.old.slots.items self.new.slots.items) }
+        ensures err { OnErr result (attached_from 0 self.new.slots.items ≡ attached_from 0 self.old.slots.items) }
         ensures err_counted { OnErr result (counted_of self.new ≡ counted_of self.old) }
     {
         self.make_slots(slot + 1)?;
         let before = self.used;
         self.count_all(trail);
-        let _found = c.watch(trail);
-        if self.put(slot, c, trail) {
-            self.waiting.add(slot);
-            return Ok(());
+        match self.fill(slot, c, trail) {
+            Ok(()) => Ok(()),
+            Err(e) => {
+                self.uncount_to(before);
+                Err(e)
+            }
         }
-        let _out = self.take_out(slot);
-        self.uncount_to(before);
-        Err(AllocError)
     }
 
     /// Takes out what stands in a slot.
@@ -400,19 +442,26 @@ impl Counters {
         ensures lits { self.new.lits ≡ self.old.lits }
         ensures used { self.new.used ≡ self.old.used }
         ensures variables { self.new.variables ≡ self.old.variables }
-        ensures slots { IsPut slot None (wholes self.old.slots.items) (wholes self.new.slots.items) }
+        ensures slots { IsPut slot None self.old.slots.items self.new.slots.items }
         ensures same_length { length self.new.slots.items ≡ length self.old.slots.items }
     {
         if slot >= self.slots.len() {
             return;
         }
-        let _out = self.take_out(slot);
+        match &self.slots[slot] {
+            None => {}
+            Some(c) => {
+                remove_all(&mut self.occurrences, c.terms(), slot);
+                self.rooms[slot] = 0;
+                self.slots[slot] = None;
+            }
+        }
     }
 
     /// Empties a slot, and leaves its occurrences.
     fn clear(&mut self, slot: usize)
         requires rooms { length self.old.slots.items ≤ length self.old.rooms.items }
-        ensures slots { IsPut slot None (wholes self.old.slots.items) (wholes self.new.slots.items) }
+        ensures slots { IsPut slot None self.old.slots.items self.new.slots.items }
         ensures cleared { AreCleared self.old.slots.items self.new.slots.items self.old.rooms.items self.new.rooms.items }
         ensures same { self.new ≡ record self.old { slots = self.new.slots; rooms = self.new.rooms } }
     {
@@ -425,7 +474,7 @@ impl Counters {
     /// Empties the slots of ids, and leaves their occurrences.
     fn clear_each(&mut self, dropped: &[ConId])
         requires rooms { length self.old.slots.items ≤ length self.old.rooms.items }
-        ensures attached { Drops dropped.now (attached_in self.old) (attached_in self.new) }
+        ensures attached { Drops dropped.now (attached_from 0 self.old.slots.items) (attached_from 0 self.new.slots.items) }
         ensures cleared { AreCleared self.old.slots.items self.new.slots.items self.old.rooms.items self.new.rooms.items }
         ensures same { self.new ≡ record self.old { slots = self.new.slots; rooms = self.new.rooms } }
     {
@@ -443,7 +492,7 @@ impl Counters {
         ensures lits { self.new.lits ≡ self.old.lits }
         ensures used { self.new.used ≡ self.old.used }
         ensures variables { self.new.variables ≡ self.old.variables }
-        ensures attached { Drops dropped.now (attached_in self.old) (attached_in self.new) }
+        ensures attached { Drops dropped.now (attached_from 0 self.old.slots.items) (attached_from 0 self.new.slots.items) }
     {
         self.clear_each(dropped);
         self.occurrences.keep_filled(&self.slots);
@@ -462,10 +511,10 @@ impl Counters {
         ensures used { self.new.used ≡ self.old.used }
         ensures variables { self.new.variables ≡ self.old.variables }
         ensures same_length { length self.new.slots.items ≡ length self.old.slots.items }
-        ensures moved { IsMovedSlot from to (wholes self.old.slots.items) (wholes self.new.slots.items) }
+        ensures moved { IsMovedSlot from to self.old.slots.items self.new.slots.items }
     {
         if let Some(c) = self.slots[from].take() {
-            rename_all(&mut self.occurrences, c.watched(), from, to);
+            rename_all(&mut self.occurrences, c.terms(), from, to);
             self.rooms[to] = self.rooms[from];
             self.rooms[from] = 0;
             self.limits[to] = self.limits[from];
@@ -479,14 +528,14 @@ impl Counters {
         requires built { AreBuilt self.old }
         requires step { AreInStep self.old (value_given (counted_of self.old)) }
         requires here { slot < length self.old.slots.items }
-        requires free { (d : ConId) → new_id moves.now (record { 0 = slot }) ≡ Some d → d ≢ record { 0 = slot } → slice_index_or (wholes self.old.slots.items) d.0 None ≡ None }
+        requires free { (d : ConId) → new_id moves.now (record { 0 = slot }) ≡ Some d → d ≢ record { 0 = slot } → slice_index_or self.old.slots.items d.0 None ≡ None }
         ensures built { AreBuilt self.new }
         ensures step { AreInStep self.new (value_given (counted_of self.new)) }
         ensures lits { self.new.lits ≡ self.old.lits }
         ensures used { self.new.used ≡ self.old.used }
         ensures variables { self.new.variables ≡ self.old.variables }
         ensures same_length { length self.new.slots.items ≡ length self.old.slots.items }
-        ensures moved { IsOneMoved (new_id moves.now) (record { 0 = slot }) (wholes self.old.slots.items) (wholes self.new.slots.items) }
+        ensures moved { IsOneMoved (new_id moves.now) (record { 0 = slot }) self.old.slots.items self.new.slots.items }
     {
         match moves.of(ConId(slot as u64)) {
             None => self.empty(slot),
@@ -507,7 +556,7 @@ impl Counters {
         ensures lits { self.new.lits ≡ self.old.lits }
         ensures used { self.new.used ≡ self.old.used }
         ensures variables { self.new.variables ≡ self.old.variables }
-        ensures moved { AreMoved (new_id moves.now) (length self.old.slots.items) (wholes self.old.slots.items) (wholes self.new.slots.items) }
+        ensures moved { AreMoved (new_id moves.now) (length self.old.slots.items) self.old.slots.items self.new.slots.items }
     {
         // No two ids go to one, and none goes up, as is said at each look-up.
         let _first = moves.of(ConId(0));

@@ -1,7 +1,6 @@
 //! The occurrences of a whole constraint: put in, taken out and renamed. And lists that get longer.
-ghost use Rattle.std.specs.Prelude.{◌≡◌, ◌<◌, ◌≤◌, ◌⊎◌, ℕ, [], All, take, length, slice_index_or, unwrap_or, true, None, OnOk, OnErr};
-ghost use Rattle.propagate.specs.Counters.{literal_number, weight_at, weight_of, occurrences_of, Added, Removed, Renamed, nothing, attached_from};
-ghost use Rattle.propagate.specs.Ranked.{part_in, part_of, IsRanked, wholes};
+ghost use Rattle.std.specs.Prelude.{◌≡◌, ◌<◌, ◌≤◌, ◌⊎◌, ℕ, [], All, take, length, slice_index_or, None, OnOk, OnErr};
+ghost use Rattle.propagate.specs.Counters.{literal_number, weight_at, weight_of, occurrences_of, Added, Removed, Renamed, attached_from};
 
 use super::occurrences::{Occurrence, Occurrences};
 use super::ranked::Ranked;
@@ -16,18 +15,6 @@ pub fn remove_all(lists: &mut Occurrences, terms: &[Term], slot: usize)
 {
     for t in terms {
         lists.remove(t.lit, slot);
-    }
-}
-
-/// Takes out the occurrences of a slot, which are those of what is watched of what stood there.
-pub fn remove_watched(lists: &mut Occurrences, out: &Option<Ranked>, slot: usize)
-    requires in_range { All (λ t. literal_number t.lit < length lists.old) (unwrap_or (part_in out.now) nothing).terms }
-    requires few { (k : ℕ) → weight_at slot (occurrences_of lists.old k) ≤ weight_of k (unwrap_or (part_in out.now) nothing).terms }
-    ensures { Removed slot [] lists.old lists.new }
-{
-    match out {
-        None => {}
-        Some(c) => remove_all(lists, c.watched(), slot),
     }
 }
 
@@ -63,7 +50,7 @@ pub fn grow_zeros(numbers: &mut Vec<u64>, count: usize) -> Result<(), AllocError
 /// Makes a list of slots at least so long, by empty ones.
 pub fn grow_empty(slots: &mut Vec<Option<Ranked>>, count: usize) -> Result<(), AllocError>
     ensures same { (i : ℕ) → slice_index_or slots.new.items i None ≡ slice_index_or slots.old.items i None }
-    ensures attached { attached_from 0 (wholes slots.new.items) ≡ attached_from 0 (wholes slots.old.items) }
+    ensures attached { attached_from 0 slots.new.items ≡ attached_from 0 slots.old.items }
     ensures longer { length slots.old.items ≤ length slots.new.items }
     ensures bounded { (length slots.new.items ≤ length slots.old.items) ⊎ (length slots.new.items ≤ count) }
     ensures room { OnOk result (count ≤ length slots.new.items) }
@@ -97,20 +84,4 @@ pub fn rename_all(lists: &mut Occurrences, terms: &[Term], from: usize, to: usiz
     for t in terms {
         lists.rename(t.lit, from, to);
     }
-}
-
-/// Puts in the occurrences of what is watched of a constraint for a slot, which has none, and answers whether there was
-/// memory. Where there is none, none of its terms is watched any more.
-pub fn add_watched(lists: &mut Occurrences, c: &mut Ranked, slot: usize) -> bool
-    requires in_range { IsRanked c.old → All (λ t. literal_number t.lit < length lists.old) (part_of c.old).terms }
-    requires none { (k : ℕ) → weight_at slot (occurrences_of lists.old k) ≡ 0 }
-    ensures added { Added slot (part_of c.new).terms lists.old lists.new }
-    ensures whole { c.new.whole ≡ c.old.whole }
-    ensures all { result ≡ true → c.new ≡ c.old }
-{
-    if add_all(lists, c.watched(), slot).is_ok() {
-        return true;
-    }
-    c.unwatch();
-    false
 }

@@ -7,23 +7,30 @@
 //! below zero are avoided by the room, which is that sum alone.
 //!
 //! Rooms are kept and not summed up anew: a literal that becomes false is taken off the rooms of the constraints that
-//! it occurs in, and given back where it is taken off the trail. So a run costs what was newly assigned. Of a long clause
-//! only two literals occur, those that are watched: while neither is false, or one is true, the clause has nothing to
-//! force. `counters` keeps the rooms, `occurrences` the constraints of each literal, `waiting` those that are to be looked
-//! at, `looks` looks at them, `ranked` has the terms of one of them by falling coefficient and which of them are watched,
-//! `scan` pushes what it forces, `filling` makes and takes lists, and `propagator` has the public type. Beside its answer a
-//! run changes nothing but the end of the trail, what is counted and what is watched. The trail itself stands in
-//! `trail_state`, the constraints that are attached in `constraint_store`, and what follows a conflict in
-//! `conflict_graph`.
+//! it occurs in, and given back where it is taken off the trail. So a run costs what was newly assigned. `counters`
+//! keeps the rooms, `occurrences` the constraints of each literal, `waiting` those that are to be looked at, `ranked`
+//! the terms of one of them by falling coefficient, `scan` pushes what it forces, and `filling` makes and takes lists.
+//!
+//! Of a clause of some length two literals are watched instead (`watched`): `watches` keeps these clauses, `lists` those
+//! that watch each literal, `visits` looks at those of a literal that became false, and `plain` at all of them where
+//! there is no memory for a watch.
+//!
+//! `propagator` has the public type, over both. Beside its answer a run changes nothing but the end of the trail and what
+//! is counted and watched. The trail itself stands in `trail_state`, the constraints that are attached in
+//! `constraint_store`, and what follows a conflict in `conflict_graph`.
 #![tactic(auto)]
 
 mod counters;
 mod filling;
-mod looks;
+mod lists;
 mod occurrences;
+mod plain;
 mod propagator;
 mod ranked;
 mod scan;
+mod visits;
 mod waiting;
+mod watched;
+mod watches;
 
 pub use propagator::Propagator;

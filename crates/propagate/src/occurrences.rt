@@ -3,7 +3,6 @@
 //! The lists stand by the literals' numbers, two for each variable.
 ghost use Rattle.std.specs.Prelude.{◌≡◌, ◌<◌, ◌≤◌, ℕ, ◌++◌, [], ◌∷◌, not, ◌==◌, filter, map, length, slice_set, vec_items, OnOk, OnErr};
 ghost use Rattle.propagate.specs.Counters.{literal_number, occurrences_of, moved_to, is_filled};
-ghost use Rattle.propagate.specs.Ranked.{parts};
 
 use super::ranked::{Ranked, is_filled};
 use pb_constraints::Lit;
@@ -33,7 +32,7 @@ impl Model for Occurrences {
 }
 
 /// The number of a literal.
-fn number_of(lit: Lit) -> usize
+pub fn number_of(lit: Lit) -> usize
     ensures { result ≡ literal_number lit }
 {
     let twice = 2 * lit.var() as usize;
@@ -99,7 +98,7 @@ impl Occurrences {
 
     /// Takes out those of empty slots, by one pass over all lists.
     pub fn keep_filled(&mut self, slots: &[Option<Ranked>])
-        ensures { self.new ≡ map (filter (is_filled (parts slots.now))) self.old }
+        ensures { self.new ≡ map (filter (is_filled slots.now)) self.old }
     {
         keep_each(&mut self.lists, slots);
     }
@@ -118,14 +117,14 @@ fn rename_in(list: &mut [Occurrence], from: usize, to: usize)
 
 /// Takes out the occurrences of empty slots.
 fn keep_in(list: &mut Vec<Occurrence>, slots: &[Option<Ranked>])
-    ensures { list.new.items ≡ filter (is_filled (parts slots.now)) list.old.items }
+    ensures { list.new.items ≡ filter (is_filled slots.now) list.old.items }
 {
     list.retain(|one| is_filled(slots, one.slot));
 }
 
 /// Takes them out of each list.
 fn keep_each(lists: &mut [Vec<Occurrence>], slots: &[Option<Ranked>])
-    ensures { map vec_items lists.new ≡ map (filter (is_filled (parts slots.now))) (map vec_items lists.old) }
+    ensures { map vec_items lists.new ≡ map (filter (is_filled slots.now)) (map vec_items lists.old) }
 {
     for list in lists.iter_mut() {
         keep_in(list, slots);

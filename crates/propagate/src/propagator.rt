@@ -2,7 +2,8 @@
 //!
 //! It keeps a copy of each attached constraint, so that it stays the same whatever the store does. Its counted
 //! literals are those of the trail that its rooms take into account: all of them after a run, and a first part of
-//! them once more were pushed. The work is done by `counters`, which knows slots and not ids.
+//! them once more were pushed. A clause of some length is watched, and any other constraint counted. The work is done by
+//! `counters` and `watches`, which know slots and not ids.
 ghost use Rattle.std.specs.Prelude.{◌≡◌, ◌+◌, [], IfOk, OnOk, OnErr, IfSome, IfNone, IsTrue, Some, None};
 ghost use Rattle.pb_rules.specs.Linear.{VarsBelow};
 ghost use Rattle.constraint_store.specs.Live.{is_live, constraint_of, new_id};
@@ -12,6 +13,8 @@ ghost use Rattle.propagate.specs.Forced.{Appends, IsConflict, AllClosed};
 
 use super::counters::Counters;
 use super::ranked::Ranked;
+use super::watched::Watched;
+use super::watches::Watches;
 use constraint_store::{Moves, Store};
 use pb_constraints::{ConId, Constraint};
 use std::alloc::{AllocError, Global};
@@ -28,17 +31,18 @@ const SLOTS_FOR_ONE: usize = 64;
 #[derive(Drop, Debug)]
 pub struct Propagator {
     counters: Counters,
+    watches: Watches,
 }
 
 impl Model for Propagator {
-    ghost use Rattle.propagate.specs.Counters.{attached_in, counted_of};
-    ghost use Rattle.propagate.specs.Propagator.{PropagatorView, IsPropagator};
+    ghost use Rattle.propagate.specs.Counters.{counted_of};
+    ghost use Rattle.propagate.specs.Propagator.{PropagatorView, IsPropagator, attached_in};
 
     ghost Value = { PropagatorView };
 
-    ghost view = { λ p. record { variables = p.counters.variables; attached = attached_in p.counters; counted = counted_of p.counters } };
+    ghost view = { λ p. record { variables = p.counters.variables; attached = attached_in p.counters p.watches; counted = counted_of p.counters } };
 
-    ghost invariant = { λ p. IsPropagator p.counters };
+    ghost invariant = { λ p. IsPropagator p.counters p.watches };
 }
 
 impl Propagator {
@@ -51,7 +55,9 @@ impl Propagator {
         }
         let mut counters = Counters::new(alloc)?;
         counters.grow(variables)?;
-        Ok(Propagator { counters })
+        let mut watches = Watches::new(alloc);
+        watches.grow(variables)?;
+        Ok(Propagator { counters, watches })
     }
 
     /// Adds so many variables. An `Err` leaves the propagator as it was.
@@ -63,6 +69,7 @@ impl Propagator {
         if more >= VARIABLE_LIMIT - variables {
             return Err(AllocError);
         }
+        self.watches.grow(variables + more)?;
         self.counters.grow(variables + more)
     }
 
@@ -77,7 +84,7 @@ impl Propagator {
         ensures variables { self.new.variables ≡ self.old.variables }
         ensures counted { IsCounted self.new trail.now }
     {
-        if self.counters.is_filled(c.0 as usize) {
+        if self.counters.is_filled(c.0 as usize) || self.watches.is_filled(c.0 as usize) {
             return Ok(());
         }
         if c.0 == u64::MAX {
@@ -85,8 +92,13 @@ impl Propagator {
         }
         let alloc = *self.counters.slots.allocator();
         let terms = Vec::from_slice(alloc, store.terms(c))?;
-        let ranked = Ranked::new(alloc, Constraint::of_normal(terms, store.degree(c)))?;
-        self.counters.attach(c.0 as usize, ranked, trail)
+        match Watched::of(Constraint::of_normal(terms, store.degree(c)), trail) {
+            Ok(watched) => self.watches.attach(c.0 as usize, watched, trail),
+            Err(constraint) => {
+                let ranked = Ranked::new(alloc, constraint)?;
+                self.counters.attach(c.0 as usize, ranked, trail)
+            }
+        }
     }
 
     /// Takes out the constraint that is attached under an id. Where there is none, it changes nothing.
@@ -95,6 +107,7 @@ impl Propagator {
         ensures same { self.new ≡ record self.old { attached = self.new.attached } }
     {
         self.counters.empty(c.0 as usize);
+        self.watches.empty(c.0 as usize);
     }
 
     /// Takes out the constraints that are attached under these ids. Where there is none under one, that changes nothing.
@@ -106,6 +119,7 @@ impl Propagator {
             return self.detach_singly(dropped);
         }
         self.counters.empty_each(dropped);
+        self.watches.empty_each(dropped);
     }
 
     /// The same, one after another.
@@ -126,6 +140,7 @@ impl Propagator {
         // No two ids go to one, as is said at each look-up.
         let _first = moves.of(ConId(0));
         self.counters.remap(moves);
+        self.watches.remap(moves);
     }
 
     /// Pushes what the attached constraints force, each literal with the id of one that forces it there. It answers
@@ -140,9 +155,20 @@ impl Propagator {
         ensures same { self.new ≡ record self.old { counted = self.new.counted } }
         ensures counted { IsCounted self.new trail.new }
     {
-        match self.counters.close(trail) {
-            None => None,
-            Some(slot) => Some(ConId(slot as u64)),
+        let mut visited = self.watches.last_closed();
+        'closing: loop {
+            if let Some(slot) = self.counters.close(trail) {
+                return Some(ConId(slot as u64));
+            }
+            let before = trail.literals().len();
+            if let Some(slot) = self.watches.close(&mut visited, trail) {
+                return Some(ConId(slot as u64));
+            }
+            let _assigned = trail.assigned();
+            if trail.literals().len() == before {
+                self.watches.close_at(visited, before);
+                return None;
+            }
         }
     }
 
@@ -154,5 +180,6 @@ impl Propagator {
     {
         let kept = self.counters.used.min(trail.literals().len());
         self.counters.uncount_to(kept);
+        self.watches.forget_beyond(kept);
     }
 }

@@ -2,7 +2,7 @@
 //!
 //! A room is summed up only where a constraint is attached. From then on `counters` keeps it, and looks at a
 //! constraint only where its room says that it may force something.
-ghost use Rattle.std.specs.Prelude.{◌≡◌, ◌≢◌, ◌<◌, ◌≤◌, ◌^◌, ◌++◌, [], ◌∷◌, if◌then◌else◌, All, length, true, false, Some, None};
+ghost use Rattle.std.specs.Prelude.{◌≡◌, ◌<◌, ◌≤◌, ◌^◌, ◌++◌, [], ◌∷◌, length, take, true, false, Some, None};
 ghost use Rattle.pb_rules.specs.Linear.{VarsBelow, total};
 ghost use Rattle.pb_rules.specs.Partial.{open_weight, is_false};
 ghost use Rattle.trail_state.specs.Trail.{Entry, value_in};
@@ -20,6 +20,26 @@ pub fn is_false(trail: &Trail, lit: Lit) -> bool
     match trail.value(lit.var()) {
         None => false,
         Some(value) => value != lit.is_yes(),
+    }
+}
+
+/// Whether a literal is false under so many of the trail's first literals.
+pub fn is_false_before(trail: &Trail, lit: Lit, count: usize) -> bool
+    ensures { result ≡ is_false (value_in (take count trail.now.entries)) lit }
+{
+    match trail.value_before(lit.var(), count) {
+        None => false,
+        Some(value) => value != lit.is_yes(),
+    }
+}
+
+/// Whether a literal is true on the trail.
+pub fn is_true(trail: &Trail, lit: Lit) -> bool
+    ensures { result ≡ true → value_in trail.now.entries lit.var ≡ Some lit.yes }
+{
+    match trail.value(lit.var()) {
+        None => false,
+        Some(value) => value == lit.is_yes(),
     }
 }
 
@@ -55,45 +75,20 @@ fn push_if_forced(t: Term, slack: u64, id: ConId, trail: &mut Trail) -> bool
     false
 }
 
-/// Whether all literals of terms have a value.
-pub fn none_free(terms: &[Term], trail: &Trail) -> bool
-    ensures { result ≡ true → All (λ t. value_in trail.now.entries t.lit.var ≢ None) terms.now }
-{
-    for t in terms {
-        if trail.value(t.lit.var()).is_none() {
-            return false;
-        }
-    }
-    true
-}
-
-/// The coefficient of a term whose literal isn't false, and 0 where it is.
-fn open_coef(t: Term, trail: &Trail) -> u64
-    ensures { result ≡ (if is_false (value_in trail.now.entries) t.lit then 0 else t.coef) }
-{
-    if is_false(trail, t.lit) { 0 } else { t.coef }
-}
-
-/// Pushes the literals that a constraint of this room forces. It ends where no coefficient is greater than the slack, and
-/// where all terms that are left are false: of a clause it reads no more than to the literal that isn't.
+/// Pushes the literals that a constraint of this room forces. It ends where no coefficient is greater than the slack.
 pub fn push_forced(c: &Ranked, id: ConId, room: u64, trail: &mut Trail)
-    requires in_range { VarsBelow trail.old.variables c.now.whole.terms }
-    requires room { room ≡ open_weight (value_in trail.old.entries) c.now.whole.terms }
-    requires no_conflict { c.now.whole.degree ≤ room }
+    requires in_range { VarsBelow trail.old.variables c.now.terms }
+    requires room { room ≡ open_weight (value_in trail.old.entries) c.now.terms }
+    requires no_conflict { c.now.degree ≤ room }
     ensures variables { trail.new.variables ≡ trail.old.variables }
-    ensures appends { Appends (record { id = id; constraint = c.now.whole } ∷ []) trail.old.entries trail.new.entries }
-    ensures quiet { IsQuiet room (value_in trail.new.entries) c.now.whole }
+    ensures appends { Appends (record { id = id; constraint = c.now } ∷ []) trail.old.entries trail.new.entries }
+    ensures quiet { IsQuiet room (value_in trail.new.entries) c.now }
 {
     let slack = room - c.degree();
-    let mut left = room;
     for t in c.by_falling() {
-        if left == 0 {
-            return;
-        }
         if t.coef <= slack {
             return;
         }
-        left -= open_coef(*t, trail);
         let _pushed = push_if_forced(*t, slack, id, trail);
     }
 }

@@ -1,6 +1,5 @@
 use Rattle.std.proofs.Common.{◌≡◌, length, map, filter, vec_items, arith}
 use Rattle.std.proofs.lemmas.List.{length-map}
-use Rattle.propagate.specs.Ranked.{parts}
 use Rattle.propagate.specs.Counters.{is_filled}
 use Rattle.propagate.proofs.Emptying.{through_more}
 use Rattle.propagate.proofs.occurrences.keep_each.Goals as goal
@@ -13,4 +12,4 @@ loop-list-preserved c =
     let test = c.loop-list-test.true in
     let len = length-map c.args.lists.now vec_items in
     let same : length now ≡ length old = omega (arith, len, c.loop-list.auto.lists) in
-    through_more now vec_items (filter (is_filled (parts c.args.slots.now))) old i c.list-item.result c.keep_in.new.list (omega arith) same c.list-item.is c.keep_in.ensures c.loop-list.invariant
+    through_more now vec_items (filter (is_filled c.args.slots.now)) old i c.list-item.result c.keep_in.new.list (omega arith) same c.list-item.is c.keep_in.ensures c.loop-list.invariant

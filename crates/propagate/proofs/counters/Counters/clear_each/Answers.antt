@@ -2,8 +2,7 @@ use Rattle.std.proofs.Common.{◌≡◌, ◌∙◌, get_or, ap}
 use Rattle.std.proofs.lemmas.List.{get_or_default}
 use Rattle.pb_constraints.specs.declared.ConId.{ConId}
 use Rattle.propagate.specs.declared.counters.Counters.{Counters}
-use Rattle.propagate.specs.Ranked.{wholes}
-use Rattle.propagate.specs.Counters.{attached_in}
+use Rattle.propagate.specs.Counters.{attached_from}
 use Rattle.propagate.proofs.Attaching.{empty}
 use Rattle.propagate.proofs.Attachments.{changes_put}
 use Rattle.propagate.proofs.Dropping.{drops_more}
@@ -25,7 +24,7 @@ loop-c-preserved c =
     let e = c.clear.ensures in
     let id = get_or ids k none in
     let own : id ≡ get_or ids k id = get_or_default ids k none id h in
-    let put = changes_put (wholes m.slots.items) (wholes n.slots.items) id empty e.slots in
+    let put = changes_put m.slots.items n.slots.items id empty e.slots in
     let with_slots : Counters → Counters = λ v. record {
       variables = v.variables;
       slots = n.slots;
@@ -33,11 +32,12 @@ loop-c-preserved c =
       limits = v.limits;
       occurrences = v.occurrences;
       lits = v.lits;
-      used = v.used;
+      used =
+          v.used;
       waiting = v.waiting;
     } in
     record {
-      attached = drops_more ids k id (attached_in s) (attached_in m) (attached_in n) h own p.attached put;
+      attached = drops_more ids k id (attached_from 0 s.slots.items) (attached_from 0 m.slots.items) (attached_from 0 n.slots.items) h own p.attached put;
       cleared = cleared_more s.slots.items m.slots.items n.slots.items s.rooms.items m.rooms.items n.rooms.items p.cleared e.cleared;
       same = e.same ∙ ap with_slots p.same;
     }

@@ -1,0 +1,6 @@
+use Rattle.std.proofs.Common.{◌≡◌, ◌++◌, map, take, drop, filter, vec_items}
+use Rattle.propagate.specs.Watches.{is_named_held}
+use Rattle.propagate.proofs.lists.keep_each.Given as goal
+
+abbrev pub invariant-loop-list : goal.invariant-loop-list
+invariant-loop-list l = map vec_items l.lists ≡ map (filter (is_named_held l.slots)) (take l.list-index (map vec_items l.fn.lists)) ++ drop l.list-index (map vec_items l.fn.lists)
